@@ -1,0 +1,54 @@
+-- How two numbers compare, with what that says.
+use mathlib.Core.Path.{_≡_, refl, ap}
+use mathlib.Core.Logic.{_≢_}
+use Prim.Native.Nat.{ℕ, zero, suc, _<_, suc-le-suc, compare, Ordering, Ordering·lt, Ordering·eq, Ordering·gt, compare·zero-zero, compare·zero-suc, compare·suc-zero, compare·suc-suc}
+use native.Mathlib.Omega.{arith}
+
+pub data Tri (n m : ℕ) : Ordering → Type 0 where
+  less : n < m → Tri n m Ordering·lt
+  same : n ≡ m → Tri n m Ordering·eq
+  more : m < n → Tri n m Ordering·gt
+
+tri-suc : {n m : ℕ} {o : Ordering} → Tri n m o → Tri (suc n) (suc m) o
+tri-suc (less h) = less (suc-le-suc h)
+tri-suc (same e) = same (ap suc e)
+tri-suc (more h) = more (suc-le-suc h)
+
+pub tri : (n m : ℕ) → Tri n m (compare n m)
+tri zero zero = rw compare·zero-zero (same refl)
+tri zero (suc m) = rw compare·zero-suc (less (omega arith))
+tri (suc n) zero = rw compare·suc-zero (more (omega arith))
+tri (suc n) (suc m) = rw compare·suc-suc (tri-suc (tri n m))
+
+pub tri-less : {n m : ℕ} → n < m → compare n m ≡ Ordering·lt
+tri-less {n} {m} h = go (compare n m) (tri n m)
+  where
+    go : (o : Ordering) → Tri n m o → o ≡ Ordering·lt
+    go o (less k) = refl
+    go o (same k) = absurd (omega arith)
+    go o (more k) = absurd (omega arith)
+
+pub tri-more : {n m : ℕ} → m < n → compare n m ≡ Ordering·gt
+tri-more {n} {m} h = go (compare n m) (tri n m)
+  where
+    go : (o : Ordering) → Tri n m o → o ≡ Ordering·gt
+    go o (less k) = absurd (omega arith)
+    go o (same k) = absurd (omega arith)
+    go o (more k) = refl
+
+pub tri-same : (n : ℕ) → compare n n ≡ Ordering·eq
+tri-same n = go (compare n n) (tri n n)
+  where
+    go : (o : Ordering) → Tri n n o → o ≡ Ordering·eq
+    go o (less k) = absurd (omega arith)
+    go o (same k) = refl
+    go o (more k) = absurd (omega arith)
+
+-- Two cases: equal or not.
+pub same-or : (k n : ℕ) {C : Type 0} → (k ≡ n → C) → (k ≢ n → C) → C
+same-or k n {C} f g = go (compare k n) (tri k n)
+  where
+    go : (o : Ordering) → Tri k n o → C
+    go o (less h) = g (omega arith)
+    go o (same e) = f e
+    go o (more h) = g (omega arith)

@@ -1,0 +1,32 @@
+-- "Attributes a caller may set: bits 1, 11 permanent, 12 write protected, 13 entry only, 15 extendable".
+use mathlib.Core.Bool.{Bool, true, false, not, _&&_}
+use Prim.Native.Nat.{ℕ, _+_, _<_}
+use lib.Dec.{eqb, ltb}
+use Rattle.disc.specs.Numbers.{bit, bitWord}
+
+abbrev pub permanent : ℕ → Bool
+permanent a = bit 11 a
+
+abbrev pub writeProtected : ℕ → Bool
+writeProtected a = bit 12 a
+
+abbrev pub entryOnly : ℕ → Bool
+entryOnly a = bit 13 a
+
+abbrev pub extendable : ℕ → Bool
+extendable a = bit 15 a
+
+-- A word where a test holds, else 0.
+abbrev pub wordIf : Bool → ℕ → ℕ
+wordIf true w = w
+wordIf false w = 0
+
+-- The five bits alone, and "not 13 with 15".
+abbrev pub legalAttributes : ℕ → Bool
+legalAttributes a =
+    eqb a (wordIf (bit 1 a) (bitWord 1) + wordIf (bit 11 a) (bitWord 11) + wordIf (bit 12 a) (bitWord 12) + wordIf (bit 13 a) (bitWord 13) + wordIf (bit 15 a) (bitWord 15))
+    && not (entryOnly a && extendable a)
+
+-- "13 only with no slices", judged on the number of slices after the message.
+abbrev pub legalWith : ℕ → ℕ → Bool
+legalWith a slices = not (entryOnly a && ltb 0 slices)

@@ -1,0 +1,9 @@
+pub mod Numbers
+pub mod Words
+pub mod Names
+pub mod Attributes
+pub mod Slices
+pub mod Stretches
+pub mod Kit
+pub mod Map
+pub mod Entries

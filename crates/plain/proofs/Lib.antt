@@ -1,0 +1,3 @@
+pub mod TableLaws
+pub mod QuestionLaws
+pub mod UnitLaws

@@ -1,0 +1,124 @@
+-- Laws of a plain unit's parts: entries by name, the slices of all files, and the legal names.
+use mathlib.Core.Path.{_≡_, refl, sym, ap, _∙_}
+use mathlib.Core.Bool.{Bool, true, false, not, _&&_, _||_}
+use mathlib.Core.List.{List, [], _∷_, _++_}
+use mathlib.Core.Logic.{_≢_}
+use mathlib.Core.Option.{Option, none, some}
+use Prim.Native.Nat.{ℕ, zero, suc, _+_, _/_, _≤_, _<_, compare, Ordering}
+use native.Mathlib.Omega.{arith}
+use lib.Dec.{T, leb, eqb, leb→le, eqb→eq, eqb-refl}
+use Rattle.disc.specs.Names.{SYS, MAP, isSystem, legalName, letter}
+use Rattle.disc.specs.Slices.{occurrences}
+use Rattle.disc.specs.Entries.{sysEntry, mapEntry}
+use Rattle.disc.proofs.Compare.{Tri, less, same, more, tri, same-or}
+use Rattle.disc.proofs.SliceLaws.{occurrences-append}
+use Rattle.plain.specs.Table.{Row, Table, findBy, tableFind, tablePut, tableMap, total, isSome, SortedFrom}
+use Rattle.plain.specs.Unit.{Plain, File, AreaUser, slicesOf, held, fileEntry, entries, entry}
+use Rattle.plain.specs.Good.{Good}
+use Rattle.plain.proofs.TableLaws.{some≢none, some-inj, find-put, find-put-other}
+use Rattle.plain.proofs.QuestionLaws.{and-left, not-some, is-some}
+
+-- ---- names
+
+pub legal-positive : (n : ℕ) → T (legalName n) → 0 < n
+legal-positive n t =
+    let c : ℕ = n / 0x10000000000 in
+    let first : T (letter c) = and-left (letter c) _ (and-left (letter c && _) _ t) in
+    omega (arith, leb→le 65 c (and-left (leb 65 c) (leb c 90) first))
+
+-- ---- entries
+
+abbrev pub mapSome : {A B : Type 0} → (A → B) → Option A → Option B
+mapSome f none = none
+mapSome f (some a) = some (f a)
+
+pub find-map : {A B : Type 0} (f : ℕ → A → B) (n : ℕ) (t : Table A) → tableFind n (tableMap f t) ≡ mapSome (f n) (tableFind n t)
+find-map f n [] = refl
+find-map {A} {B} f n (r ∷ t) = go (compare n (r .key)) (tri n (r .key)) (find-map f n t)
+  where
+    go : (o : Ordering) → Tri n (r .key) o → tableFind n (tableMap f t) ≡ mapSome (f n) (tableFind n t)
+        → findBy o (f (r .key) (r .val)) (tableFind n (tableMap f t)) ≡ mapSome (f n) (findBy o (r .val) (tableFind n t))
+    go o (less h) ih = refl
+    go o (same e) ih = ap (λ (k : ℕ). some (f k (r .val))) (sym e)
+    go o (more h) ih = ih
+
+abbrev fileEntries : Plain → Table (List ℕ)
+fileEntries p = tableMap (fileEntry (p .F) (p .s)) (p .files)
+
+abbrev withMap : Plain → Table (List ℕ)
+withMap p = tablePut MAP mapEntry (fileEntries p)
+
+pub entry-sys : (p : Plain) → entry p SYS ≡ some (sysEntry (p .H) (p .s) (p .layers) (p .sys))
+unfolding entry
+entry-sys p = find-put SYS (sysEntry (p .H) (p .s) (p .layers) (p .sys)) (withMap p)
+
+pub entry-map : (p : Plain) → entry p MAP ≡ some mapEntry
+unfolding entry
+entry-map p =
+    find-put-other MAP SYS (sysEntry (p .H) (p .s) (p .layers) (p .sys)) (withMap p) (omega arith) ∙ find-put MAP mapEntry (fileEntries p)
+
+pub entry-other : (p : Plain) (n : ℕ) → n ≢ SYS → n ≢ MAP → entry p n ≡ mapSome (fileEntry (p .F) (p .s) n) (tableFind n (p .files))
+unfolding entry
+entry-other p n a b =
+    find-put-other n SYS (sysEntry (p .H) (p .s) (p .layers) (p .sys)) (withMap p) a ∙ find-put-other n MAP mapEntry (fileEntries p) b
+    ∙ find-map (fileEntry (p .F) (p .s)) n (p .files)
+
+pub not-system : (n : ℕ) → T (not (isSystem n)) → (n ≢ SYS) × (n ≢ MAP)
+not-system n t = ((λ e. go (eqb n SYS) (eqb n MAP) (rw e (eqb-refl SYS)) t), (λ e. go₂ (eqb n SYS) (eqb n MAP) (rw e (eqb-refl MAP)) t))
+  where
+    go : (a b : Bool) → T a → T (not (a || b)) → ⊥
+    go true b h u = u
+    go false b h u = h
+
+    go₂ : (a b : Bool) → T b → T (not (a || b)) → ⊥
+    go₂ true b h u = u
+    go₂ false true h u = u
+    go₂ false false h u = h
+
+-- a name is SYS, MAP or neither
+pub system-cases : (n : ℕ) {C : Type 0} → (n ≡ SYS → C) → (n ≡ MAP → C) → (n ≢ SYS → n ≢ MAP → C) → C
+system-cases n f g h = same-or n SYS f (λ a. same-or n MAP g (λ b. h a b))
+
+-- a name with no entry is no file, and none of SYS and MAP
+pub entry-none : (p : Plain) (n : ℕ) → T (not (isSome (entry p n))) → (tableFind n (p .files) ≡ none) × (n ≢ SYS) × (n ≢ MAP)
+entry-none p n t =
+    let e : entry p n ≡ none = not-some (entry p n) t in
+    let a : n ≢ SYS = λ q. some≢none (sym (entry-sys p) ∙ ap (entry p) (sym q) ∙ e) in
+    let b : n ≢ MAP = λ q. some≢none (sym (entry-map p) ∙ ap (entry p) (sym q) ∙ e) in
+    (go (tableFind n (p .files)) (sym (entry-other p n a b) ∙ e), a, b)
+  where
+    go : (o : Option File) → mapSome (fileEntry (p .F) (p .s) n) o ≡ none → o ≡ none
+    go none h = refl
+    go (some f) h = absurd (some≢none h)
+
+-- a name that is entered, and none of SYS and MAP, is a file's
+pub entry-file : (p : Plain) (n : ℕ) → T (isSome (entry p n)) → T (not (isSystem n)) → (f : File) × (tableFind n (p .files) ≡ some f)
+entry-file p n t u =
+    let d = not-system n u in
+    let e = is-some (entry p n) t in
+    go (tableFind n (p .files)) refl (sym (entry-other p n (d .0) (d .1)) ∙ e .1)
+  where
+    go : {e : List ℕ} (o : Option File) → tableFind n (p .files) ≡ o → mapSome (fileEntry (p .F) (p .s) n) o ≡ some e → (f : File) × (tableFind n (p .files) ≡ some f)
+    go none h z = absurd (some≢none (sym z))
+    go (some f) h z = (f, h)
+
+-- a name that is no file has no area
+pub no-area : (p : Plain) (n : ℕ) → Good p → tableFind n (p .files) ≡ none → tableFind n (p .areas) ≡ none
+no-area p n g e = go (tableFind n (p .areas)) refl
+  where
+    go : (o : Option (Table AreaUser)) → tableFind n (p .areas) ≡ o → o ≡ none
+    go none h = refl
+    go (some us) h = absurd (some≢none (sym (g .areas n us h .entered) ∙ e))
+
+-- ---- slices of a table
+
+-- how often slice k stands in a row's file
+abbrev pub holds : ℕ → Row File → ℕ
+holds k r = occurrences k (r .val .slices)
+
+pub occurrences-slices : (k : ℕ) (t : Table File) → occurrences k (slicesOf t) ≡ total (holds k) t
+occurrences-slices k [] = refl
+occurrences-slices k (r ∷ t) = omega (arith, occurrences-append k (r .val .slices) (slicesOf t), occurrences-slices k t)
+
+pub occurrences-held : (k : ℕ) (sys : List ℕ) (t : Table File) → occurrences k (sys ++ slicesOf t) ≡ occurrences k sys + total (holds k) t
+occurrences-held k sys t = omega (arith, occurrences-append k sys (slicesOf t), occurrences-slices k t)

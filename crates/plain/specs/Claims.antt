@@ -1,0 +1,66 @@
+-- What is claimed of the plain unit alone: `Good` is kept, the sum, and what a refused call leaves.
+use mathlib.Core.Path.{_≡_}
+use mathlib.Core.List.{List, [], _∷_}
+use mathlib.Core.Option.{some}
+use mathlib.Core.Logic.{_≢_, _⊎_}
+use Prim.Native.Nat.{ℕ, _+_}
+use lib.ListN.{length}
+use lib.Dec.{T}
+use Rattle.types.specs.declared.Operation.{Operation}
+use Rattle.types.specs.declared.Operation.the-variants.{Reserve, Position, Sense, Transput, Other}
+use Rattle.types.specs.declared.Message.{Message}
+use Rattle.types.specs.declared.Message.the-variants.{AreaMessage}
+use Rattle.types.specs.declared.Name.{Name}
+use Rattle.disc.specs.Words.{Words}
+use Rattle.disc.specs.Names.{named}
+use Rattle.disc.specs.Slices.{InRangeOnce}
+use Rattle.plain.specs.Table.{Table, tableFind}
+use Rattle.plain.specs.Unit.{Plain, AreaUser, M, held, freeSlices}
+use Rattle.plain.specs.Areas.{moved}
+use Rattle.plain.specs.Transput.{isRandom}
+use Rattle.plain.specs.Step.{Call, step, after}
+use Rattle.plain.specs.Questions.{Outcome}
+use Rattle.plain.specs.Good.{Good}
+
+-- The lent words of every call are words.
+abbrev pub LentWords : List Call → Type 0
+LentWords [] = Unit {0}
+LentWords (c ∷ calls) = Words (c .lent) × LentWords calls
+
+-- "The free slices and the slices that all names hold, SYS among them, add up to the unit's number of slices. No slice
+-- stands under two names, or twice under one", and each is one of 1 to M.
+pub record Adds (p : Plain) : Type 0 where
+  pub sum : freeSlices p + length (held p) ≡ M p
+  pub once : InRangeOnce (M p) (held p)
+
+-- "Position and 5, 7 move the position".
+pub data Moves : Operation → Type 0 where
+  position : {block : ℕ} → Moves (Position block)
+  random : {operation bytes block : ℕ} → T (isRandom operation) → Moves (Transput operation bytes block)
+
+-- q is p but for the position of the message's sender in the message's area.
+pub record OnlyMoved (p : Plain) (name : Name) (sender : ℕ) (q : Plain) : Type 0 where
+  pub users : Table AreaUser
+  pub user : AreaUser
+  pub isOpen : tableFind (named name) (p .areas) ≡ some users
+  pub isUser : tableFind sender users ≡ some user
+  pub to : ℕ
+  pub moves : q ≡ moved p (named name) sender users user to
+
+-- What a refused call leaves: everything, "save the sender's position where document 01 says so".
+pub data Left (p : Plain) : Message → Plain → Type 0 where
+  everything : {message : Message} → Left p message p
+  butPosition : {name : Name} {sender : ℕ} {operation : Operation} {q : Plain} → Moves operation → OnlyMoved p name sender q → Left p (AreaMessage name sender operation) q
+
+-- A refused call: lent words stay, "returned byte counts are 0", the number of entries is 0.
+pub record Refused (p : Plain) (message : Message) (lent : List ℕ) (o : Outcome) : Type 0 where
+  pub unit : Left p message (o .unit)
+  pub words : o .lent ≡ lent
+  pub bytes : o .answer .bytes ≡ 0
+  pub entries : o .answer .entries ≡ 0
+
+-- The three claims.
+pub record PlainClaims : Type 0 where
+  pub keeps : (p : Plain) (message : Message) (lent : List ℕ) → Good p → Words lent → Good (step p message lent .unit)
+  pub adds : (calls : List Call) (p : Plain) → Good p → LentWords calls → Good (after p calls) × Adds (after p calls)
+  pub refuses : (p : Plain) (message : Message) (lent : List ℕ) → step p message lent .answer .result ≢ 0 → Refused p message lent (step p message lent)

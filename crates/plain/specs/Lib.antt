@@ -1,0 +1,11 @@
+pub mod Table
+pub mod Unit
+pub mod Questions
+pub mod Taking
+pub mod Catalog
+pub mod Areas
+pub mod Transput
+pub mod Reports
+pub mod Step
+pub mod Good
+pub mod Claims

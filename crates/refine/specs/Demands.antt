@@ -1,0 +1,105 @@
+-- Demand 3 of the letter, as a type over an implementation that is given by its contract.
+use mathlib.Core.Path.{_≡_}
+use mathlib.Core.Bool.{true, false}
+use mathlib.Core.List.{List, [], _∷_}
+use Prim.Native.Nat.{ℕ, _+_, _*_, _≤_, _<_}
+use lib.ListN.{length, getD}
+use Rattle.types.specs.declared.Answer.{Answer}
+use Rattle.types.specs.declared.State.{State}
+use Rattle.types.specs.declared.Message.{Message}
+use Rattle.types.specs.declared.Message.the-variants.{Init, Set, Create, LookUp, Change, Remove, CreateArea, RemoveArea, AreaMessage, UnitDescription, Listing}
+use Rattle.types.specs.State.{areaAt}
+use Rattle.disc.specs.Slices.{InRangeOnce}
+use Rattle.disc.specs.Map.{onesInMap}
+use Rattle.plain.specs.Unit.{Plain, M, held}
+use Rattle.plain.specs.Step.{Call, Reply, after, answers}
+use Rattle.plain.specs.Good.{Good}
+use Rattle.plain.specs.Claims.{LentWords}
+use Rattle.sound.specs.Sound.{SoundUnit}
+use Rattle.refine.specs.Represents.{Represents}
+
+-- What a call leaves: image, state, answer and lent words.
+pub record Performed : Type 0 where
+  pub image : List ℕ
+  pub state : State
+  pub answer : Answer
+  pub lent : List ℕ
+
+-- An implementation, by the contract of its one call: what may come of an image, a state, a message and lent words.
+abbrev pub Contract : Type 1
+Contract = List ℕ → State → Message → List ℕ → Performed → Type 0
+
+-- "Each call gets image and state as the one before left them, and nobody else writes them meanwhile": a list of calls
+-- from the first image and state, with its replies, to the last image and state.
+pub data Run (C : Contract) : List ℕ → State → List Call → List Reply → List ℕ → State → Type 0 where
+  empty : {image : List ℕ} {state : State} → Run C image state [] [] image state
+  then : {image end : List ℕ} {state stop : State} {call : Call} {calls : List Call} {replies : List Reply} {r : Performed}
+      → C image state (call .message) (call .lent) r → Run C (r .image) (r .state) calls replies end stop
+      → Run C image state (call ∷ calls) (record { answer = r .answer; lent = r .lent } ∷ replies) end stop
+
+-- "Save the listing's order where it is left open": the first `count` groups of 16 words are the same in some order, each
+-- once (`to` and `back` are inverse to each other), and the words after them are the same.
+pub record InSomeOrder (count : ℕ) (a b : List ℕ) : Type 0 where
+  pub size : length a ≡ length b
+  pub to : ℕ → ℕ
+  pub back : ℕ → ℕ
+  pub to-inside : (t : ℕ) → t < count → to t < count
+  pub back-inside : (t : ℕ) → t < count → back t < count
+  pub to-back : (t : ℕ) → t < count → to (back t) ≡ t
+  pub back-to : (t : ℕ) → t < count → back (to t) ≡ t
+  pub same : (t w : ℕ) → t < count → w < 16 → getD a (16 * t + w) 0 ≡ getD b (16 * to t + w) 0
+  pub rest : (k : ℕ) → 16 * count ≤ k → getD a k 0 ≡ getD b k 0
+
+-- The lent words after a call: equal, but for a listing's order.
+abbrev pub SameWords : Message → ℕ → List ℕ → List ℕ → Type 0
+SameWords (Init unit) count a b = a ≡ b
+SameWords (Set name) count a b = a ≡ b
+SameWords (Create name size attributes) count a b = a ≡ b
+SameWords (LookUp name) count a b = a ≡ b
+SameWords (Change name) count a b = a ≡ b
+SameWords (Remove name) count a b = a ≡ b
+SameWords (CreateArea name) count a b = a ≡ b
+SameWords (RemoveArea name) count a b = a ≡ b
+SameWords (AreaMessage name sender operation) count a b = a ≡ b
+SameWords (UnitDescription unit bytes) count a b = a ≡ b
+SameWords (Listing unit) count a b = InSomeOrder count a b
+
+-- One reply and the plain unit's.
+pub record SameReply (message : Message) (a b : Reply) : Type 0 where
+  pub answer : a .answer ≡ b .answer
+  pub words : SameWords message (b .answer .entries) (a .lent) (b .lent)
+
+-- The replies to a list of calls and the plain unit's.
+pub data SameReplies : List Call → List Reply → List Reply → Type 0 where
+  empty : SameReplies [] [] []
+  then : {call : Call} {calls : List Call} {a b : Reply} {l m : List Reply} → SameReply (call .message) a b → SameReplies calls l m → SameReplies (call ∷ calls) (a ∷ l) (b ∷ m)
+
+-- "With no area process open, and the state that Init left on accepting it": a known unit, initialized.
+pub record AcceptedState (state : State) : Type 0 where
+  pub known : state .unit ≤ 3
+  pub initialized : state .initialized ≡ true
+  pub closed : (j : ℕ) → j < 8 → areaAt state j .live ≡ false
+
+-- What holds after a list of calls.
+pub record Demand3After (image : List ℕ) (state : State) (calls : List Call) (replies : List Reply) (end : List ℕ) (stop : State) : Type 0 where
+  -- the plain unit: "its start is read from the accepted image", which determines it
+  pub start : Plain
+  pub good : Good start
+  pub read : Represents image state start
+  pub only : (other : Plain) → Good other → Represents image state other → other ≡ start
+  -- "the free slices on the map and the slices that all names hold in the plain unit, SYS among them, add up to the
+  -- unit's number of slices"
+  pub sum : onesInMap end + length (held (after start calls)) ≡ M (after start calls)
+  -- "No slice stands under two names, or twice under one."
+  pub once : InRangeOnce (M (after start calls)) (held (after start calls))
+  -- "All answers and words handed back equal those of the plain unit for the same list"
+  pub same : SameReplies calls replies (answers start calls)
+  -- "Entries, files and open areas at the end are the plain unit's too."
+  pub represented : Represents end stop (after start calls)
+
+-- "One claim holds for every list, the empty one too": from "any image that is sound by document 01, with no area process
+-- open, and the state that Init left on accepting it just before".
+pub record Demand3 (C : Contract) : Type 0 where
+  pub holds : (image end : List ℕ) (state stop : State) (calls : List Call) (replies : List Reply)
+      → SoundUnit image state → AcceptedState state → LentWords calls → Run C image state calls replies end stop
+      → Demand3After image state calls replies end stop

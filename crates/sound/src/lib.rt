@@ -1,0 +1,1 @@
+// The rules of a sound unit. They are definitions in specs/.
