@@ -1,7 +1,7 @@
 -- How two numbers compare, with what that says.
 use mathlib.Core.Path.{_≡_, refl, ap}
 use mathlib.Core.Logic.{_≢_}
-use Prim.Native.Nat.{ℕ, zero, suc, _<_, suc-le-suc, compare, Ordering, Ordering·lt, Ordering·eq, Ordering·gt, compare·zero-zero, compare·zero-suc, compare·suc-zero, compare·suc-suc}
+use Prim.Native.Nat.{ℕ, zero, suc, _≤_, _<_, suc-le-suc, compare, Ordering, Ordering·lt, Ordering·eq, Ordering·gt, compare·zero-zero, compare·zero-suc, compare·suc-zero, compare·suc-suc}
 use native.Mathlib.Omega.{arith}
 
 pub data Tri (n m : ℕ) : Ordering → Type 0 where
@@ -51,4 +51,13 @@ same-or k n {C} f g = go (compare k n) (tri k n)
     go : (o : Ordering) → Tri k n o → C
     go o (less h) = g (omega arith)
     go o (same e) = f e
+    go o (more h) = g (omega arith)
+
+-- Two cases: below or not.
+pub below-or : (k n : ℕ) {C : Type 0} → (k < n → C) → (n ≤ k → C) → C
+below-or k n {C} f g = go (compare k n) (tri k n)
+  where
+    go : (o : Ordering) → Tri k n o → C
+    go o (less h) = f h
+    go o (same e) = g (omega arith)
     go o (more h) = g (omega arith)

@@ -1,3 +1,5 @@
 pub mod Compare
 pub mod SliceLaws
 pub mod StretchLaws
+pub mod Geometry
+pub mod NumberLaws

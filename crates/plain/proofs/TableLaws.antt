@@ -215,3 +215,13 @@ module _ {A : Type 0} where
       go o (less h) = absurd (some≢none (sym e ∙ find-below n b t ok (omega arith)))
       go o (same h) = absurd (some≢none (sym e ∙ find-below n b t ok (omega arith)))
       go o (more h) = h
+
+  -- ---- rows within a total
+
+  pub total-one : (w : Row A → ℕ) (n : ℕ) (a : A) (t : Table A) → tableFind n t ≡ some a → w (record { key = n; val = a }) ≤ total w t
+  total-one w n a t e = omega (arith, total-remove w n t, ap (weightAt w n) e)
+
+  pub total-two : (w : Row A → ℕ) (n m : ℕ) (a b : A) (t : Table A) → SortedFrom 0 t → tableFind n t ≡ some a → tableFind m t ≡ some b → m ≢ n
+      → w (record { key = n; val = a }) + w (record { key = m; val = b }) ≤ total w t
+  total-two w n m a b t ok e h d =
+      omega (arith, total-remove w n t, total-remove w m (tableRemove n t), ap (weightAt w n) e, ap (weightAt w m) (find-remove-other m n 0 t ok d ∙ h))

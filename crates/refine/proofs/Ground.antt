@@ -1,0 +1,128 @@
+-- What keeps the lists of a unit apart, less than `Good` and true half way through a call too; which sectors they read; the
+-- entries by name.
+use mathlib.Core.Path.{_≡_, refl, sym, ap, _∙_}
+use mathlib.Core.List.{List, [], _∷_, _++_}
+use mathlib.Core.Logic.{_≢_}
+use mathlib.Core.Option.{Option, none, some}
+use Prim.Native.Nat.{ℕ, zero, suc, _+_, _*_, _-_, _/_, _%_, _≤_, _<_}
+use native.Mathlib.Omega.{arith}
+use native.Mathlib.Nat.{mul-le-mul-right, div-mul-le-self, div-add-mod'}
+use lib.ListN.{length, getD, length-append}
+use Rattle.disc.specs.Numbers.{need, ceilDiv, sliceCount}
+use Rattle.disc.specs.Names.{SYS, MAP, pack, nameWords}
+use Rattle.disc.specs.Slices.{occurrences, InRangeOnce}
+use Rattle.disc.specs.Stretches.{sectorIn, sysFrom}
+use Rattle.disc.specs.Kit.{Limits}
+use Rattle.disc.specs.Entries.{placeCount, sysEntry, mapEntry, indexSector}
+use Rattle.disc.proofs.SliceLaws.{occurrences-append}
+use Rattle.disc.proofs.Geometry.{quot, in-range, data-sector, apart, within, need-cover, ceil-cover}
+use Rattle.plain.specs.Table.{Table, tableFind, SortedFrom, Every}
+use Rattle.plain.specs.Unit.{Plain, File, M, held, slicesOf, fileEntry, entry}
+use Rattle.plain.specs.Good.{Good, GoodFile}
+use Rattle.plain.proofs.TableLaws.{some≢none, some-inj, find-below, total-one, total-two}
+use Rattle.plain.proofs.UnitLaws.{holds, occurrences-slices, occurrences-held, mapSome, entry-sys, entry-map, entry-other, system-cases}
+use Rattle.refine.proofs.CatalogLaws.{Named, nameIn}
+
+pub record Ground (p : Plain) : Type 0 where
+  pub limits : Limits (p .H) (p .s) (p .F) (p .N)
+  pub once : InRangeOnce (M p) (held p)
+  pub names : SortedFrom 0 (p .files)
+  pub sysCover : p .H * p .layers ≤ length (p .sys) * p .s
+  pub cover : Every (λ n f. need (p .s) (length (f .sectors)) ≤ length (f .slices)) (p .files)
+
+pub ground : (p : Plain) → Good p → Ground p
+ground p g = record {
+  limits = g .limits;
+  once = g .once;
+  names = g .names;
+  sysCover = ceil-cover (p .s) (p .H * p .layers) (length (p .sys)) (omega (arith, g .limits .slice-low)) (omega (arith, g .sysCount));
+  cover = λ n f h. g .files n f h .covered;
+}
+
+-- ---- entries by name
+
+name-back : (n : ℕ) → pack (n / 0x100000000) (n / 65536 % 65536) (n % 65536) ≡ n
+name-back n = omega arith
+
+pub entry-named : (p : Plain) → SortedFrom 0 (p .files) → Named (entry p)
+entry-named p sorted = record {
+  name = λ n e h. system-cases n
+      (λ q. ap nameIn (some-inj (sym h ∙ ap (entry p) q ∙ entry-sys p)) ∙ sym q)
+      (λ q. ap nameIn (some-inj (sym h ∙ ap (entry p) q ∙ entry-map p)) ∙ sym q)
+      (λ a b. file n e (tableFind n (p .files)) (sym (entry-other p n a b) ∙ h));
+  zero = entry-other p 0 (omega arith) (omega arith) ∙ ap (mapSome (fileEntry (p .F) (p .s) 0)) (find-below 0 0 (p .files) sorted (omega arith));
+}
+  where
+    file : (n : ℕ) (e : List ℕ) (o : Option File) → mapSome (fileEntry (p .F) (p .s) n) o ≡ some e → nameIn e ≡ n
+    file n e none h = absurd (some≢none (sym h))
+    file n e (some f) h = ap nameIn (sym (some-inj h)) ∙ name-back n
+
+-- ---- the sectors of a unit's lists
+
+module _ (p : Plain) (g : Ground p) where
+  pub positive : 0 < p .s
+  positive = omega (arith, g .limits .slice-low)
+
+  -- the data sectors end at N
+  pub top : p .F + M p * p .s ≤ p .N
+  top = omega (arith, div-mul-le-self (p .N - p .F) (p .s), g .limits .some-data)
+
+  pub part-sys : (k : ℕ) → occurrences k (p .sys) ≤ occurrences k (held p)
+  part-sys k = omega (arith, occurrences-append k (p .sys) (slicesOf (p .files)))
+
+  pub part-file : (m : ℕ) (a : File) → tableFind m (p .files) ≡ some a → (k : ℕ) → occurrences k (a .slices) ≤ occurrences k (held p)
+  part-file m a e k = omega (arith, occurrences-held k (p .sys) (p .files), total-one (holds k) m a (p .files) e)
+
+  pub sys-in : (q : ℕ) → q < p .H * p .layers → q / p .s < length (p .sys)
+  sys-in q x = quot (p .F) (p .s) (M p) (held p) positive (g .once) q (length (p .sys)) (omega (arith, g .sysCover))
+
+  pub first-in : (l : List ℕ) → 0 < length l → 0 / p .s < length l
+  first-in l x = quot (p .F) (p .s) (M p) (held p) positive (g .once) 0 (length l) (omega (arith, mul-le-mul-right (p .s) x, positive))
+
+  pub block-in : (m : ℕ) (a : File) → tableFind m (p .files) ≡ some a → (b : ℕ) → b < length (a .sectors) → (b + 1) / p .s < length (a .slices)
+  block-in m a e b q =
+      quot (p .F) (p .s) (M p) (held p) positive (g .once) (b + 1) (length (a .slices))
+      (need-cover (p .s) (length (a .sectors)) (length (a .slices)) positive (g .cover m a e) b q)
+
+  -- every one is a data sector
+  pub sys-data : (q : ℕ) → q / p .s < length (p .sys) → (10 ≤ sectorIn (p .F) (p .s) (p .sys) q) × (sectorIn (p .F) (p .s) (p .sys) q < p .N)
+  sys-data q x =
+      let r = data-sector (p .F) (p .s) (M p) (held p) positive (g .once) (p .sys) q part-sys x in
+      (omega (arith, r .0, g .limits .first), omega (arith, r .1, top))
+
+  pub file-data : (m : ℕ) (a : File) → tableFind m (p .files) ≡ some a → (b : ℕ) → b / p .s < length (a .slices)
+      → (10 ≤ sectorIn (p .F) (p .s) (a .slices) b) × (sectorIn (p .F) (p .s) (a .slices) b < p .N)
+  file-data m a e b x =
+      let r = data-sector (p .F) (p .s) (M p) (held p) positive (g .once) (a .slices) b (part-file m a e) x in
+      (omega (arith, r .0, g .limits .first), omega (arith, r .1, top))
+
+  -- SYS, a file, another file: no sector in common
+  pub sys-file : (m : ℕ) (a : File) → tableFind m (p .files) ≡ some a → (b q : ℕ) → b / p .s < length (a .slices) → q / p .s < length (p .sys)
+      → sectorIn (p .F) (p .s) (a .slices) b ≢ sectorIn (p .F) (p .s) (p .sys) q
+  sys-file m a e b q x y =
+      apart (p .F) (p .s) (M p) (held p) positive (g .once) (a .slices) (p .sys) b q
+      (λ k. omega (arith, occurrences-held k (p .sys) (p .files), total-one (holds k) m a (p .files) e)) x y
+
+  pub file-file : (m n : ℕ) (a f : File) → m ≢ n → tableFind m (p .files) ≡ some a → tableFind n (p .files) ≡ some f → (b c : ℕ) → b / p .s < length (a .slices) → c / p .s < length (f .slices)
+      → sectorIn (p .F) (p .s) (a .slices) b ≢ sectorIn (p .F) (p .s) (f .slices) c
+  file-file m n a f d e h b c x y =
+      apart (p .F) (p .s) (M p) (held p) positive (g .once) (a .slices) (f .slices) b c
+      (λ k. omega (arith, occurrences-held k (p .sys) (p .files), total-two (holds k) n m f a (p .files) (g .names) h e d)) x y
+
+  pub in-file : (m : ℕ) (a : File) → tableFind m (p .files) ≡ some a → (b c : ℕ) → b / p .s < length (a .slices) → c / p .s < length (a .slices)
+      → sectorIn (p .F) (p .s) (a .slices) b ≡ sectorIn (p .F) (p .s) (a .slices) c → b ≡ c
+  in-file m a e b c x y = within (p .F) (p .s) (M p) (held p) positive (g .once) (a .slices) b c (part-file m a e) x y
+
+  pub in-sys : (b c : ℕ) → b / p .s < length (p .sys) → c / p .s < length (p .sys) → sectorIn (p .F) (p .s) (p .sys) b ≡ sectorIn (p .F) (p .s) (p .sys) c → b ≡ c
+  in-sys b c x y = within (p .F) (p .s) (M p) (held p) positive (g .once) (p .sys) b c part-sys x y
+
+  -- the slices of SYS and of a file are above 0
+  pub sys-slices : (j : ℕ) → j < length (p .sys) → 1 ≤ getD (p .sys) j 0
+  sys-slices j x = in-range (p .F) (p .s) (M p) (held p) positive (g .once) (p .sys) j part-sys x .0
+
+  pub file-slices : (n : ℕ) (f : File) → tableFind n (p .files) ≡ some f → (j : ℕ) → j < length (f .slices) → 1 ≤ getD (f .slices) j 0
+  file-slices n f h j x = in-range (p .F) (p .s) (M p) (held p) positive (g .once) (f .slices) j (part-file n f h) x .0
+
+  -- place t of SYS lies in one of its sectors
+  pub place-in : (t : ℕ) → t < placeCount (p .H) (p .layers) → (t / 16 + sysFrom) / p .s < length (p .sys)
+  place-in t x = sys-in (t / 16 + sysFrom) (omega arith)

@@ -1,0 +1,2 @@
+pub mod CatalogLaws
+pub mod Ground
