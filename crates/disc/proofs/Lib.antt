@@ -3,3 +3,4 @@ pub mod SliceLaws
 pub mod StretchLaws
 pub mod Geometry
 pub mod NumberLaws
+pub mod IndexUnique

@@ -1,2 +1,3 @@
 pub mod CatalogLaws
 pub mod Ground
+pub mod Unique
