@@ -31,6 +31,7 @@ firsts (x ∷ l) h = go (stretches l) (firsts l (λ j y. h (suc j) (omega arith)
     by Ordering·lt r rs a b = next (h 0 (omega arith)) (next a b)
     by Ordering·eq r rs a b = next (h 0 (omega arith)) b
     by Ordering·gt r rs a b = next (h 0 (omega arith)) (next a b)
+
     go : (rs : List Stretch) → Firsts rs → Firsts (join x rs)
     go rs end = next (h 0 (omega arith)) end
     go rs (next {r = r} {rs = t} a b) = by (compare (suc x) (r .first)) r t a b
@@ -64,9 +65,10 @@ index-unique F s l k pos above above′ a b x y = index-inj F s l k pos above ab
   where
     count : stretchCount l ≡ stretchCount k
     count = sym (x .at 0 (omega arith) (omega arith)) ∙ y .at 0 (omega arith) (omega arith)
+
     words : indexWords F s l ≡ indexWords F s k
     words =
         let n : length (indexWords F s l) ≡ length (indexWords F s k) = length-index F s l ∙ ap (λ (z : ℕ). 1 + 2 * z) count ∙ sym (length-index F s k) in
         ext-getD 0 (indexWords F s l) (indexWords F s k) n (λ j z.
-          let w : j < 256 = omega (arith, length-index F s l) in
-          sym (x .at j z w) ∙ y .at j (omega arith) w)
+        let w : j < 256 = omega (arith, length-index F s l) in
+        sym (x .at j z w) ∙ y .at j (omega arith) w)

@@ -18,11 +18,6 @@ ceilDiv-step s a b pos le =
 pub ceilDiv-one : (s : ℕ) {a : ℕ} → 0 < s → a ≤ s → ceilDiv a s ≤ 1
 ceilDiv-one s {a} pos le = omega (arith, div-lt-iff-lt-mul {k = s} {x = a + (s - 1)} {y = 2} pos .1 (omega arith))
 
-pub need-mono : (s : ℕ) {m n : ℕ} → 0 < s → m ≤ n → need s m ≤ need s n
-need-mono s {m = zero} {n} pos le = omega arith
-need-mono s {m = suc m} {n = zero} pos le = absurd (omega arith)
-need-mono s {m = suc m} {n = suc n} pos le = ceilDiv-mono s pos (omega arith)
-
 -- One sector more needs at most one slice more: the first slice serves the index block and the first sector.
 pub need-suc : (s n : ℕ) → 2 ≤ s → need s (suc n) ≤ need s n + 1
 need-suc s zero le = omega (arith, ceilDiv-one s {a = 2} (omega arith) le)

@@ -2,39 +2,31 @@
 use mathlib.Core.Path.{_≡_, refl, sym, ap, _∙_}
 use mathlib.Core.Bool.{Bool, true, false, not, _||_, cond}
 use mathlib.Core.List.{List, [], _∷_, _++_}
-use mathlib.Core.Logic.{_≢_, ⊎-elim, _⊎_, inl, inr}
+use mathlib.Core.Logic.{_≢_}
 use mathlib.Core.Option.{Option, none, some}
 use Prim.Native.Nat.{ℕ, zero, suc, _+_, _*_, _-_, _≤_, _<_}
 use native.Mathlib.Omega.{arith}
-use lib.ListN.{length, take, drop, getD, replicate, length-append, length-take, length-replicate}
-use lib.Dec.{T, leb, eqb, leb→le, eqb→eq, eqb-refl, not-T}
+use lib.ListN.{length, take, drop, getD, length-append, length-take, length-drop}
+use lib.Dec.{T, leb, eqb, leb→le, eqb→eq}
 use Rattle.types.specs.declared.Name.{Name}
-use Rattle.disc.specs.Numbers.{need, ceilDiv}
+use Rattle.disc.specs.Numbers.{need}
 use Rattle.disc.specs.Words.{Words}
 use Rattle.disc.specs.Names.{named, SYS, MAP, isSystem, legalName}
 use Rattle.disc.specs.Attributes.{legalAttributes, legalWith, permanent}
 use Rattle.disc.specs.Slices.{occurrences, taken, lastOf}
 use Rattle.disc.specs.Stretches.{stretchCount}
-use Rattle.disc.proofs.Compare.{same-or}
 use Rattle.disc.proofs.SliceLaws.{occurrences-append, length-taken}
 use Rattle.plain.specs.Table.{Table, tableFind, tablePut, tableRemove, total, SortedFrom, isSome}
 use Rattle.plain.specs.Unit.{Plain, File, AreaUser, M, held, slicesOf, freeSlices, entry, withTables, withFiles}
-use Rattle.plain.specs.Questions.{Outcome}
 use Rattle.plain.specs.Taking.{layersFor, zeroSectors, placesTaken}
 use Rattle.plain.specs.Catalog.{stepInit, newFile, stepCreate, stepSet, stepLookUp, stepRemove, changeFile, changed, stepChange, slicesAfter, resized, optionalIn, tailIn, isRecord}
-use Rattle.plain.specs.Good.{Good, GoodFile, GoodArea, WordsOf}
-use Rattle.plain.proofs.TableLaws.{some≢none, some-inj, weightAt, find-put, find-put-other, find-remove-other, sorted-put, sorted-remove, total-put, total-remove, every-put, remove-some}
+use Rattle.plain.specs.Good.{Good, GoodFile, WordsOf}
+use Rattle.plain.proofs.TableLaws.{some≢none, weightAt, find-put-other, find-remove-other, sorted-put, sorted-remove, total-put, total-remove, every-put, remove-some}
 use Rattle.plain.proofs.QuestionLaws.{asks-law, given-law, or-case, not-some}
 use Rattle.plain.proofs.UnitLaws.{legal-positive, entry-none, no-area, holds, occurrences-held}
 use Rattle.plain.proofs.TakingLaws.{layers-up, chains-put, places-remove, places-same, sysExtra, sysTaken, sys-count, sys-first, taking-once}
-use Rattle.plain.proofs.WordLaws.{words-take, words-drop, wordsOf-zeros, zeroSectors-words}
-
-abbrev Keeps : Outcome → Type 0
-Keeps o = Good (o .unit)
-
--- An area keeps its file while its name's file stays.
-area-move : {old new : Table File} {n : ℕ} {users : Table AreaUser} → GoodArea old n users → tableFind n old ≡ tableFind n new → GoodArea new n users
-area-move a e = record { file = a .file; entered = sym e ∙ a .entered; sorted = a .sorted; three = a .three; roles = a .roles; each = a .each }
+use Rattle.plain.proofs.WordLaws.{EachOf, each-take, each-append, words-drop, wordsOf-zeros, wordsOf-take, length-zeroSectors, zeroSectors-words}
+use Rattle.plain.proofs.KeepsAreas.{Keeps, area-beside}
 
 -- ---- Init, Look-up
 
@@ -62,7 +54,8 @@ removed-good p n g e = record {
   eight = g .eight;
   areas = λ k users h.
       let d : k ≢ n = λ q. (let h₂ : tableFind n (p .areas) ≡ some users = rw q at h in some≢none (sym h₂ ∙ e)) in
-      area-move (g .areas k users h) (sym (find-remove-other k n 0 (p .files) (g .names) d));
+      let a = g .areas k users h in
+      area-beside a (a .file) (find-remove-other k n 0 (p .files) (g .names) d ∙ a .entered) (omega arith);
 }
 
 pub remove-keeps : (p : Plain) (name : Name) (lent : List ℕ) → Good p → Keeps (stepRemove p name lent)
@@ -121,7 +114,8 @@ placed-good p l n f others last b g up noArea sorted part same chains weights go
   eight = g .eight;
   areas = λ k users h.
       let d : k ≢ n = λ q. (let h₂ : tableFind n (p .areas) ≡ some users = rw q at h in some≢none (sym h₂ ∙ noArea)) in
-      area-move (g .areas k users h) (same k users h ∙ sym (find-put-other k n f others d));
+      let a = g .areas k users h in
+      area-beside a (a .file) (find-put-other k n f others d ∙ sym (same k users h) ∙ a .entered) (omega arith);
 }
 
 -- a name with no entry is none of SYS and MAP
@@ -151,7 +145,7 @@ new-file-keeps p n size attributes optional tail lent g three six =
     let e = entry-none p n vacant in
     placed-good p l n f (p .files) 0 c g (layers-up p n (p .files)) (no-area p n g (e .0)) (g .names) (λ k h q. q) (λ k users h. refl)
     (chains-put p n f (p .files) (g .chains)) (λ k. omega (arith, total-put (holds k) n f (p .files)))
-    (booked-good (p .s) (p .areas) n f legal (ordinary-name p n vacant) allowed only three six (zeroSectors-words size) (length-replicate size (replicate 256 0))
+    (booked-good (p .s) (p .areas) n f legal (ordinary-name p n vacant) allowed only three six (zeroSectors-words size) (length-zeroSectors size)
     (sym (length-taken (M p) (sysTaken p l ++ held p) 0 c)) (omega arith) (leb→le _ _ few))
     room sysFew
 
@@ -162,16 +156,12 @@ create-keeps p name size attributes lent g =
 -- ---- the words of a lent record
 
 optional-words : (lent : List ℕ) → Words lent → T (isRecord lent) → WordsOf 3 (optionalIn lent)
-optional-words lent w t = record {
-  count = length-take 3 (drop 3 lent) ∙ omega (arith, lib.ListN.length-drop 3 lent, leb→le 16 (length lent) t);
-  words = words-take 3 (drop 3 lent) (words-drop 3 lent w);
-}
+optional-words lent w t =
+    wordsOf-take 3 (drop 3 lent) (omega (arith, length-drop 3 lent, leb→le 16 (length lent) t)) (words-drop 3 lent w)
 
 tail-words : (lent : List ℕ) → Words lent → T (isRecord lent) → WordsOf 6 (tailIn lent)
-tail-words lent w t = record {
-  count = length-take 6 (drop 10 lent) ∙ omega (arith, lib.ListN.length-drop 10 lent, leb→le 16 (length lent) t);
-  words = words-take 6 (drop 10 lent) (words-drop 10 lent w);
-}
+tail-words lent w t =
+    wordsOf-take 6 (drop 10 lent) (omega (arith, length-drop 10 lent, leb→le 16 (length lent) t)) (words-drop 10 lent w)
 
 pub set-keeps : (p : Plain) (name : Name) (lent : List ℕ) → Good p → Words lent → Keeps (stepSet p name lent)
 set-keeps p name lent g w =
@@ -187,20 +177,12 @@ occurrences-take k (suc c) [] = omega arith
 occurrences-take k (suc c) (x ∷ l) = omega (arith, occurrences-take k c l)
 
 length-resized : (n : ℕ) (l : List (List ℕ)) → length (resized n l) ≡ n
-length-resized n l =
-    let zeros : List ℕ = replicate 256 0 in
-    length-append (take n l) (zeroSectors (n - length l)) ∙ omega (arith, length-take n l, length-replicate (n - length l) zeros)
+length-resized n l = omega (arith, length-append (take n l) (zeroSectors (n - length l)), length-take n l, length-zeroSectors (n - length l))
 
 -- a sector of a resized file is one of the old or zero
-resized-words : (n : ℕ) (l : List (List ℕ)) → ((b : ℕ) → b < length l → WordsOf 256 (getD l b [])) → (b : ℕ) → b < length (resized n l) → WordsOf 256 (getD (resized n l) b [])
-resized-words n l ok b h = go n l ok (zeroSectors (n - length l)) (zeroSectors-words (n - length l)) b h
-  where
-    go : (n : ℕ) (l : List (List ℕ)) → ((b : ℕ) → b < length l → WordsOf 256 (getD l b [])) → (z : List (List ℕ))
-        → ((b : ℕ) → b < length z → WordsOf 256 (getD z b [])) → (b : ℕ) → b < length (take n l ++ z) → WordsOf 256 (getD (take n l ++ z) b [])
-    go zero l ok z okz b h = okz b h
-    go (suc n) [] ok z okz b h = okz b h
-    go (suc n) (x ∷ l) ok z okz zero h = ok 0 (omega arith)
-    go (suc n) (x ∷ l) ok z okz (suc b) h = go n l (λ j q. ok (suc j) (omega arith)) z okz b (omega arith)
+resized-words : (n : ℕ) (l : List (List ℕ)) → EachOf (WordsOf 256) [] l → EachOf (WordsOf 256) [] (resized n l)
+resized-words n l ok =
+    each-append (WordsOf 256) [] (take n l) (zeroSectors (n - length l)) (each-take (WordsOf 256) [] n l ok) (zeroSectors-words (n - length l))
 
 cond-words : (n : ℕ) (b : Bool) (l m : List ℕ) → WordsOf n l → WordsOf n m → WordsOf n (cond b l m)
 cond-words n true l m v w = v

@@ -1,6 +1,10 @@
 pub mod TableLaws
 pub mod QuestionLaws
 pub mod UnitLaws
-pub mod TakingLaws
 pub mod WordLaws
+pub mod RoleLaws
+pub mod TakingLaws
+pub mod KeepsAreas
+pub mod KeepsTransput
 pub mod KeepsCatalog
+pub mod Keeps

@@ -188,10 +188,10 @@ module _ {A : Type 0} where
 
   -- ---- lengths
 
-  abbrev one : Row A → ℕ
+  abbrev pub one : Row A → ℕ
   one r = 1
 
-  total-length : (t : Table A) → total one t ≡ length t
+  pub total-length : (t : Table A) → total one t ≡ length t
   total-length [] = refl
   total-length (r ∷ t) = omega (arith, total-length t)
 

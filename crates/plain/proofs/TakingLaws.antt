@@ -4,15 +4,16 @@ use mathlib.Core.Bool.{Bool, true, false, not, cond}
 use mathlib.Core.List.{List, [], _∷_, _++_}
 use mathlib.Core.Logic.{_≢_}
 use mathlib.Core.Option.{none, some}
-use Prim.Native.Nat.{ℕ, zero, suc, _+_, _*_, _-_, _/_, _≤_, _<_, compare}
+use Prim.Native.Nat.{ℕ, zero, suc, _+_, _*_, _-_, _≤_, _<_, compare}
 use native.Mathlib.Omega.{arith}
-use native.Mathlib.Nat.{le-div-iff-mul-le, div-mul-le-self, mul-le-mul-left}
+use native.Mathlib.Nat.{mul-le-mul-left}
 use lib.ListN.{length, take, length-append}
 use lib.Dec.{T, leb, leb→le, nleb→lt}
 use Rattle.disc.specs.Numbers.{ceilDiv}
 use Rattle.disc.specs.Names.{SYS, MAP, keyOf}
 use Rattle.disc.specs.Slices.{occurrences, InRangeOnce, freeCount, taken, lastOf, firstOf, oneIfSame}
 use Rattle.disc.proofs.Compare.{same-or, tri-same, Tri, less, same, more, tri}
+use Rattle.disc.proofs.NumberLaws.{ceilDiv-mono}
 use Rattle.disc.proofs.SliceLaws.{occurrences-append, sum-law, taken-law, length-taken}
 use Rattle.plain.specs.Table.{Row, Table, tableFind, tablePut, tableRemove, total}
 use Rattle.plain.specs.Unit.{Plain, File, M, held, slicesOf, freeSlices}
@@ -20,14 +21,6 @@ use Rattle.plain.specs.Taking.{hasKey, placesTaken, layersFor}
 use Rattle.plain.specs.Good.{Good}
 use Rattle.plain.proofs.TableLaws.{weightAt, total-put, total-remove}
 use Rattle.plain.proofs.UnitLaws.{holds, occurrences-held}
-
--- ---- quotients rounded up
-
-div-mono : (s : ℕ) {a b : ℕ} → 0 < s → a ≤ b → a / s ≤ b / s
-div-mono s {a} {b} pos le = le-div-iff-mul-le pos .1 (omega (arith, div-mul-le-self a s))
-
-pub ceil-mono : (h s a b : ℕ) → 0 < s → a ≤ b → ceilDiv (h * a) s ≤ ceilDiv (h * b) s
-ceil-mono h s a b pos le = div-mono s pos (omega (arith, mul-le-mul-left h le))
 
 -- ---- the layers for a name
 
@@ -126,7 +119,7 @@ module _ (p : Plain) (l : ℕ) (g : Good p) (up : p .layers ≤ l) where
         length-append (p .sys) (sysTaken p l),
         length-taken (M p) (held p) (lastOf (p .sys)) (sysExtra p l),
         g .sysCount,
-        ceil-mono (p .H) (p .s) (p .layers) l (omega (arith, g .limits .slice-low)) up,
+        ceilDiv-mono (p .s) {a = p .H * p .layers} {b = p .H * l} (omega (arith, g .limits .slice-low)) (mul-le-mul-left (p .H) up),
       )
 
   pub sys-first : firstOf (p .sys ++ sysTaken p l) ≡ 1

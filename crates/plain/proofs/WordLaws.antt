@@ -1,55 +1,83 @@
--- Words stay words in parts and joins of lists; sectors of zeros.
-use mathlib.Core.Path.{_≡_, refl}
+-- Laws of lists of words: parts, joined lists and zeros are words, and lists of sectors keep sectors of 256 words.
+use mathlib.Core.Path.{_≡_}
 use mathlib.Core.List.{List, [], _∷_, _++_}
-use Prim.Native.Nat.{ℕ, zero, suc, _+_, _<_}
+use Prim.Native.Nat.{ℕ, zero, suc, _+_, _-_, _≤_, _<_}
 use native.Mathlib.Omega.{arith}
-use native.Mathlib.Nat.{suc-add}
-use lib.ListN.{length, take, drop, getD, replicate, length-replicate, getD-replicate}
+use lib.ListN.{length, getD, take, drop, set, replicate, length-append, length-take, length-drop, length-set, length-replicate, getD-replicate, List·getD-append, List·getD-eq-default}
+use lib.Seq.{getD-take, getD-drop, getD-append-add, getD-set-same, getD-set-other, length-take-le}
 use Rattle.disc.specs.Words.{Words}
+use Rattle.disc.proofs.Compare.{same-or, below-or}
 use Rattle.plain.specs.Taking.{zeroSectors}
 use Rattle.plain.specs.Good.{WordsOf}
 
-abbrev Each : List ℕ → Type 0
-Each l = (k : ℕ) → getD l k 0 < 65536
+-- What holds of every element of a list.
+abbrev pub EachOf : {A : Type 0} → (A → Type 0) → A → List A → Type 0
+EachOf P d l = (k : ℕ) → k < length l → P (getD l k d)
+
+module _ {A : Type 0} (P : A → Type 0) (d : A) where
+  pub each-take : (n : ℕ) (l : List A) → EachOf P d l → EachOf P d (take n l)
+  each-take n l ok k h = rw (getD-take n l k d (omega (arith, length-take n l))) (ok k (omega (arith, length-take n l)))
+
+  pub each-drop : (n : ℕ) (l : List A) → EachOf P d l → EachOf P d (drop n l)
+  each-drop n l ok k h = rw (getD-drop n l k d) (ok (n + k) (omega (arith, length-drop n l)))
+
+  pub each-append : (l m : List A) → EachOf P d l → EachOf P d m → EachOf P d (l ++ m)
+  each-append l m p q k h = below-or k (length l) first second
+    where
+      first : k < length l → P (getD (l ++ m) k d)
+      first lt = rw (List·getD-append l m d k lt) (p k lt)
+
+      second : length l ≤ k → P (getD (l ++ m) k d)
+      second le =
+          let j : ℕ = k - length l in
+          let e : k ≡ length l + j = omega arith in
+          rw (e, getD-append-add l m j d) (q j (omega (arith, length-append l m)))
+
+  pub each-set : (l : List A) (i : ℕ) (a : A) → EachOf P d l → P a → EachOf P d (set l i a)
+  each-set l i a ok pa k h =
+      let lt : k < length l = omega (arith, length-set l i a) in
+      same-or k i (λ e. let z : i < length l = omega arith in rw (e, getD-set-same l i a d z) pa) (λ ne. rw (getD-set-other l i k a d ne) (ok k lt))
+
+  pub each-one : (a : A) → P a → EachOf P d (a ∷ [])
+  each-one a pa zero h = pa
+  each-one a pa (suc k) h = absurd (omega arith)
+
+  pub each-replicate : (n : ℕ) (a : A) → P a → EachOf P d (replicate n a)
+  each-replicate n a pa k h = rw (getD-replicate n k a d (omega (arith, length-replicate n a))) pa
+
+-- ---- words
+
+abbrev pub Word : ℕ → Type 0
+Word w = w < 65536
+
+-- A list is words if its elements are: past its end 0 is read.
+pub words-each : (l : List ℕ) → EachOf Word 0 l → Words l
+words-each l ok = record { each = λ k. below-or k (length l) (ok k) (λ le. omega (arith, List·getD-eq-default l 0 le)) }
 
 pub words-take : (n : ℕ) (l : List ℕ) → Words l → Words (take n l)
-words-take n l w = record { each = go n l (w .each) }
-  where
-    go : (n : ℕ) (l : List ℕ) → Each l → Each (take n l)
-    go zero l w k = omega arith
-    go (suc n) [] w k = omega arith
-    go (suc n) (x ∷ l) w zero = w 0
-    go (suc n) (x ∷ l) w (suc k) = go n l (λ j. w (suc j)) k
+words-take n l w = words-each (take n l) (each-take Word 0 n l (λ k _. w .each k))
 
 pub words-drop : (n : ℕ) (l : List ℕ) → Words l → Words (drop n l)
-words-drop n l w = record { each = go n l (w .each) }
-  where
-    go : (n : ℕ) (l : List ℕ) → Each l → Each (drop n l)
-    go zero l w k = w k
-    go (suc n) [] w k = omega arith
-    go (suc n) (x ∷ l) w k = go n l (λ j. w (suc j)) k
+words-drop n l w = words-each (drop n l) (each-drop Word 0 n l (λ k _. w .each k))
 
 pub words-append : (l m : List ℕ) → Words l → Words m → Words (l ++ m)
-words-append l m w v = record { each = go l (w .each) }
-  where
-    go : (l : List ℕ) → Each l → Each (l ++ m)
-    go [] w k = v .each k
-    go (x ∷ l) w zero = w 0
-    go (x ∷ l) w (suc k) = go l (λ j. w (suc j)) k
+words-append l m v w = words-each (l ++ m) (each-append Word 0 l m (λ k _. v .each k) (λ k _. w .each k))
 
 pub words-zeros : (n : ℕ) → Words (replicate n 0)
-words-zeros n = record { each = go n }
-  where
-    go : (n : ℕ) → Each (replicate n 0)
-    go zero k = omega arith
-    go (suc n) zero = omega arith
-    go (suc n) (suc k) = go n k
+words-zeros n = words-each (replicate n 0) (each-replicate Word 0 n 0 (omega arith))
+
+-- ---- a number of words
 
 pub wordsOf-zeros : (n : ℕ) → WordsOf n (replicate n 0)
 wordsOf-zeros n = record { count = length-replicate n 0; words = words-zeros n }
 
--- every sector of zeros is 256 words
-pub zeroSectors-words : (n b : ℕ) → b < length (zeroSectors n) → WordsOf 256 (getD (zeroSectors n) b [])
-zeroSectors-words n b h =
-    let zeros : List ℕ = replicate 256 0 in
-    rw (getD-replicate n b zeros [] (omega (arith, length-replicate n zeros))) (wordsOf-zeros 256)
+pub wordsOf-take : (n : ℕ) (l : List ℕ) → n ≤ length l → Words l → WordsOf n (take n l)
+wordsOf-take n l le w = record { count = length-take-le n l le; words = words-take n l w }
+
+-- ---- sectors
+
+pub length-zeroSectors : (n : ℕ) → length (zeroSectors n) ≡ n
+length-zeroSectors n = length-replicate n (replicate 256 0)
+
+pub zeroSectors-words : (n : ℕ) → EachOf (WordsOf 256) [] (zeroSectors n)
+zeroSectors-words n = each-replicate (WordsOf 256) [] n (replicate 256 0) (wordsOf-zeros 256)

@@ -62,7 +62,7 @@ told F s n f k three e =
   where
     rest : f .optional ≡ k .optional
         → f .attributes ∷ f .booked ∷ indexSector F s (f .bookedSlices) (f .slices) ∷ (s * f .bookedSlices) ∷ f .tail
-          ≡ k .attributes ∷ k .booked ∷ indexSector F s (k .bookedSlices) (k .slices) ∷ (s * k .bookedSlices) ∷ k .tail
+        ≡ k .attributes ∷ k .booked ∷ indexSector F s (k .bookedSlices) (k .slices) ∷ (s * k .bookedSlices) ∷ k .tail
         → Told F s f k
     rest o z = record { optional = o; attributes = cc; booked = cc; index = cc; reserved = cc; tail = cc }
 
@@ -136,13 +136,13 @@ module _ (image : List ℕ) (p : Plain) (fs : Table File) (a : Is image p) (b : 
       let w : At (a .layout .catalog) (nm a) n e = at (a .layout .catalog) (nm a) n e h in
       ⊎-elim
       (λ (z : Unused (placeWord image (p .F) (p .s) (p .sys) sysFrom) (w .place)).
-        absurd (no-zero (a .layout .catalog) (nm a) n e h (sym (w .name) ∙ name-zero (placeWord image (p .F) (p .s) (p .sys) sysFrom) (w .place) z)))
+      absurd (no-zero (a .layout .catalog) (nm a) n e h (sym (w .name) ∙ name-zero (placeWord image (p .F) (p .s) (p .sys) sysFrom) (w .place) z)))
       (λ (u : PlaceOf (placeWord image (p .F) (p .s) (p .sys) sysFrom) (p .H) (entry (withFiles p fs)) (w .place)).
-        let k : entry (withFiles p fs) n ≡ some (u .words) = ap (entry (withFiles p fs)) (sym (w .name)) ∙ u .entered in
-        let la : length e ≡ 16 = entry-length a n e h in
-        let lb : length (u .words) ≡ 16 = entry-length b n (u .words) k in
-        let s : u .words ≡ e = ext-getD 0 (u .words) e (lb ∙ sym la) (λ j x. sym (u .holds j (omega arith)) ∙ w .holds j (omega arith)) in
-        k ∙ ap some s)
+      let k : entry (withFiles p fs) n ≡ some (u .words) = ap (entry (withFiles p fs)) (sym (w .name)) ∙ u .entered in
+      let la : length e ≡ 16 = entry-length a n e h in
+      let lb : length (u .words) ≡ 16 = entry-length b n (u .words) k in
+      let s : u .words ≡ e = ext-getD 0 (u .words) e (lb ∙ sym la) (λ j x. sym (u .holds j (omega arith)) ∙ w .holds j (omega arith)) in
+      k ∙ ap some s)
       (b .layout .catalog .each (w .place) (w .inside))
 
 -- the files
@@ -171,7 +171,7 @@ module _ (image : List ℕ) (p : Plain) (fs : Table File) (a : Is image p) (b : 
   file-there n f h =
       let d = not-system n (a .good .files n f h .ordinary) in
       let e : entry (withFiles p fs) n ≡ some (fileEntry (p .F) (p .s) n f) =
-        entry-there image p fs a b n (fileEntry (p .F) (p .s) n f) (entry-other p n (d .0) (d .1) ∙ ap (mapSome (fileEntry (p .F) (p .s) n)) h) in
+      entry-there image p fs a b n (fileEntry (p .F) (p .s) n f) (entry-other p n (d .0) (d .1) ∙ ap (mapSome (fileEntry (p .F) (p .s) n)) h) in
       go (tableFind n fs) refl (sym (entry-other (withFiles p fs) n (d .0) (d .1)) ∙ e)
     where
       go : (o : Option File) → tableFind n fs ≡ o → mapSome (fileEntry (p .F) (p .s) n) o ≡ some (fileEntry (p .F) (p .s) n f)
@@ -203,14 +203,14 @@ module _ (image : List ℕ) (p : Plain) (fs : Table File) (a : Is image p) (b : 
     slices-same : f .slices ≡ k .slices
     slices-same = below-or 0 (length (f .slices))
         (λ x. below-or 0 (length (k .slices))
-          (λ y.
-            let e : sectorIn (p .F) (p .s) (f .slices) 0 ≡ sectorIn (p .F) (p .s) (k .slices) 0 =
-              sector-first (p .F) (p .s) (f .slices) s-pos x ∙ both .0 ∙ sym (sector-first (p .F) (p .s) (k .slices) s-pos y) in
-            index-unique (p .F) (p .s) (f .slices) (k .slices) s-pos (file-slices p (gr a) n f h) (file-slices (withFiles p fs) (gr b) n k j)
-            (a .good .files n f h .few) (b .good .files n k j .few) (rw e at (a .layout .files n f h .index x)) (b .layout .files n k j .index y))
-          (λ y.
-            let e : f .slices ≡ [] = first-zero (p .F) (p .s) (f .slices) (omega (arith, a .good .limits .first)) (both .0 ∙ none-zero (p .F) (p .s) (k .slices) y) in
-            absurd (omega (arith, ap length e))))
+        (λ y.
+        let e : sectorIn (p .F) (p .s) (f .slices) 0 ≡ sectorIn (p .F) (p .s) (k .slices) 0 =
+        sector-first (p .F) (p .s) (f .slices) s-pos x ∙ both .0 ∙ sym (sector-first (p .F) (p .s) (k .slices) s-pos y) in
+        index-unique (p .F) (p .s) (f .slices) (k .slices) s-pos (file-slices p (gr a) n f h) (file-slices (withFiles p fs) (gr b) n k j)
+        (a .good .files n f h .few) (b .good .files n k j .few) (rw e at (a .layout .files n f h .index x)) (b .layout .files n k j .index y))
+        (λ y.
+        let e : f .slices ≡ [] = first-zero (p .F) (p .s) (f .slices) (omega (arith, a .good .limits .first)) (both .0 ∙ none-zero (p .F) (p .s) (k .slices) y) in
+        absurd (omega (arith, ap length e))))
         (λ x. no-slices (f .slices) x ∙ sym (first-zero (p .F) (p .s) (k .slices) (omega (arith, a .good .limits .first)) (sym (both .0) ∙ none-zero (p .F) (p .s) (f .slices) x)))
 
     sectors-same : f .sectors ≡ k .sectors
@@ -244,6 +244,7 @@ module _ (image : List ℕ) (p : Plain) (fs : Table File) (a : Is image p) (b : 
       back : (n : ℕ) → tableFind n (p .files) ≡ none → (o : Option File) → tableFind n fs ≡ o → o ≡ none
       back n h none e = refl
       back n h (some k) e = let x = file-there image (withFiles p fs) (p .files) b a n k e in absurd (some≢none (sym (x .1) ∙ h))
+
       go : (n : ℕ) (o : Option File) → tableFind n (p .files) ≡ o → tableFind n fs ≡ tableFind n (p .files)
       go n none h = back n h (tableFind n fs) refl ∙ sym h
       go n (some f) h =
@@ -258,7 +259,7 @@ unit-unique image p q a b u r live =
     let eN : q .N ≡ p .N = sym (b .layout .kit .sectors) ∙ a .layout .kit .sectors in
     let eF : q .F ≡ p .F = sym (b .layout .kit .first) ∙ a .layout .kit .first in
     let e₁ : q ≡ withTables p (q .layers) (q .sys) (q .files) (p .areas) =
-      λ z. record { unit = u z; H = eH z; s = es z; F = eF z; N = eN z; layers = q .layers; sys = q .sys; files = q .files; areas = r z } in
+    λ z. record { unit = u z; H = eH z; s = es z; F = eF z; N = eN z; layers = q .layers; sys = q .sys; files = q .files; areas = r z } in
     let b₁ : Is image (withTables p (q .layers) (q .sys) (q .files) (p .areas)) = subst (λ (x : Plain). Is image x) e₁ b in
     let e₂ : q .sys ≡ p .sys = sys-unique image p (q .layers) (q .sys) (q .files) a b₁ in
     let b₂ : Is image (withTables p (q .layers) (p .sys) (q .files) (p .areas)) = subst (λ (x : List ℕ). Is image (withTables p (q .layers) x (q .files) (p .areas))) e₂ b₁ in
@@ -282,22 +283,26 @@ pub represents-unique : (image : List ℕ) (state : State) (p q : Plain) → Goo
 represents-unique image state p q gp gq a b =
     unit-unique image p q (record { good = gp; layout = a .layout }) (record { good = gq; layout = b .layout }) (sym (b .areas .number) ∙ a .areas .number)
     (find-ext 0 (q .areas) (p .areas) (gq .areaNames) (gp .areaNames) (λ n.
-      sym (users-of-unit (q .F) (q .s) (tableFind n (q .areas)) (tableFind n (q .files))) ∙ ap usersOfArea (same n)
-      ∙ users-of-unit (p .F) (p .s) (tableFind n (p .areas)) (tableFind n (p .files))))
+    sym (users-of-unit (q .F) (q .s) (tableFind n (q .areas)) (tableFind n (q .files))) ∙ ap usersOfArea (same n)
+    ∙ users-of-unit (p .F) (p .s) (tableFind n (p .areas)) (tableFind n (p .files))))
     (record { same = λ n f k users h j e. go n f k users (tableFind n (q .areas)) h j e (at-name n f k users h j e) })
   where
     eF : q .F ≡ p .F
     eF = sym (b .layout .kit .first) ∙ a .layout .kit .first
+
     es : q .s ≡ p .s
     es = sym (b .layout .kit .slice) ∙ a .layout .kit .slice
+
     -- what the state says of a name, as both units have it
     same : (n : ℕ) → areaOfUnit (q .F) (q .s) (tableFind n (q .areas)) (tableFind n (q .files)) ≡ areaOfUnit (p .F) (p .s) (tableFind n (p .areas)) (tableFind n (p .files))
     same n = sym (b .areas .each n) ∙ a .areas .each n
+
     at-name : (n : ℕ) (f k : File) (users : Table AreaUser) → tableFind n (p .files) ≡ some f → tableFind n (q .files) ≡ some k → tableFind n (p .areas) ≡ some users
         → areaOfUnit (q .F) (q .s) (tableFind n (q .areas)) (some k) ≡ areaOfUnit (p .F) (p .s) (some users) (some f)
     at-name n f k users h j e =
         ap (areaOfUnit (q .F) (q .s) (tableFind n (q .areas))) (sym j) ∙ same n
         ∙ ap (λ (o : Option (Table AreaUser)). areaOfUnit (p .F) (p .s) o (tableFind n (p .files))) e ∙ ap (areaOfUnit (p .F) (p .s) (some users)) h
+
     go : (n : ℕ) (f k : File) (users : Table AreaUser) (x : Option (Table AreaUser)) → tableFind n (p .files) ≡ some f → tableFind n (q .files) ≡ some k → tableFind n (p .areas) ≡ some users
         → areaOfUnit (q .F) (q .s) x (some k) ≡ areaOfUnit (p .F) (p .s) (some users) (some f) → SameLive (p .F) (p .s) f k
     go n f k users none h j e z = absurd (some≢none (sym z))
