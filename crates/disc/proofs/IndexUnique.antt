@@ -19,11 +19,11 @@ pub length-index : (F s : ℕ) (l : List ℕ) → length (indexWords F s l) ≡ 
 length-index F s l = omega (arith, length-pairs F s (stretches l))
 
 -- every stretch begins at a slice above 0
-data Firsts : List Stretch → Type 0 where
+pub data Firsts : List Stretch → Type 0 where
   end : Firsts []
   next : {r : Stretch} {rs : List Stretch} → 1 ≤ r .first → Firsts rs → Firsts (r ∷ rs)
 
-firsts : (l : List ℕ) → ((j : ℕ) → j < length l → 1 ≤ getD l j 0) → Firsts (stretches l)
+pub firsts : (l : List ℕ) → ((j : ℕ) → j < length l → 1 ≤ getD l j 0) → Firsts (stretches l)
 firsts [] h = end
 firsts (x ∷ l) h = go (stretches l) (firsts l (λ j y. h (suc j) (omega arith)))
   where

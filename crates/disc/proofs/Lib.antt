@@ -4,3 +4,4 @@ pub mod StretchLaws
 pub mod Geometry
 pub mod NumberLaws
 pub mod IndexUnique
+pub mod IndexRead

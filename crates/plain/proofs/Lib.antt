@@ -8,3 +8,4 @@ pub mod KeepsAreas
 pub mod KeepsTransput
 pub mod KeepsCatalog
 pub mod Keeps
+pub mod Collect
