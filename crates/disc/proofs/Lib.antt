@@ -5,3 +5,4 @@ pub mod Geometry
 pub mod NumberLaws
 pub mod IndexUnique
 pub mod IndexRead
+pub mod EntryLaws

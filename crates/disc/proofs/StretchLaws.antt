@@ -33,3 +33,16 @@ stretch-join x (r ∷ rs) = go (compare (suc x) (r .first))
 pub count-le : (l : List ℕ) → stretchCount l ≤ length l
 count-le [] = omega arith
 count-le (x ∷ l) = omega (arith, stretch-join x (stretches l), count-le l)
+
+-- some slice is some stretch
+pub count-some : (l : List ℕ) → 1 ≤ length l → 1 ≤ stretchCount l
+count-some [] h = absurd (omega arith)
+count-some (x ∷ l) h = go (stretches l)
+  where
+    by : (o : Ordering) (r : Stretch) (rs : List Stretch) → 1 ≤ length (joinBy o x r rs)
+    by Ordering·lt r rs = omega arith
+    by Ordering·eq r rs = omega arith
+    by Ordering·gt r rs = omega arith
+    go : (rs : List Stretch) → 1 ≤ length (join x rs)
+    go [] = omega arith
+    go (r ∷ rs) = by (compare (suc x) (r .first)) r rs

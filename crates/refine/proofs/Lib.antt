@@ -1,3 +1,4 @@
 pub mod CatalogLaws
 pub mod Ground
 pub mod Unique
+pub mod UnitFiles

@@ -6,7 +6,7 @@ use mathlib.Core.Logic.{_≢_, _⊎_, inl, inr, ⊎-elim}
 use mathlib.Core.Option.{Option, none, some}
 use Prim.Native.Nat.{ℕ, zero, suc, _+_, _*_, _-_, _/_, _%_, _≤_, _<_}
 use native.Mathlib.Omega.{arith}
-use native.Mathlib.Nat.{mul-div-cancel-left, mul-le-mul-left, zero-div, zero-mod}
+use native.Mathlib.Nat.{mul-div-cancel-left, mul-le-mul-left}
 use lib.ListN.{length, getD, length-append}
 use lib.Seq.{ext-getD}
 use lib.Dec.{T}
@@ -18,6 +18,7 @@ use Rattle.disc.specs.Stretches.{sectorIn, sysFrom}
 use Rattle.disc.specs.Entries.{placeWord, placeCount, nameAt, entryWords, indexSector, sysEntry, mapEntry}
 use Rattle.disc.proofs.Compare.{below-or}
 use Rattle.disc.proofs.IndexUnique.{index-unique}
+use Rattle.disc.proofs.EntryLaws.{length-entry, sector-first, index-zero, index-none, no-slices}
 use Rattle.plain.specs.Table.{Table, tableFind}
 use Rattle.plain.specs.Unit.{Plain, File, AreaUser, M, held, fileEntry, entry, freeSectors, withTables, withFiles}
 use Rattle.plain.specs.Good.{Good, GoodFile}
@@ -40,10 +41,6 @@ append-inj (x ∷ o) (y ∷ u) r t h e =
     let b : o ++ r ≡ u ++ t = cc in
     let q = append-inj o u r t (omega arith) b in
     (ap₂ (λ (z : ℕ) (l : List ℕ). z ∷ l) a (q .0), q .1)
-
-pub length-file-entry : (F s n : ℕ) (f : File) → length (f .optional) ≡ 3 → length (f .tail) ≡ 6 → length (fileEntry F s n f) ≡ 16
-length-file-entry F s n f three six =
-    omega (arith, length-append (f .optional) (f .attributes ∷ f .booked ∷ indexSector F s (f .bookedSlices) (f .slices) ∷ (s * f .bookedSlices) ∷ f .tail))
 
 -- what an entry says of a file
 record Told (F s : ℕ) (f k : File) : Type 0 where
@@ -90,7 +87,8 @@ module _ {image : List ℕ} {p : Plain} (a : Is image p) where
       go none q z = absurd (some≢none (sym z))
       go (some f) q z =
           let fg = a .good .files n f q in
-          ap length (sym (some-inj z)) ∙ length-file-entry (p .F) (p .s) n f (fg .optional .count) (fg .tail .count)
+          ap length (sym (some-inj z))
+          ∙ length-entry n (f .optional) (f .attributes) (f .booked) (indexSector (p .F) (p .s) (f .bookedSlices) (f .slices)) (p .s * f .bookedSlices) (f .tail) (fg .optional .count) (fg .tail .count)
 
 -- SYS's slices
 module _ (image : List ℕ) (p : Plain) (L : ℕ) (y : List ℕ) (fs : Table File) (a : Is image p) (b : Is image (withTables p L y fs (p .areas))) where
@@ -145,23 +143,6 @@ module _ (image : List ℕ) (p : Plain) (fs : Table File) (a : Is image p) (b : 
       k ∙ ap some s)
       (b .layout .catalog .each (w .place) (w .inside))
 
--- the files
-sector-first : (F s : ℕ) (l : List ℕ) → 0 < s → 0 < length l → sectorIn F s l 0 ≡ indexSector F s (length l) l
-sector-first F s [] p h = absurd (omega arith)
-sector-first F s (x ∷ l) p h = rw (zero-div s, zero-mod s) (omega arith)
-
-first-zero : (F s : ℕ) (l : List ℕ) → 1 ≤ F → indexSector F s (length l) l ≡ 0 → l ≡ []
-first-zero F s [] p h = refl
-first-zero F s (x ∷ l) p h = absurd (omega arith)
-
-none-zero : (F s : ℕ) (l : List ℕ) → length l ≤ 0 → indexSector F s (length l) l ≡ 0
-none-zero F s [] x = refl
-none-zero F s (y ∷ l) x = absurd (omega arith)
-
-no-slices : (l : List ℕ) → length l ≤ 0 → l ≡ []
-no-slices [] x = refl
-no-slices (y ∷ l) x = absurd (omega arith)
-
 -- two files with the same live index sector and length
 abbrev SameLive : ℕ → ℕ → File → File → Type 0
 SameLive F s f k = (indexSector F s (length (f .slices)) (f .slices) ≡ indexSector F s (length (k .slices)) (k .slices)) × (length (f .sectors) ≡ length (k .sectors))
@@ -205,13 +186,13 @@ module _ (image : List ℕ) (p : Plain) (fs : Table File) (a : Is image p) (b : 
         (λ x. below-or 0 (length (k .slices))
         (λ y.
         let e : sectorIn (p .F) (p .s) (f .slices) 0 ≡ sectorIn (p .F) (p .s) (k .slices) 0 =
-        sector-first (p .F) (p .s) (f .slices) s-pos x ∙ both .0 ∙ sym (sector-first (p .F) (p .s) (k .slices) s-pos y) in
+        sector-first (p .F) (p .s) (f .slices) x ∙ both .0 ∙ sym (sector-first (p .F) (p .s) (k .slices) y) in
         index-unique (p .F) (p .s) (f .slices) (k .slices) s-pos (file-slices p (gr a) n f h) (file-slices (withFiles p fs) (gr b) n k j)
         (a .good .files n f h .few) (b .good .files n k j .few) (rw e at (a .layout .files n f h .index x)) (b .layout .files n k j .index y))
         (λ y.
-        let e : f .slices ≡ [] = first-zero (p .F) (p .s) (f .slices) (omega (arith, a .good .limits .first)) (both .0 ∙ none-zero (p .F) (p .s) (k .slices) y) in
+        let e : f .slices ≡ [] = index-zero (p .F) (p .s) (f .slices) (omega (arith, a .good .limits .first)) (both .0 ∙ index-none (p .F) (p .s) (k .slices) y) in
         absurd (omega (arith, ap length e))))
-        (λ x. no-slices (f .slices) x ∙ sym (first-zero (p .F) (p .s) (k .slices) (omega (arith, a .good .limits .first)) (sym (both .0) ∙ none-zero (p .F) (p .s) (f .slices) x)))
+        (λ x. no-slices (f .slices) x ∙ sym (index-zero (p .F) (p .s) (k .slices) (omega (arith, a .good .limits .first)) (sym (both .0) ∙ index-none (p .F) (p .s) (f .slices) x)))
 
     sectors-same : f .sectors ≡ k .sectors
     sectors-same = ext-getD [] (f .sectors) (k .sectors) (both .1) (λ c x.

@@ -1,0 +1,220 @@
+-- The files of a represented plain unit, as the places of SYS and the open areas show them.
+use mathlib.Core.Path.{_≡_, refl, sym, ap, _∙_}
+use mathlib.Core.Bool.{Bool, not}
+use mathlib.Core.List.{List, [], _∷_, _++_}
+use mathlib.Core.Logic.{_≢_, _⊎_, inl, inr, ⊎-elim}
+use mathlib.Core.Option.{Option, none, some}
+use Prim.Native.Nat.{ℕ, zero, suc, _+_, _*_, _-_, _/_, _%_, _≤_, _<_}
+use native.Mathlib.Omega.{arith}
+use native.Mathlib.Nat.{mul-le-mul-right, div-mul-le-self}
+use lib.ListN.{length, getD, length-append}
+use lib.Dec.{T, not-T}
+use Rattle.types.specs.declared.Area.{Area}
+use Rattle.types.specs.declared.State.{State}
+use Rattle.disc.specs.Numbers.{need, sliceStart}
+use Rattle.disc.specs.Words.{word, Holds}
+use Rattle.disc.specs.Names.{SYS, MAP, isSystem, legalName}
+use Rattle.disc.specs.Slices.{occurrences, firstOf}
+use Rattle.disc.specs.Stretches.{sectorIn, indexWords, stretchCount, slicesAt, sysFrom}
+use Rattle.disc.specs.Entries.{placeWord, placeCount, nameAt, indexSector}
+use Rattle.disc.proofs.Compare.{same-or, below-or}
+use Rattle.disc.proofs.SliceLaws.{sum-law}
+use Rattle.disc.proofs.StretchLaws.{count-some}
+use Rattle.disc.proofs.Geometry.{need-cover}
+use Rattle.disc.proofs.EntryLaws.{entry-attributes, entry-size, entry-index, entry-reserved, sector-first, index-none}
+use Rattle.disc.proofs.IndexRead.{slices-read}
+use Rattle.plain.specs.Table.{Row, Table, tableFind, total}
+use Rattle.plain.specs.Unit.{Plain, File, AreaUser, M, held, fileEntry, entry}
+use Rattle.plain.specs.Good.{Good, GoodFile}
+use Rattle.plain.proofs.TableLaws.{some≢none, some-inj, total-one}
+use Rattle.plain.proofs.UnitLaws.{mapSome, entry-other, not-system}
+use Rattle.sound.specs.Places.{Unused, Used, IndexBlock, OwnIndex, slicesFrom, indexIf, Booked, LegalFile}
+use Rattle.sound.specs.State.{openArea, liveIndex, liveLength}
+use Rattle.sound.specs.Sound.{indexOf, lengthOf, slicesOf, SoundFile, sysPlaces}
+use Rattle.refine.specs.Represents.{PlaceOf, FileOnImage, LiveArea, areaOfState, areaOfUnit, Represents}
+use Rattle.refine.proofs.Ground.{Ground, ground, positive, top, first-in, file-slices, part-file}
+
+-- ---- one file's index block
+
+-- a file with slices has an index block in the sector of its first slice
+pub index-block : (image : List ℕ) (F s q : ℕ) (l : List ℕ) → 0 < s → ((j : ℕ) → j < length l → 1 ≤ getD l j 0) → 0 < length l → stretchCount l ≤ 127 → Holds image q (indexWords F s l)
+    → IndexBlock image F s q
+index-block image F s q l pos above has few h =
+    let read : slicesAt image F s q ≡ l = slices-read image F s q l pos above few h in
+    let count : word image q 0 ≡ stretchCount l = h .at 0 (omega arith) (omega arith) in
+    record { some = rw count (count-some l has); few = rw count few; pairs = rw read h }
+
+-- the slices read from a file's index sector are its own
+pub slices-from : (image : List ℕ) (F s : ℕ) (f : File) → 10 ≤ F → 0 < s → ((j : ℕ) → j < length (f .slices) → 1 ≤ getD (f .slices) j 0) → stretchCount (f .slices) ≤ 127
+    → FileOnImage image F s f → slicesFrom image F s (indexSector F s (length (f .slices)) (f .slices)) ≡ f .slices
+slices-from image F s f low pos above few h = go (f .slices) refl (indexSector F s (length (f .slices)) (f .slices)) refl
+  where
+    go : (l : List ℕ) → f .slices ≡ l → (q : ℕ) → indexSector F s (length (f .slices)) (f .slices) ≡ q → slicesFrom image F s q ≡ f .slices
+    go [] e zero z = sym e
+    go [] e (suc q) z = absurd (let y : indexSector F s 0 [] ≡ suc q = rw e at z in omega arith)
+    go (x ∷ l) e zero z = absurd (let y : F + (x - 1) * s ≡ 0 = rw e at z in omega arith)
+    go (x ∷ l) e (suc q) z =
+        let has : 0 < length (f .slices) = omega (arith, ap length e) in
+        let here : sectorIn F s (f .slices) 0 ≡ suc q = sector-first F s (f .slices) has ∙ z in
+        slices-read image F s (suc q) (f .slices) pos above few (rw here at (h .index has))
+
+pub own-index : (image : List ℕ) (F s : ℕ) (f : File) → 10 ≤ F → 0 < s → ((j : ℕ) → j < length (f .slices) → 1 ≤ getD (f .slices) j 0) → stretchCount (f .slices) ≤ 127
+    → FileOnImage image F s f → indexSector F s (length (f .slices)) (f .slices) ≢ 0 → OwnIndex image F s (indexSector F s (length (f .slices)) (f .slices))
+own-index image F s f low pos above few h nz = below-or 0 (length (f .slices)) own (λ y. absurd (nz (index-none F s (f .slices) y)))
+  where
+    at-first : (l : List ℕ) → 0 < length l → sliceStart F s (firstOf l) ≡ indexSector F s (length l) l
+    at-first [] x = absurd (omega arith)
+    at-first (x ∷ l) y = refl
+    own : 0 < length (f .slices) → OwnIndex image F s (indexSector F s (length (f .slices)) (f .slices))
+    own has =
+        let q : ℕ = indexSector F s (length (f .slices)) (f .slices) in
+        let words : Holds image q (indexWords F s (f .slices)) = rw (sector-first F s (f .slices) has) at (h .index has) in
+        let read : slicesAt image F s q ≡ f .slices = slices-read image F s q (f .slices) pos above few words in
+        record {
+          block = index-block image F s q (f .slices) pos above has few words;
+          first = ap (λ (l : List ℕ). sliceStart F s (firstOf l)) read ∙ at-first (f .slices) has;
+        }
+
+-- ---- the file in a place
+
+module _ {image : List ℕ} {state : State} {p : Plain} (g : Good p) (r : Represents image state p) where
+  abbrev pub P : ℕ → ℕ → ℕ
+  P = sysPlaces image (p .F) (p .s) (p .sys)
+
+  abbrev pub count : ℕ
+  count = placeCount (p .H) (p .layers)
+
+  gr : Ground p
+  gr = ground p g
+
+  pub file-at : (t : ℕ) → t < count → Used P t → (T (isSystem (nameAt P t)) → ⊥)
+      → (f : File) × (tableFind (nameAt P t) (p .files) ≡ some f) × ((w : ℕ) → w < 16 → P t w ≡ getD (fileEntry (p .F) (p .s) (nameAt P t) f) w 0)
+  file-at t x used other = ⊎-elim
+      (λ (z : Unused P t). absurd (used z))
+      (λ (u : PlaceOf P (p .H) (entry p) t).
+        let d = not-system (nameAt P t) (not-T (isSystem (nameAt P t)) other) in
+        go (u .words) (u .holds) (tableFind (nameAt P t) (p .files)) refl (sym (entry-other p (nameAt P t) (d .0) (d .1)) ∙ u .entered))
+      (r .layout .catalog .each t x)
+    where
+      go : (e : List ℕ) → ((w : ℕ) → w < 16 → P t w ≡ getD e w 0) → (o : Option File) → tableFind (nameAt P t) (p .files) ≡ o → mapSome (fileEntry (p .F) (p .s) (nameAt P t)) o ≡ some e
+          → (f : File) × (tableFind (nameAt P t) (p .files) ≡ some f) × ((w : ℕ) → w < 16 → P t w ≡ getD (fileEntry (p .F) (p .s) (nameAt P t) f) w 0)
+      go e h none q z = absurd (some≢none (sym z))
+      go e h (some f) q z = (f, q, (λ w y. h w y ∙ ap (λ (l : List ℕ). getD l w 0) (sym (some-inj z))))
+
+  module _ (n : ℕ) (f : File) (found : tableFind n (p .files) ≡ some f) where
+    abbrev index : ℕ
+    index = indexSector (p .F) (p .s) (length (f .slices)) (f .slices)
+
+    fg : GoodFile (p .s) (p .areas) n f
+    fg = g .files n f found
+
+    -- what the state says of the name: an area as the unit has it, or none
+    pub live-area : (a : Area) → openArea state n ≡ some a → (a .index .0 ≡ index) × (a .length ≡ length (f .sectors))
+    live-area a e = go (tableFind n (p .areas)) (ap areaOfState (sym e) ∙ r .areas .each n ∙ ap (areaOfUnit (p .F) (p .s) (tableFind n (p .areas))) found)
+      where
+        go : (o : Option (Table AreaUser)) → areaOfState (some a) ≡ areaOfUnit (p .F) (p .s) o (some f) → (a .index .0 ≡ index) × (a .length ≡ length (f .sectors))
+        go none z = absurd (some≢none z)
+        go (some users) z = (ap (λ (l : LiveArea). l .index) (some-inj z), ap (λ (l : LiveArea). l .size) (some-inj z))
+
+    pub no-live-area : openArea state n ≡ none → tableFind n (p .areas) ≡ none
+    no-live-area e = go (tableFind n (p .areas)) (ap areaOfState (sym e) ∙ r .areas .each n ∙ ap (areaOfUnit (p .F) (p .s) (tableFind n (p .areas))) found)
+      where
+        go : (o : Option (Table AreaUser)) → areaOfState none ≡ areaOfUnit (p .F) (p .s) o (some f) → o ≡ none
+        go none z = refl
+        go (some users) z = absurd (some≢none (sym z))
+
+    -- a file's length is below 32,768: it needs a sector more than it has, within the data sectors
+    pub short : length (f .sectors) ≤ 32767
+    short = below-or (length (f .sectors)) 32768 (λ x. omega arith) (λ x.
+        let held-few : length (f .slices) ≤ M p = omega (arith, sum-law (M p) (held p) (g .once), slices-held) in
+        absurd (omega (
+          arith,
+          need-cover (p .s) (length (f .sectors)) (length (f .slices)) (positive p gr) (fg .covered) 32767 (omega arith),
+          mul-le-mul-right (p .s) held-few,
+          div-mul-le-self (p .N - p .F) (p .s),
+          g .limits .sectors,
+          g .limits .first
+        )))
+      where
+        lengths : (t : Table File) → length (Rattle.plain.specs.Unit.slicesOf t) ≡ total (λ (x : Row File). length (x .val .slices)) t
+        lengths [] = refl
+        lengths (x ∷ t) = omega (arith, length-append (x .val .slices) (Rattle.plain.specs.Unit.slicesOf t), lengths t)
+        slices-held : length (f .slices) ≤ length (held p)
+        slices-held =
+            omega (
+              arith,
+              length-append (p .sys) (Rattle.plain.specs.Unit.slicesOf (p .files)),
+              lengths (p .files),
+              total-one (λ (x : Row File). length (x .val .slices)) n f (p .files) found
+            )
+
+    module _ (t : ℕ) (same : n ≡ nameAt P t) (words : (w : ℕ) → w < 16 → P t w ≡ getD (fileEntry (p .F) (p .s) n f) w 0) where
+      abbrev opt : length (f .optional) ≡ 3
+      opt = fg .optional .count
+
+      attributes-at : P t 6 ≡ f .attributes
+      attributes-at = words 6 (omega arith) ∙ entry-attributes n (f .optional) (f .attributes) (f .booked) (indexSector (p .F) (p .s) (f .bookedSlices) (f .slices)) (p .s * f .bookedSlices) (f .tail) opt
+
+      size-at : P t 7 ≡ f .booked
+      size-at = words 7 (omega arith) ∙ entry-size n (f .optional) (f .attributes) (f .booked) (indexSector (p .F) (p .s) (f .bookedSlices) (f .slices)) (p .s * f .bookedSlices) (f .tail) opt
+
+      index-at : P t 8 ≡ indexSector (p .F) (p .s) (f .bookedSlices) (f .slices)
+      index-at = words 8 (omega arith) ∙ entry-index n (f .optional) (f .attributes) (f .booked) (indexSector (p .F) (p .s) (f .bookedSlices) (f .slices)) (p .s * f .bookedSlices) (f .tail) opt
+
+      reserved-at : P t 9 ≡ p .s * f .bookedSlices
+      reserved-at = words 9 (omega arith) ∙ entry-reserved n (f .optional) (f .attributes) (f .booked) (indexSector (p .F) (p .s) (f .bookedSlices) (f .slices)) (p .s * f .bookedSlices) (f .tail) opt
+
+      -- the live index sector and length, by the place and the state
+      live : (o : Option Area) → openArea state n ≡ o → (liveIndex o (P t 8) ≡ index) × (liveLength o (P t 7) ≡ length (f .sectors))
+      live none e =
+          let c = fg .closed (no-live-area e) in
+          (index-at ∙ ap (λ (k : ℕ). indexSector (p .F) (p .s) k (f .slices)) (c .1), size-at ∙ c .0)
+      live (some a) e = live-area a e
+
+      pub index-of : indexOf state P t ≡ index
+      index-of = ap (λ (k : ℕ). liveIndex (openArea state k) (P t 8)) (sym same) ∙ live (openArea state n) refl .0
+
+      pub length-of : lengthOf state P t ≡ length (f .sectors)
+      length-of = ap (λ (k : ℕ). liveLength (openArea state k) (P t 7)) (sym same) ∙ live (openArea state n) refl .1
+
+      pub slices-of : slicesOf image state (p .F) (p .s) P t ≡ f .slices
+      slices-of =
+          ap (slicesFrom image (p .F) (p .s)) index-of
+          ∙ slices-from image (p .F) (p .s) f (g .limits .first) (positive p gr) (file-slices p gr n f found) (fg .few) (r .layout .files n f found)
+
+      legal-file : LegalFile image (p .F) (p .s) (f .attributes) (length (f .sectors)) index
+      legal-file =
+          let own : slicesFrom image (p .F) (p .s) index ≡ f .slices =
+            slices-from image (p .F) (p .s) f (g .limits .first) (positive p gr) (file-slices p gr n f found) (fg .few) (r .layout .files n f found) in
+          record {
+            allowed = fg .attributes;
+            entryOnly = rw own (fg .entryOnly);
+            short = short;
+            covered = rw own (fg .covered);
+            index = λ nz. own-index image (p .F) (p .s) f (g .limits .first) (positive p gr) (file-slices p gr n f found) (fg .few) (r .layout .files n f found) nz;
+          }
+
+      -- the booked index sector beside the live one
+      booked-index : (b : ℕ) → b ≤ length (f .slices) → indexSector (p .F) (p .s) b (f .slices) ≡ indexIf b index
+      booked-index zero le = refl
+      booked-index (suc b) le = go (f .slices) le
+        where
+          go : (l : List ℕ) → suc b ≤ length l → sliceStart (p .F) (p .s) (firstOf l) ≡ indexSector (p .F) (p .s) (length l) l
+          go [] le = absurd (omega arith)
+          go (x ∷ l) le = refl
+
+      pub sound-file : SoundFile image state (p .F) (p .s) P t
+      sound-file = record {
+        legal = rw (attributes-at, length-of, index-of) legal-file;
+        closed = λ e.
+          let c = fg .closed (no-live-area (ap (openArea state) same ∙ e)) in
+          reserved-at ∙ ap (λ (k : ℕ). p .s * k) (c .1) ∙ ap (λ (l : List ℕ). p .s * length l) (sym slices-of);
+        booked = λ a e. rw (slices-of, length-of, index-of, size-at, index-at, reserved-at) (record {
+          slices = f .bookedSlices;
+          sectors = refl;
+          length-low = fg .bookedLow;
+          slices-low = fg .bookedSlicesLow;
+          covered = fg .bookedCovered;
+          at = booked-index (f .bookedSlices) (fg .bookedSlicesLow);
+        });
+      }
