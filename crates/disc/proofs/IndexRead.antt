@@ -25,7 +25,7 @@ stretches-read image F s q rs j pos (next {r = r} {rs = t} above k) h =
     let head : stretchAt image F s q j ≡ r = λ z. record { first = first z; count = count z } in
     ap₂ (λ (a : Stretch) (l : List Stretch). a ∷ l) head
     (stretches-read image F s q t (suc j) pos k (λ i x.
-      ap (word image q) (let e : 2 * suc j + 1 + i ≡ 2 * j + 1 + suc (suc i) = omega arith in e) ∙ h (suc (suc i)) (omega arith)))
+    ap (word image q) (let e : 2 * suc j + 1 + i ≡ 2 * j + 1 + suc (suc i) = omega arith in e) ∙ h (suc (suc i)) (omega arith)))
 
 -- an index block for a slice list describes that list
 pub slices-read : (image : List ℕ) (F s q : ℕ) (l : List ℕ) → 0 < s → ((j : ℕ) → j < length l → 1 ≤ getD l j 0) → stretchCount l ≤ 127 → Holds image q (indexWords F s l)
@@ -35,5 +35,5 @@ slices-read image F s q l pos above few h =
     let long = length-index F s l in
     ap (λ (n : ℕ). expand (stretchesFrom image F s q n 0)) count
     ∙ ap expand (stretches-read image F s q (stretches l) 0 pos (firsts l above) (λ i x.
-        ap (word image q) (let e : 2 * 0 + 1 + i ≡ suc i = omega arith in e) ∙ h .at (suc i) (omega arith) (omega arith)))
+    ap (word image q) (let e : 2 * 0 + 1 + i ≡ suc i = omega arith in e) ∙ h .at (suc i) (omega arith) (omega arith)))
     ∙ expand-stretches l

@@ -43,6 +43,7 @@ count-some (x ∷ l) h = go (stretches l)
     by Ordering·lt r rs = omega arith
     by Ordering·eq r rs = omega arith
     by Ordering·gt r rs = omega arith
+
     go : (rs : List Stretch) → 1 ≤ length (join x rs)
     go [] = omega arith
     go (r ∷ rs) = by (compare (suc x) (r .first)) r rs

@@ -48,14 +48,15 @@ module _ {A : Type 0} where
       where
         up : ((t : ℕ) × (t < n) × (c t ≡ some (record { key = k; val = a }))) → (t : ℕ) × (t < suc n) × (c t ≡ some (record { key = k; val = a }))
         up x = (x .0, omega (arith, x .1), x .2)
+
         go : (o : Option (Row A)) → c n ≡ o → tableFind k (add o (collect c n)) ≡ some a → (tableFind k (collect c n) ≡ some a → (t : ℕ) × (t < n) × (c t ≡ some (record { key = k; val = a })))
             → (t : ℕ) × (t < suc n) × (c t ≡ some (record { key = k; val = a }))
         go none e q ih = up (ih q)
         go (some r) e q ih = same-or k (r .key)
             (λ z.
-              let v : r .val ≡ a = some-inj (sym (find-put (r .key) (r .val) (collect c n)) ∙ ap (λ (x : ℕ). tableFind x (tablePut (r .key) (r .val) (collect c n))) (sym z) ∙ q) in
-              let row : r ≡ record { key = k; val = a } = λ i. record { key = sym z i; val = v i } in
-              (n, omega arith, e ∙ ap some row))
+            let v : r .val ≡ a = some-inj (sym (find-put (r .key) (r .val) (collect c n)) ∙ ap (λ (x : ℕ). tableFind x (tablePut (r .key) (r .val) (collect c n))) (sym z) ∙ q) in
+            let row : r ≡ record { key = k; val = a } = λ i. record { key = sym z i; val = v i } in
+            (n, omega arith, e ∙ ap some row))
             (λ d. up (ih (sym (find-put-other k (r .key) (r .val) (collect c n) d) ∙ q)))
 
     module _ (N : ℕ) (alone : (t u : ℕ) (r s : Row A) → t < N → u < N → c t ≡ some r → c u ≡ some s → r .key ≡ s .key → t ≡ u) where

@@ -9,3 +9,7 @@ pub mod KeepsTransput
 pub mod KeepsCatalog
 pub mod Keeps
 pub mod Collect
+pub mod Paper
+pub mod Examples
+pub mod Refuses
+pub mod PlainClaims

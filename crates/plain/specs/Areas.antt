@@ -37,7 +37,8 @@ bookLive f = record {
   sectors = f .sectors;
 }
 
--- "Remove area: dummy if none or if it has users; else length and slices are booked." "Not SYS or MAP? 0A00h"
+-- "Remove area: dummy if none or if it has users; else length and slices are booked." "Not SYS or MAP? 0A00h". An open
+-- area has a file in every good unit.
 abbrev pub stepRemoveArea : Plain → Name → List ℕ → Outcome
 stepRemoveArea p name lent =
     let n : ℕ = named name in
@@ -94,7 +95,7 @@ stepReserve p n sender users count lent =
     (asks (ltb (opensOf (tableFind sender users)) 65535) (replies p 0x0808 lent)
     (done (withAreas p (tablePut n (tablePut sender (opened count (tableFind sender users)) users) (p .areas))) lent))))
 
--- "Release (0) takes 1; at zero the user and role go." The open count is the second argument.
+-- "Release (0) takes 1; at zero the user and role go." The open count is the second argument, never 0 in a good unit.
 abbrev pub released : ℕ → ℕ → AreaUser → Table AreaUser → Table AreaUser
 released sender zero u users = tableRemove sender users
 released sender (suc zero) u users = tableRemove sender users

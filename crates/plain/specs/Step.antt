@@ -36,7 +36,8 @@ reserveCount Sense = none
 reserveCount (Transput operation bytes block) = none
 reserveCount (Other operation) = none
 
--- A user's operation other than Reserve 2 to 4. "Sense answers 0."
+-- A user's operation other than Reserve 2 to 4; a Reserve is a Release here, and an unknown operation was refused before.
+-- "Sense answers 0."
 unfoldable pub userStep : Plain → ℕ → ℕ → Table AreaUser → AreaUser → File → Operation → List ℕ → Outcome
 userStep p n sender users u f (Reserve count) lent = stepRelease p n sender users u lent
 userStep p n sender users u f (Position block) lent = stepPosition p n sender users u f block lent
@@ -44,7 +45,8 @@ userStep p n sender users u f Sense lent = done p lent
 userStep p n sender users u f (Transput operation bytes block) lent = stepTransput p n sender users u f operation bytes block lent
 userStep p n sender users u f (Other operation) lent = replies p 0x0A00 lent
 
--- "Release and all else: sender a user? 0810h."
+-- "Release and all else: sender a user? 0810h." An open area has a file in every good unit: the second question is never
+-- answered no.
 unfoldable pub operationStep : Plain → ℕ → ℕ → Table AreaUser → Operation → Option ℕ → List ℕ → Outcome
 operationStep p n sender users operation (some count) lent = stepReserve p n sender users count lent
 operationStep p n sender users operation none lent =

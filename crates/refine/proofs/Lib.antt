@@ -2,3 +2,4 @@ pub mod CatalogLaws
 pub mod Ground
 pub mod Unique
 pub mod UnitFiles
+pub mod UnitSlices

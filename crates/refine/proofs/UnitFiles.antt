@@ -65,6 +65,7 @@ own-index image F s f low pos above few h nz = below-or 0 (length (f .slices)) o
     at-first : (l : List ℕ) → 0 < length l → sliceStart F s (firstOf l) ≡ indexSector F s (length l) l
     at-first [] x = absurd (omega arith)
     at-first (x ∷ l) y = refl
+
     own : 0 < length (f .slices) → OwnIndex image F s (indexSector F s (length (f .slices)) (f .slices))
     own has =
         let q : ℕ = indexSector F s (length (f .slices)) (f .slices) in
@@ -92,8 +93,8 @@ module _ {image : List ℕ} {state : State} {p : Plain} (g : Good p) (r : Repres
   file-at t x used other = ⊎-elim
       (λ (z : Unused P t). absurd (used z))
       (λ (u : PlaceOf P (p .H) (entry p) t).
-        let d = not-system (nameAt P t) (not-T (isSystem (nameAt P t)) other) in
-        go (u .words) (u .holds) (tableFind (nameAt P t) (p .files)) refl (sym (entry-other p (nameAt P t) (d .0) (d .1)) ∙ u .entered))
+      let d = not-system (nameAt P t) (not-T (isSystem (nameAt P t)) other) in
+      go (u .words) (u .holds) (tableFind (nameAt P t) (p .files)) refl (sym (entry-other p (nameAt P t) (d .0) (d .1)) ∙ u .entered))
       (r .layout .catalog .each t x)
     where
       go : (e : List ℕ) → ((w : ℕ) → w < 16 → P t w ≡ getD e w 0) → (o : Option File) → tableFind (nameAt P t) (p .files) ≡ o → mapSome (fileEntry (p .F) (p .s) (nameAt P t)) o ≡ some e
@@ -133,19 +134,20 @@ module _ {image : List ℕ} {state : State} {p : Plain} (g : Good p) (r : Repres
           mul-le-mul-right (p .s) held-few,
           div-mul-le-self (p .N - p .F) (p .s),
           g .limits .sectors,
-          g .limits .first
+          g .limits .first,
         )))
       where
         lengths : (t : Table File) → length (Rattle.plain.specs.Unit.slicesOf t) ≡ total (λ (x : Row File). length (x .val .slices)) t
         lengths [] = refl
         lengths (x ∷ t) = omega (arith, length-append (x .val .slices) (Rattle.plain.specs.Unit.slicesOf t), lengths t)
+
         slices-held : length (f .slices) ≤ length (held p)
         slices-held =
             omega (
               arith,
               length-append (p .sys) (Rattle.plain.specs.Unit.slicesOf (p .files)),
               lengths (p .files),
-              total-one (λ (x : Row File). length (x .val .slices)) n f (p .files) found
+              total-one (λ (x : Row File). length (x .val .slices)) n f (p .files) found,
             )
 
     module _ (t : ℕ) (same : n ≡ nameAt P t) (words : (w : ℕ) → w < 16 → P t w ≡ getD (fileEntry (p .F) (p .s) n f) w 0) where
@@ -185,7 +187,7 @@ module _ {image : List ℕ} {state : State} {p : Plain} (g : Good p) (r : Repres
       legal-file : LegalFile image (p .F) (p .s) (f .attributes) (length (f .sectors)) index
       legal-file =
           let own : slicesFrom image (p .F) (p .s) index ≡ f .slices =
-            slices-from image (p .F) (p .s) f (g .limits .first) (positive p gr) (file-slices p gr n f found) (fg .few) (r .layout .files n f found) in
+          slices-from image (p .F) (p .s) f (g .limits .first) (positive p gr) (file-slices p gr n f found) (fg .few) (r .layout .files n f found) in
           record {
             allowed = fg .attributes;
             entryOnly = rw own (fg .entryOnly);
@@ -207,8 +209,8 @@ module _ {image : List ℕ} {state : State} {p : Plain} (g : Good p) (r : Repres
       sound-file = record {
         legal = rw (attributes-at, length-of, index-of) legal-file;
         closed = λ e.
-          let c = fg .closed (no-live-area (ap (openArea state) same ∙ e)) in
-          reserved-at ∙ ap (λ (k : ℕ). p .s * k) (c .1) ∙ ap (λ (l : List ℕ). p .s * length l) (sym slices-of);
+            let c = fg .closed (no-live-area (ap (openArea state) same ∙ e)) in
+            reserved-at ∙ ap (λ (k : ℕ). p .s * k) (c .1) ∙ ap (λ (l : List ℕ). p .s * length l) (sym slices-of);
         booked = λ a e. rw (slices-of, length-of, index-of, size-at, index-at, reserved-at) (record {
           slices = f .bookedSlices;
           sectors = refl;

@@ -1,0 +1,69 @@
+-- The examples, by computation.
+use mathlib.Core.Path.{refl}
+use Rattle.plain.specs.Unit.{entry}
+use Rattle.plain.specs.Questions.{asks, given, either}
+use Rattle.plain.specs.Catalog.{newFile, changeFile}
+use Rattle.plain.specs.Areas.{stepReserve, stepRelease, positioned}
+use Rattle.plain.specs.Transput.{input, append, output, stepTransput}
+use Rattle.plain.specs.Reports.{stepListing, stepDescription}
+use Rattle.plain.specs.Step.{userStep, operationStep}
+use Rattle.plain.specs.Examples.{Examples}
+
+pub examples : Examples
+unfolding entry asks given either newFile changeFile stepReserve stepRelease positioned input append output stepTransput stepListing stepDescription userStep operationStep
+examples = record {
+  init = refl;
+  initNone = refl;
+  set = refl;
+  setWords = refl;
+  create = refl;
+  createWords = refl;
+  grow = refl;
+  grownSys = (refl, refl);
+  grownFile = refl;
+  growInSlack = refl;
+  slackSys = (refl, refl);
+  lookUp = refl;
+  lookUpSys = refl;
+  lookUpMap = refl;
+  change = refl;
+  changedSlices = refl;
+  changedWords = refl;
+  permanentWords = refl;
+  givenBack = (refl, refl);
+  served = refl;
+  servedSys = refl;
+  remove = refl;
+  removed = refl;
+  stretched = refl;
+  crowdedSys = refl;
+  createArea = refl;
+  removeArea = refl;
+  beforeKnown = refl;
+  beforeUnknown = refl;
+  unknown = refl;
+  strangers = refl;
+  reserve = refl;
+  roles = refl;
+  count = refl;
+  position = refl;
+  input = refl;
+  inputWords = refl;
+  randomInput = refl;
+  output3 = refl;
+  output7 = refl;
+  output19 = refl;
+  appended = refl;
+  unbooked = refl;
+  booked = refl;
+  reused = refl;
+  cleared = refl;
+  randomOutput = refl;
+  longOutput3 = refl;
+  longOutput7 = refl;
+  longOutput19 = refl;
+  description = refl;
+  descriptionWords = refl;
+  listing = refl;
+  listingWords = refl;
+}

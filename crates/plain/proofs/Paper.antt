@@ -1,0 +1,26 @@
+-- The cases worked on paper, by computation.
+use mathlib.Core.Path.{refl}
+use Rattle.plain.specs.Unit.{entry}
+use Rattle.plain.specs.Questions.{asks, given, either}
+use Rattle.plain.specs.Catalog.{newFile}
+use Rattle.plain.specs.Areas.{stepReserve, stepRelease, positioned}
+use Rattle.plain.specs.Transput.{input, append, output, stepTransput}
+use Rattle.plain.specs.Step.{userStep, operationStep}
+use Rattle.plain.specs.Paper.{Paper}
+
+pub paper : Paper
+unfolding entry asks given either newFile stepReserve stepRelease positioned input append output stepTransput userStep operationStep
+paper = record {
+  p1 = (refl, refl, refl, refl);
+  p2 = (refl, refl);
+  p3 = (refl, refl);
+  p4 = (refl, refl);
+  p5 = (refl, refl);
+  p6 = (refl, refl, refl, refl);
+  p7 = (refl, refl, refl, refl);
+  p8 = (refl, refl);
+  accepted = refl;
+  size8 = refl;
+  size7 = refl;
+  fourth = refl;
+}
