@@ -1,8 +1,10 @@
 pub mod Compare
+pub mod NumberLaws
+pub mod WordLaws
+pub mod NameLaws
 pub mod SliceLaws
 pub mod StretchLaws
 pub mod Geometry
-pub mod NumberLaws
+pub mod EntryLaws
 pub mod IndexUnique
 pub mod IndexRead
-pub mod EntryLaws

@@ -15,6 +15,7 @@ use Rattle.disc.specs.Names.{named, SYS, MAP, isSystem, legalName}
 use Rattle.disc.specs.Attributes.{legalAttributes, legalWith, permanent}
 use Rattle.disc.specs.Slices.{occurrences, taken, lastOf}
 use Rattle.disc.specs.Stretches.{stretchCount}
+use Rattle.disc.proofs.WordLaws.{words-drop}
 use Rattle.disc.proofs.SliceLaws.{occurrences-append, length-taken}
 use Rattle.plain.specs.Table.{Table, tableFind, tablePut, tableRemove, total, SortedFrom, isSome}
 use Rattle.plain.specs.Unit.{Plain, File, AreaUser, M, held, slicesOf, freeSlices, entry, withTables, withFiles}
@@ -25,7 +26,7 @@ use Rattle.plain.proofs.TableLaws.{some≢none, weightAt, find-put-othe
 use Rattle.plain.proofs.QuestionLaws.{asks-law, given-law, or-case, not-some}
 use Rattle.plain.proofs.UnitLaws.{legal-positive, entry-none, no-area, holds, occurrences-held}
 use Rattle.plain.proofs.TakingLaws.{layers-up, chains-put, places-remove, places-same, sysExtra, sysTaken, sys-count, sys-first, taking-once}
-use Rattle.plain.proofs.WordLaws.{EachOf, each-take, each-append, words-drop, wordsOf-zeros, wordsOf-take, length-zeroSectors, zeroSectors-words}
+use Rattle.plain.proofs.WordLaws.{EachOf, each-take, each-append, wordsOf-zeros, wordsOf-take, length-zeroSectors, zeroSectors-words}
 use Rattle.plain.proofs.KeepsAreas.{Keeps, area-beside}
 
 -- ---- Init, Look-up

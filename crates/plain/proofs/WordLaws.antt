@@ -1,11 +1,12 @@
--- Laws of lists of words: parts, joined lists and zeros are words, and lists of sectors keep sectors of 256 words.
+-- Laws of lists whose every element has a property, and of sectors of 256 words.
 use mathlib.Core.Path.{_≡_}
 use mathlib.Core.List.{List, [], _∷_, _++_}
 use Prim.Native.Nat.{ℕ, zero, suc, _+_, _-_, _≤_, _<_}
 use native.Mathlib.Omega.{arith}
-use lib.ListN.{length, getD, take, drop, set, replicate, length-append, length-take, length-drop, length-set, length-replicate, getD-replicate, List·getD-append, List·getD-eq-default}
+use lib.ListN.{length, getD, take, drop, set, replicate, length-append, length-take, length-drop, length-set, length-replicate, getD-replicate, List·getD-append}
 use lib.Seq.{getD-take, getD-drop, getD-append-add, getD-set-same, getD-set-other, length-take-le}
 use Rattle.disc.specs.Words.{Words}
+use Rattle.disc.proofs.WordLaws.{words-take, words-replicate}
 use Rattle.disc.proofs.Compare.{same-or, below-or}
 use Rattle.plain.specs.Taking.{zeroSectors}
 use Rattle.plain.specs.Good.{WordsOf}
@@ -45,31 +46,10 @@ module _ {A : Type 0} (P : A → Type 0) (d : A) where
   pub each-replicate : (n : ℕ) (a : A) → P a → EachOf P d (replicate n a)
   each-replicate n a pa k h = rw (getD-replicate n k a d (omega (arith, length-replicate n a))) pa
 
--- ---- words
-
-abbrev pub Word : ℕ → Type 0
-Word w = w < 65536
-
--- A list is words if its elements are: past its end 0 is read.
-pub words-each : (l : List ℕ) → EachOf Word 0 l → Words l
-words-each l ok = record { each = λ k. below-or k (length l) (ok k) (λ le. omega (arith, List·getD-eq-default l 0 le)) }
-
-pub words-take : (n : ℕ) (l : List ℕ) → Words l → Words (take n l)
-words-take n l w = words-each (take n l) (each-take Word 0 n l (λ k _. w .each k))
-
-pub words-drop : (n : ℕ) (l : List ℕ) → Words l → Words (drop n l)
-words-drop n l w = words-each (drop n l) (each-drop Word 0 n l (λ k _. w .each k))
-
-pub words-append : (l m : List ℕ) → Words l → Words m → Words (l ++ m)
-words-append l m v w = words-each (l ++ m) (each-append Word 0 l m (λ k _. v .each k) (λ k _. w .each k))
-
-pub words-zeros : (n : ℕ) → Words (replicate n 0)
-words-zeros n = words-each (replicate n 0) (each-replicate Word 0 n 0 (omega arith))
-
 -- ---- a number of words
 
 pub wordsOf-zeros : (n : ℕ) → WordsOf n (replicate n 0)
-wordsOf-zeros n = record { count = length-replicate n 0; words = words-zeros n }
+wordsOf-zeros n = record { count = length-replicate n 0; words = words-replicate n 0 (omega arith) }
 
 pub wordsOf-take : (n : ℕ) (l : List ℕ) → n ≤ length l → Words l → WordsOf n (take n l)
 wordsOf-take n l le w = record { count = length-take-le n l le; words = words-take n l w }

@@ -1,0 +1,52 @@
+-- Laws of `pack`: three words come back from the number that they make, whole and by their characters.
+use mathlib.Core.Path.{_≡_, ap}
+use mathlib.Core.List.{[], _∷_}
+use Prim.Native.Nat.{ℕ, _+_, _/_, _%_, _<_}
+use native.Mathlib.Omega.{arith}
+use Rattle.disc.specs.Names.{pack, nameWords, keyOf}
+
+-- the three words
+pub pack-first : (a b c : ℕ) → b < 65536 → c < 65536 → pack a b c / 0x100000000 ≡ a
+pack-first a b c p q = omega arith
+
+pub pack-second : (a b c : ℕ) → b < 65536 → c < 65536 → pack a b c / 65536 % 65536 ≡ b
+pack-second a b c p q = omega arith
+
+pub pack-third : (a b c : ℕ) → c < 65536 → pack a b c % 65536 ≡ c
+pack-third a b c q = omega arith
+
+pub nameWords-pack : (a b c : ℕ) → b < 65536 → c < 65536 → nameWords (pack a b c) ≡ a ∷ b ∷ c ∷ []
+nameWords-pack a b c p q = rw (pack-first a b c p q, pack-second a b c p q, pack-third a b c q)
+
+-- every number is the pack of its three words
+pub pack-words : (n : ℕ) → pack (n / 0x100000000) (n / 65536 % 65536) (n % 65536) ≡ n
+pack-words n = omega arith
+
+pub pack-injective : (a b c d e f : ℕ) → b < 65536 → c < 65536 → e < 65536 → f < 65536 → pack a b c ≡ pack d e f → (a ≡ d) × (b ≡ e) × (c ≡ f)
+pack-injective a b c d e f p q r s g = omega arith
+
+pub pack-small : (a b c : ℕ) → a < 65536 → b < 65536 → c < 65536 → pack a b c < 0x1000000000000
+pack-small a b c p q r = omega arith
+
+-- the key is that of the words' sum
+pub key-pack : (a b c H : ℕ) → b < 65536 → c < 65536 → keyOf H (pack a b c) ≡ (a + b + c) % 65536 % H
+key-pack a b c H p q = ap (λ (n : ℕ). n % 65536 % H) (omega arith)
+
+-- the six characters
+pub pack-char0 : (a b c : ℕ) → b < 65536 → c < 65536 → pack a b c / 0x10000000000 ≡ a / 256
+pack-char0 a b c p q = omega arith
+
+pub pack-char1 : (a b c : ℕ) → b < 65536 → c < 65536 → pack a b c / 0x100000000 % 256 ≡ a % 256
+pack-char1 a b c p q = omega arith
+
+pub pack-char2 : (a b c : ℕ) → b < 65536 → c < 65536 → pack a b c / 0x1000000 % 256 ≡ b / 256
+pack-char2 a b c p q = omega arith
+
+pub pack-char3 : (a b c : ℕ) → c < 65536 → pack a b c / 65536 % 256 ≡ b % 256
+pack-char3 a b c q = omega arith
+
+pub pack-char4 : (a b c : ℕ) → c < 65536 → pack a b c / 256 % 256 ≡ c / 256
+pack-char4 a b c q = omega arith
+
+pub pack-char5 : (a b c : ℕ) → pack a b c % 256 ≡ c % 256
+pack-char5 a b c = omega arith

@@ -1,0 +1,79 @@
+-- `words::clear_words` meets its contract: after i turns i zero words are stored. Assumes nothing.
+use mathlib.Core.Path.{_≡_, refl, sym}
+use Prim.Native.Nat.{_+_, _-_, _≤_}
+use native.Mathlib.Omega.{arith}
+use lib.ListN.{length}
+use borrow.Author.Needs.{needs}
+use Rattle.words.specs.Store.{store, zeroWords}
+use Rattle.words.proofs.StoreLaws.{store-none, store-more, length-zeroWords, zeroWords-snoc}
+use Rattle.words.proofs.clear_words.Statement.{statement}
+use Rattle.words.proofs.clear_words.Tie as tie
+
+abbrev Inv-loop : tie.InvT-loop
+Inv-loop image₀ from count at i₀ image i = (i ≤ count) × (image ≡ store image₀ at (zeroWords i)) × (length image ≡ length image₀)
+
+abbrev μ-loop : tie.MeasureT-loop
+μ-loop image₀ from count at i₀ image i = count - i
+
+cast-at : tie.Need-cast-at Inv-loop μ-loop
+cast-at c = search needs
+
+mul-at : tie.Need-mul-at Inv-loop μ-loop
+mul-at c = search needs
+
+add-at : tie.Need-add-at Inv-loop μ-loop
+add-at c = search needs
+
+loop-holds : tie.Need-loop-holds Inv-loop μ-loop
+unfolding zeroWords
+loop-holds c = (search needs, sym (store-none _ _), refl)
+
+add-image : tie.Need-add-image Inv-loop μ-loop
+add-image c = search needs
+
+mul-image : tie.Need-mul-image Inv-loop μ-loop
+mul-image c = search needs
+
+slice-write-image : tie.Need-slice-write-image Inv-loop μ-loop
+slice-write-image c = search needs
+
+add-i : tie.Need-add-i Inv-loop μ-loop
+add-i c = search needs
+
+loop-less : tie.Need-loop-less Inv-loop μ-loop
+loop-less c = search needs
+
+loop-again : tie.Need-loop-again Inv-loop μ-loop
+loop-again c =
+    let i = c .before .loop .i in (
+      search needs,
+      store-more _ _ i 0 (zeroWords i) (zeroWords (i + 1)) _ (length-zeroWords i) (zeroWords-snoc i) (c .before .loop .inv .1),
+      search needs,
+    )
+
+same-length : tie.Need-same-length Inv-loop μ-loop
+same-length c = search needs
+
+returns : tie.Need-returns Inv-loop μ-loop
+returns c =
+    let e : c .before .loop .i ≡ c .before .before .before .args .count = omega arith in
+    rw (← e) (c .before .loop .inv .1)
+
+pub clear-words-spec : {M : Type 1} → statement M
+clear-words-spec =
+    tie.close
+    (tie.spec
+    Inv-loop
+    μ-loop
+    cast-at
+    mul-at
+    add-at
+    loop-holds
+    add-image
+    mul-image
+    slice-write-image
+    add-i
+    loop-less
+    loop-again
+    same-length
+    returns)

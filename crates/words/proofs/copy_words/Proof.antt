@@ -1,0 +1,79 @@
+-- `words::copy_words` meets its contract: after i turns i words are stored. Assumes nothing.
+use mathlib.Core.Path.{_≡_, refl, sym}
+use Prim.Native.Nat.{_-_, _≤_}
+use native.Mathlib.Omega.{arith}
+use lib.ListN.{length, take, drop}
+use borrow.Author.Needs.{needs}
+use Rattle.words.specs.Store.{store}
+use Rattle.words.proofs.StoreLaws.{store-none, store-more, length-part, part-snoc}
+use Rattle.words.proofs.copy_words.Statement.{statement}
+use Rattle.words.proofs.copy_words.Tie as tie
+
+abbrev Inv-loop : tie.InvT-loop
+Inv-loop src from dst₀ at count i₀ dst i = (i ≤ count) × (dst ≡ store dst₀ at (take i (drop from src))) × (length dst ≡ length dst₀)
+
+abbrev μ-loop : tie.MeasureT-loop
+μ-loop src from dst₀ at count i₀ dst i = count - i
+
+loop-holds : tie.Need-loop-holds Inv-loop μ-loop
+loop-holds c = (search needs, sym (store-none _ _), refl)
+
+add-dst : tie.Need-add-dst Inv-loop μ-loop
+add-dst c = search needs
+
+mul-dst : tie.Need-mul-dst Inv-loop μ-loop
+mul-dst c = search needs
+
+shared-slice-read-dst : tie.Need-shared-slice-read-dst Inv-loop μ-loop
+shared-slice-read-dst c = search needs
+
+add-dst-2 : tie.Need-add-dst-2 Inv-loop μ-loop
+add-dst-2 c = search needs
+
+mul-dst-2 : tie.Need-mul-dst-2 Inv-loop μ-loop
+mul-dst-2 c = search needs
+
+slice-write-dst : tie.Need-slice-write-dst Inv-loop μ-loop
+slice-write-dst c = search needs
+
+add-i : tie.Need-add-i Inv-loop μ-loop
+add-i c = search needs
+
+loop-less : tie.Need-loop-less Inv-loop μ-loop
+loop-less c = search needs
+
+loop-again : tie.Need-loop-again Inv-loop μ-loop
+loop-again c =
+    let a = c .before .before .before .args in
+    let i = c .before .before .loop .i in (
+      search needs,
+      store-more _ _ i _ _ _ _ (length-part (a .src .now) (a .from) i (omega arith)) (part-snoc (a .src .now) (a .from) i (omega arith)) (c .before .before .loop .inv .1),
+      search needs,
+    )
+
+same-length : tie.Need-same-length Inv-loop μ-loop
+same-length c = search needs
+
+returns : tie.Need-returns Inv-loop μ-loop
+returns c =
+    let e : c .before .loop .i ≡ c .before .before .args .count = omega arith in
+    rw (← e) (c .before .loop .inv .1)
+
+pub copy-words-spec : {M : Type 1} → statement M
+copy-words-spec =
+    tie.close
+    (tie.spec
+    Inv-loop
+    μ-loop
+    loop-holds
+    add-dst
+    mul-dst
+    shared-slice-read-dst
+    add-dst-2
+    mul-dst-2
+    slice-write-dst
+    add-i
+    loop-less
+    loop-again
+    same-length
+    returns)
