@@ -1,6 +1,7 @@
 -- The map: "Map bit b of word w is slice 16 times w + b + 1; one is free."
+use mathlib.Core.Path.{_≡_}
 use mathlib.Core.List.{List}
-use Prim.Native.Nat.{ℕ, zero, suc, _+_, _-_, _*_, _/_, _%_, _^_}
+use Prim.Native.Nat.{ℕ, zero, suc, _+_, _-_, _*_, _/_, _%_, _^_, _≤_}
 use lib.Count.{ones}
 use Rattle.disc.specs.Numbers.{bitWord}
 use Rattle.disc.specs.Words.{word}
@@ -28,3 +29,8 @@ mapBits m held (suc n) k = inUnit m k * oneIfNone (occurrences k held) * 2 ^ n +
 -- Word w of that map. "Bits past M are 0."
 abbrev pub mapWord : ℕ → List ℕ → ℕ → ℕ
 mapWord m held w = mapBits m held 16 (16 * w + 1)
+
+-- The map of a unit with m slices, of which some are held: "a slice is marked used exactly when a file has it", and
+-- "Bits past M are 0." A slice of the unit is marked free or is held once; any other is neither.
+abbrev pub MapOf : List ℕ → ℕ → List ℕ → Type 0
+MapOf image m held = (k : ℕ) → 1 ≤ k → k ≤ 4096 → mapBit image k + occurrences k held ≡ inUnit m k

@@ -12,10 +12,9 @@ use Rattle.types.specs.declared.State.{State}
 use Rattle.types.specs.State.{areaAt, userAt}
 use Rattle.disc.specs.Words.{Words, Holds}
 use Rattle.disc.specs.Names.{keyOf}
-use Rattle.disc.specs.Slices.{inUnit, occurrences}
 use Rattle.disc.specs.Stretches.{indexWords, sectorIn, blockSector, fileFrom, sysFrom}
 use Rattle.disc.specs.Kit.{Kit, sysIndexSector, mapIndexSector}
-use Rattle.disc.specs.Map.{mapBit}
+use Rattle.disc.specs.Map.{MapOf}
 use Rattle.disc.specs.Entries.{placeWord, placeCount, nameAt, indexSector}
 use Rattle.plain.specs.Table.{Table, tableFind, tablePut, Every}
 use Rattle.plain.specs.Unit.{Plain, File, AreaUser, M, held, freeSectors, entry}
@@ -46,8 +45,7 @@ pub record CatalogOf (P : ℕ → ℕ → ℕ) (count H : ℕ) (E : ℕ → Opti
 pub record Layout (image : List ℕ) (p : Plain) (free : ℕ) (used : List ℕ) (E : ℕ → Option (List ℕ)) : Type 0 where
   pub size : length image ≡ 256 * p .N
   pub kit : Kit image (p .H) (p .s) (p .N) free (p .F)
-  -- a slice of the unit is marked free, or is used once; any other is neither
-  pub map : (k : ℕ) → 1 ≤ k → k ≤ 4096 → mapBit image k + occurrences k used ≡ inUnit (M p) k
+  pub map : MapOf image (M p) used
   pub sysIndex : Holds image sysIndexSector (indexWords (p .F) (p .s) (p .sys))
   pub mapIndex : Holds image mapIndexSector (1 ∷ 1 ∷ 9 ∷ [])
   pub files : Every (λ n f. FileOnImage image (p .F) (p .s) f) (p .files)

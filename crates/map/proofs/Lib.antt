@@ -1,0 +1,5 @@
+pub mod Digits
+pub mod MarkLaws
+pub mod CountLaws
+pub mod ChoiceLaws
+pub mod ScanLaws

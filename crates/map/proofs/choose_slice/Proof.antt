@@ -1,0 +1,33 @@
+-- `map::choose_slice` meets its contract. Assumes nothing.
+use mathlib.Core.Path.{sym, _∙_}
+use mathlib.Core.Logic.{⊎-elim}
+use borrow.Author.Needs.{needs}
+use Rattle.map.proofs.MarkLaws.{free-test, used-test}
+use Rattle.map.proofs.ChoiceLaws.{answer-next, answer-used, answer-end}
+use Rattle.map.proofs.choose_slice.Statement.{statement}
+use Rattle.map.proofs.choose_slice.Tie as tie
+
+add-t6 : tie.Need-add-t6
+add-t6 c = search needs
+
+is-free-requires : tie.Need-is-free-requires
+is-free-requires c κs = search needs
+
+returns : tie.Need-returns
+returns c =
+    answer-next _ _ _ (c .before .before .before .if1 .taken) (free-test _ _ (sym (c .before .is-free .ensures) ∙ c .if2 .taken))
+
+lowest-free-requires : tie.Need-lowest-free-requires
+lowest-free-requires c κs = search needs
+
+returns-2 : tie.Need-returns-2
+returns-2 c =
+    c .lowest-free .ensures
+    ∙ ⊎-elim
+    (λ w. answer-used _ _ _ (used-test _ _ (sym (w .2 .ensures) ∙ w .3 .left)))
+    (λ w. answer-end _ _ _ (w .left))
+    (c .before .if1 .came)
+
+pub choose-slice-spec : {M : Type 1} → statement M
+choose-slice-spec =
+    tie.close (tie.spec add-t6 is-free-requires returns lowest-free-requires returns-2)

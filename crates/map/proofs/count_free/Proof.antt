@@ -1,0 +1,66 @@
+-- `map::count_free` meets its contract. The loop's invariant: the ones of the words before w are summed. Assumes nothing.
+use mathlib.Core.Path.{_≡_, _∙_}
+use Prim.Native.Nat.{_+_, _-_, _*_, _≤_}
+use native.Mathlib.Omega.{arith}
+use borrow.Author.Needs.{needs}
+use lib.Count.{ones-le}
+use Rattle.disc.specs.Map.{onesBelow}
+use Rattle.map.proofs.CountLaws.{ones-all, ones-more}
+use Rattle.map.proofs.count_free.Statement.{statement}
+use Rattle.map.proofs.count_free.Tie as tie
+
+abbrev Inv-loop : tie.InvT-loop
+Inv-loop image free₀ w₀ free w = (w ≤ 256) × (free ≡ onesBelow image w) × (free ≤ 16 * w)
+
+abbrev μ-loop : tie.MeasureT-loop
+μ-loop image free₀ w₀ free w = 256 - w
+
+loop-holds : tie.Need-loop-holds Inv-loop μ-loop
+loop-holds c = search needs
+
+add-word : tie.Need-add-word Inv-loop μ-loop
+add-word c = search needs
+
+mul-word : tie.Need-mul-word Inv-loop μ-loop
+mul-word c = search needs
+
+shared-slice-read-word : tie.Need-shared-slice-read-word Inv-loop μ-loop
+shared-slice-read-word c = search needs
+
+cast-free : tie.Need-cast-free Inv-loop μ-loop
+cast-free c = let few = ones-le 16 _ (c .shared-slice-known .given (2304 + c .before .before .loop .w) .fits) in omega arith
+
+add-free : tie.Need-add-free Inv-loop μ-loop
+add-free c = let few = ones-le 16 _ (c .shared-slice-known .given (2304 + c .before .before .loop .w) .fits) in omega arith
+
+add-w : tie.Need-add-w Inv-loop μ-loop
+add-w c = search needs
+
+loop-less : tie.Need-loop-less Inv-loop μ-loop
+loop-less c = search needs
+
+loop-again : tie.Need-loop-again Inv-loop μ-loop
+loop-again c =
+    let w = c .before .before .loop .w in
+    let few = ones-le 16 _ (c .shared-slice-known .given (2304 + w) .fits) in
+    omega (arith, ones-more (c .before .before .before .args .image .now) w)
+
+returns : tie.Need-returns Inv-loop μ-loop
+returns c = c .before .loop .inv .1 ∙ ones-all _ (c .before .loop .w) (omega arith)
+
+pub count-free-spec : {M : Type 1} → statement M
+count-free-spec =
+    tie.close
+    (tie.spec
+    Inv-loop
+    μ-loop
+    loop-holds
+    add-word
+    mul-word
+    shared-slice-read-word
+    cast-free
+    add-free
+    add-w
+    loop-less
+    loop-again
+    returns)

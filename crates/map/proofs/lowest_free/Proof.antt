@@ -1,0 +1,130 @@
+-- `map::lowest_free` meets its contract. Both loops' invariant: no bit that the scan has passed is one. Assumes nothing.
+use Prim.Native.Nat.{_+_, _-_, _*_, _≤_}
+use native.Mathlib.Omega.{arith}
+use borrow.Author.Needs.{needs}
+use lib.Count.{leading-le}
+use lib.ListN.{getD}
+use lib.Pow.{pow-pos}
+use Rattle.disc.specs.Map.{mapBit}
+use Rattle.map.proofs.MarkLaws.{mapBit-le}
+use Rattle.map.proofs.ChoiceLaws.{NoneBelow, scan-none, scan-found}
+use Rattle.map.proofs.ScanLaws.{scan-bit, none-first, none-next, none-leading}
+use Rattle.map.proofs.lowest_free.Statement.{statement}
+use Rattle.map.proofs.lowest_free.Tie as tie
+
+abbrev Inv-loop : tie.InvT-loop
+Inv-loop image w word first b₀ b = (b ≤ 16) × NoneBelow (mapBit image) (16 * w + b + 1)
+
+abbrev μ-loop : tie.MeasureT-loop
+μ-loop image w word first b₀ b = 16 - b
+
+abbrev Inv-scan : tie.InvT-scan
+Inv-scan image w₀ w = (w ≤ 256) × NoneBelow (mapBit image) (16 * w + 1)
+
+abbrev μ-scan : tie.MeasureT-scan
+μ-scan image w₀ w = 256 - w
+
+scan-holds : tie.Need-scan-holds Inv-loop μ-loop Inv-scan μ-scan
+scan-holds c = (search needs, none-first _)
+
+add-word : tie.Need-add-word Inv-loop μ-loop Inv-scan μ-scan
+add-word c = search needs
+
+mul-word : tie.Need-mul-word Inv-loop μ-loop Inv-scan μ-scan
+mul-word c = search needs
+
+shared-slice-read-word : tie.Need-shared-slice-read-word Inv-loop μ-loop Inv-scan μ-scan
+shared-slice-read-word c = search needs
+
+cast-first : tie.Need-cast-first Inv-loop μ-loop Inv-scan μ-scan
+cast-first c =
+    let h = leading-le 16 (getD (c .before .before .before .before .args .image .now) (2304 + c .before .before .scan .w) 0) in
+    omega arith
+
+loop-holds : tie.Need-loop-holds Inv-loop μ-loop Inv-scan μ-scan
+loop-holds c = (
+  leading-le 16 _,
+  none-leading _ (c .before .before .scan .w) (c .shared-slice-known2 .given _ .fits) (c .before .before .scan .inv .1),
+)
+
+bit-word-requires : tie.Need-bit-word-requires Inv-loop μ-loop Inv-scan μ-scan
+bit-word-requires c κs = search needs
+
+div-if2 : tie.Need-div-if2 Inv-loop μ-loop Inv-scan μ-scan
+div-if2 c = rw (c .bit-word .ensures) (pow-pos _)
+
+mul-t17 : tie.Need-mul-t17 Inv-loop μ-loop Inv-scan μ-scan
+mul-t17 c = search needs
+
+add-t18 : tie.Need-add-t18 Inv-loop μ-loop Inv-scan μ-scan
+add-t18 c = search needs
+
+add-t19 : tie.Need-add-t19 Inv-loop μ-loop Inv-scan μ-scan
+add-t19 c = search needs
+
+cast-t20 : tie.Need-cast-t20 Inv-loop μ-loop Inv-scan μ-scan
+cast-t20 c = search needs
+
+add-b : tie.Need-add-b Inv-loop μ-loop Inv-scan μ-scan
+add-b c = search needs
+
+loop-less : tie.Need-loop-less Inv-loop μ-loop Inv-scan μ-scan
+loop-less c = search needs
+
+loop-again : tie.Need-loop-again Inv-loop μ-loop Inv-scan μ-scan
+loop-again c =
+    let image = c .before .before .before .before .before .before .before .before .args .image .now in
+    let w = c .before .before .before .before .before .before .scan .w in
+    let b = c .before .before .before .loop .b in
+    let test = scan-bit image w b _ (c .before .before .loop-test .taken) (c .before .bit-word .ensures) in (
+      search needs,
+      none-next image (16 * w + b + 1) _ (omega arith) (c .before .before .before .loop .inv .1) (omega (arith, mapBit-le image (16 * w + b + 1))),
+    )
+
+add-w : tie.Need-add-w Inv-loop μ-loop Inv-scan μ-scan
+add-w c = search needs
+
+scan-less : tie.Need-scan-less Inv-loop μ-loop Inv-scan μ-scan
+scan-less c = search needs
+
+scan-again : tie.Need-scan-again Inv-loop μ-loop Inv-scan μ-scan
+scan-again c = (search needs, λ j p q. c .before .loop .inv .1 j p (omega arith))
+
+returns : tie.Need-returns Inv-loop μ-loop Inv-scan μ-scan
+returns c = scan-none _ (16 * c .before .scan .w + 1) (omega arith) (c .before .scan .inv .1)
+
+returns-2 : tie.Need-returns-2 Inv-loop μ-loop Inv-scan μ-scan
+returns-2 c =
+    let w = c .before .before .before .before .before .before .scan .w in
+    let b = c .before .before .before .loop .b in
+    let test = scan-bit (c .before .before .before .before .before .before .before .before .args .image .now) w b _ (c .before .before .loop-test .taken) (c .before .bit-word .ensures) in
+    scan-found _ (16 * w + b + 1) (omega arith) (omega arith) (λ z. omega arith) (c .before .before .before .loop .inv .1)
+
+pub lowest-free-spec : {M : Type 1} → statement M
+lowest-free-spec =
+    tie.close
+    (tie.spec
+    Inv-loop
+    μ-loop
+    Inv-scan
+    μ-scan
+    scan-holds
+    add-word
+    mul-word
+    shared-slice-read-word
+    cast-first
+    loop-holds
+    bit-word-requires
+    div-if2
+    mul-t17
+    add-t18
+    add-t19
+    cast-t20
+    add-b
+    loop-less
+    loop-again
+    add-w
+    scan-less
+    scan-again
+    returns
+    returns-2)

@@ -1,0 +1,105 @@
+// The map of free slices, sector 9 of the image: its bits, their count, and the choice of a slice to take.
+
+ghost use mathlib.Core.Path.{_≡_};
+ghost use Prim.Native.Nat.{_≤_};
+ghost use lib.Dec.{eqb};
+ghost use lib.ListN.{length};
+ghost use Rattle.disc.specs.Map.{mapBit, onesInMap};
+ghost use Rattle.map.specs.Marks.{marked, markedUsed, markedFree};
+ghost use Rattle.map.specs.Choice.{lowestFree, chosen, choiceOf};
+use types::Slice;
+
+// The image's index of the map's first word, and the words of the map.
+const MAP: usize = 9 * 256;
+
+const MAP_WORDS: usize = 256;
+
+// The slice to take, if one is free.
+pub enum Choice {
+    Free(Slice),
+    None,
+}
+
+// Whether slice k is marked free.
+pub fn is_free(image: &[u16], k: Slice) -> bool
+    requires { ⌜ (1 ≤ k .0) × (k .0 ≤ 4096) × (2560 ≤ length (now image)) ⌝ }
+    ensures { λ r. ⌜ r ≡ eqb (mapBit (now (image .entry)) (k .0)) 1 ⌝ }
+{
+    let word = image[MAP + (k.0 as usize - 1) / 16];
+    word / numbers::bit_word((k.0 as usize - 1) % 16) % 2 == 1
+}
+
+// Makes slice k's bit v: what the bit adds to its word is taken off, and v times the bit's word added.
+fn mark(image: &mut [u16], k: Slice, v: u16)
+    requires { ⌜ (1 ≤ k .0) × (k .0 ≤ 4096) × (2560 ≤ length (now image)) × (v ≤ 1) ⌝ }
+    ensures { λ _. ⌜ now (image .exit) ≡ marked v (now (image .entry)) (k .0) ⌝ }
+{
+    let at = MAP + (k.0 as usize - 1) / 16;
+    let word = image[at];
+    let bit = numbers::bit_word((k.0 as usize - 1) % 16);
+    image[at] = word - word / bit % 2 * bit + v * bit;
+}
+
+// Marks slice k used: its bit becomes 0.
+pub fn mark_used(image: &mut [u16], k: Slice)
+    requires { ⌜ (1 ≤ k .0) × (k .0 ≤ 4096) × (2560 ≤ length (now image)) ⌝ }
+    ensures { λ _. ⌜ now (image .exit) ≡ markedUsed (now (image .entry)) (k .0) ⌝ }
+{
+    mark(image, k, 0);
+}
+
+// Marks slice k free: its bit becomes 1.
+pub fn mark_free(image: &mut [u16], k: Slice)
+    requires { ⌜ (1 ≤ k .0) × (k .0 ≤ 4096) × (2560 ≤ length (now image)) ⌝ }
+    ensures { λ _. ⌜ now (image .exit) ≡ markedFree (now (image .entry)) (k .0) ⌝ }
+{
+    mark(image, k, 1);
+}
+
+// The number of slices marked free: the ones of each map word, summed.
+pub fn count_free(image: &[u16]) -> u16
+    requires { ⌜ 2560 ≤ length (now image) ⌝ }
+    ensures { λ r. ⌜ r ≡ onesInMap (now (image .entry)) ⌝ }
+{
+    let mut free: u16 = 0;
+    for w in 0..MAP_WORDS {
+        let word = image[MAP + w];
+        free += u16::count_ones(word) as u16;
+    }
+    free
+}
+
+// The lowest slice marked free: word by word, and in a word from its first one on.
+pub fn lowest_free(image: &[u16]) -> Choice
+    requires { ⌜ 2560 ≤ length (now image) ⌝ }
+    ensures { λ r. ⌜ r ≡ choiceOf (lowestFree (mapBit (now (image .entry)))) ⌝ }
+{
+    let mut w: usize = 0;
+    'scan: loop {
+        if w == MAP_WORDS {
+            break 'scan Choice::None;
+        }
+        let word = image[MAP + w];
+        let first = u16::leading_zeros(word) as usize;
+        for b in first..16 {
+            if word / numbers::bit_word(b) % 2 == 1 {
+                break 'scan Choice::Free(Slice((16 * w + b + 1) as u16));
+            }
+        }
+        w += 1;
+    }
+}
+
+// The slice to take for a file whose last slice is `last`, 0 if it has none, in a unit with this number of slices.
+pub fn choose_slice(image: &[u16], last: Slice, slices: u16) -> Choice
+    requires { ⌜ (slices ≤ 4096) × (2560 ≤ length (now image)) ⌝ }
+    ensures { λ r. ⌜ r ≡ choiceOf (chosen (mapBit (now (image .entry))) slices (last .0)) ⌝ }
+{
+    if last.0 < slices {
+        let next = Slice(last.0 + 1);
+        if is_free(image, next) {
+            return Choice::Free(next);
+        }
+    }
+    lowest_free(image)
+}
