@@ -3,3 +3,4 @@ pub mod Ground
 pub mod Unique
 pub mod UnitFiles
 pub mod UnitSlices
+pub mod UnitSound

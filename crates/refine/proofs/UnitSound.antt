@@ -1,0 +1,119 @@
+-- What a good plain unit is represented by is sound: the image's part.
+use mathlib.Core.Path.{_≡_, refl, sym, ap, _∙_}
+use mathlib.Core.Bool.{Bool, not}
+use mathlib.Core.List.{List, [], _∷_, _++_}
+use mathlib.Core.Logic.{_≢_, _⊎_, inl, inr, ⊎-elim}
+use mathlib.Core.Option.{Option, none, some}
+use Prim.Native.Nat.{ℕ, zero, suc, _+_, _*_, _-_, _/_, _%_, _≤_, _<_}
+use native.Mathlib.Omega.{arith}
+use lib.ListN.{length, getD}
+use lib.Dec.{T, not-T, T-not}
+use Rattle.types.specs.declared.State.{State}
+use Rattle.disc.specs.Numbers.{ceilDiv, sliceCount}
+use Rattle.disc.specs.Words.{word, Holds}
+use Rattle.disc.specs.Names.{SYS, MAP, isSystem, legalName, keyOf}
+use Rattle.disc.specs.Slices.{occurrences, InRangeOnce}
+use Rattle.disc.specs.Stretches.{slicesAt}
+use Rattle.disc.specs.Kit.{Kit, sysIndexSector}
+use Rattle.disc.specs.Map.{mapBit, onesInMap}
+use Rattle.disc.specs.Entries.{nameAt, sysEntry, mapEntry}
+use Rattle.disc.proofs.SliceLaws.{inUnit-in, inUnit-no}
+use Rattle.disc.proofs.IndexRead.{slices-read}
+use Rattle.map.proofs.CountLaws.{ones-free}
+use Rattle.plain.specs.Table.{Table, tableFind}
+use Rattle.plain.specs.Unit.{Plain, File, M, held, fileEntry, entry}
+use Rattle.plain.specs.Good.{Good}
+use Rattle.plain.proofs.TableLaws.{some≢none}
+use Rattle.plain.proofs.UnitLaws.{mapSome, entry-sys, entry-map, entry-other, system-cases, legal-positive}
+use Rattle.sound.specs.Places.{Unused, Used, Entered, LegalPlace, IndexBlock}
+use Rattle.sound.specs.Sound.{SoundEntries, SoundMap, SoundFile, allSlices}
+use Rattle.refine.specs.Represents.{PlaceOf, Represents}
+use Rattle.refine.proofs.CatalogLaws.{At, at, Named}
+use Rattle.refine.proofs.Ground.{Ground, ground, entry-named, positive, sys-slices}
+use Rattle.refine.proofs.UnitFiles.{P, count, file-at, sound-file, index-block}
+use Rattle.refine.proofs.UnitSlices.{all-held}
+
+module _ {image : List ℕ} {state : State} {p : Plain} (g : Good p) (r : Represents image state p) where
+  abbrev Q : ℕ → ℕ → ℕ
+  Q = P g r
+
+  abbrev N : ℕ
+  N = count g r
+
+  gr : Ground p
+  gr = ground p g
+
+  nm : Named (entry p)
+  nm = entry-named p (g .names)
+
+  -- ---- SYS and the kit
+
+  -- the free word is s times the ones
+  pub kit-ones : Kit image (p .H) (p .s) (p .N) (p .s * onesInMap image) (p .F)
+  kit-ones =
+      let ones : onesInMap image ≡ Rattle.plain.specs.Unit.freeSlices p = ones-free (M p) (held p) image (g .limits .slices-high) (r .layout .map) (r .words) in
+      rw ones (r .layout .kit)
+
+  sys-some : 0 < length (p .sys)
+  sys-some = go (p .sys) (g .sysFirst)
+    where
+      go : (l : List ℕ) → Rattle.disc.specs.Slices.firstOf l ≡ 1 → 0 < length l
+      go [] e = absurd (omega arith)
+      go (x ∷ l) e = omega arith
+
+  -- sector 6 describes SYS's slices
+  pub sys-read : slicesAt image (p .F) (p .s) sysIndexSector ≡ p .sys
+  sys-read = slices-read image (p .F) (p .s) sysIndexSector (p .sys) (positive p gr) (sys-slices p gr) (g .sysFew) (r .layout .sysIndex)
+
+  pub sys-index : IndexBlock image (p .F) (p .s) sysIndexSector
+  sys-index = index-block image (p .F) (p .s) sysIndexSector (p .sys) (positive p gr) (sys-slices p gr) sys-some (g .sysFew) (r .layout .sysIndex)
+
+  -- ---- entries
+
+  entered : (n : ℕ) (e : List ℕ) → entry p n ≡ some e → Entered Q N e
+  entered n e h = let a = at (r .layout .catalog) nm n e h in record { place = a .place; inside = a .inside; holds = a .holds }
+
+  pub sys-entered : Entered Q N (sysEntry (p .H) (p .s) (p .layers) (p .sys))
+  sys-entered = entered SYS (sysEntry (p .H) (p .s) (p .layers) (p .sys)) (entry-sys p)
+
+  pub map-entered : Entered Q N mapEntry
+  map-entered = entered MAP mapEntry (entry-map p)
+
+  -- every name with an entry is legal
+  entry-legal : (n : ℕ) (e : List ℕ) → entry p n ≡ some e → T (legalName n)
+  entry-legal n e h = system-cases n
+      (λ q. rw q tt)
+      (λ q. rw q tt)
+      (λ a b. go (tableFind n (p .files)) refl (sym (entry-other p n a b) ∙ h))
+    where
+      go : (o : Option File) → tableFind n (p .files) ≡ o → mapSome (fileEntry (p .F) (p .s) n) o ≡ some e → T (legalName n)
+      go none q z = absurd (some≢none (sym z))
+      go (some f) q z = g .files n f q .name
+
+  pub legal-place : (t : ℕ) → t < N → Used Q t → LegalPlace Q (p .H) t
+  legal-place t x used = ⊎-elim
+      (λ (z : Unused Q t). absurd (used z))
+      (λ (u : PlaceOf Q (p .H) (entry p) t). record { name = entry-legal (nameAt Q t) (u .words) (u .entered); key = u .key })
+      (r .layout .catalog .each t x)
+
+  pub sound-entries : SoundEntries image state (p .H) (p .s) (p .F) Q N
+  sound-entries = record {
+    legal = legal-place;
+    alone = λ t u x y a b e. r .layout .catalog .alone t u x y e (λ z. let k = legal-positive (nameAt Q t) (legal-place t x a .name) in omega arith);
+    files = λ t x used other. let f = file-at g r t x used other in sound-file g r (nameAt Q t) (f .0) (f .1) t refl (f .2);
+  }
+
+  -- ---- slices and map
+
+  pub sound-once : InRangeOnce (M p) (allSlices image state (p .F) (p .s) (p .sys) N)
+  sound-once k = rw (all-held g r k) (g .once k)
+
+  pub sound-map : SoundMap image (M p) (allSlices image state (p .F) (p .s) (p .sys) N)
+  sound-map = record {
+    marked = λ k a b.
+        let e = r .layout .map k a (omega (arith, g .limits .slices-high)) in
+        let one = inUnit-in (M p) k a b in
+        let held-same = all-held g r k in
+        ((λ z. omega arith), (λ z. omega arith));
+    past = λ k a b. omega (arith, r .layout .map k (omega arith) b, inUnit-no (M p) k a);
+  }
