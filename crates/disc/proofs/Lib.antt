@@ -8,3 +8,4 @@ pub mod Geometry
 pub mod EntryLaws
 pub mod IndexUnique
 pub mod IndexRead
+pub mod DecideLaws

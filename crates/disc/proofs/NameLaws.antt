@@ -1,9 +1,11 @@
--- Laws of `pack`: three words come back from the number that they make, whole and by their characters.
+-- Laws of names: three words come back from the number that they make, whole and by their characters; capitals.
 use mathlib.Core.Path.{_≡_, ap}
+use mathlib.Core.Bool.{Bool, true, false, _&&_, cond}
 use mathlib.Core.List.{[], _∷_}
-use Prim.Native.Nat.{ℕ, _+_, _/_, _%_, _<_}
+use Prim.Native.Nat.{ℕ, _+_, _-_, _/_, _%_, _≤_, _<_}
 use native.Mathlib.Omega.{arith}
-use Rattle.disc.specs.Names.{pack, nameWords, keyOf}
+use lib.Dec.{leb}
+use Rattle.disc.specs.Names.{pack, nameWords, capital, keyOf}
 
 -- the three words
 pub pack-first : (a b c : ℕ) → b < 65536 → c < 65536 → pack a b c / 0x100000000 ≡ a
@@ -32,7 +34,17 @@ pack-small a b c p q r = omega arith
 pub key-pack : (a b c H : ℕ) → b < 65536 → c < 65536 → keyOf H (pack a b c) ≡ (a + b + c) % 65536 % H
 key-pack a b c H p q = ap (λ (n : ℕ). n % 65536 % H) (omega arith)
 
--- the six characters
+-- ---- capitals
+
+pub capital-le : (c : ℕ) → capital c ≤ c
+capital-le c = go (leb 97 c && leb c 122)
+  where
+    go : (b : Bool) → cond b (c - 32) c ≤ c
+    go true = omega arith
+    go false = omega arith
+
+-- ---- the six characters
+
 pub pack-char0 : (a b c : ℕ) → b < 65536 → c < 65536 → pack a b c / 0x10000000000 ≡ a / 256
 pack-char0 a b c p q = omega arith
 

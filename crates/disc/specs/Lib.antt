@@ -1,3 +1,4 @@
+pub mod Decide
 pub mod Numbers
 pub mod Words
 pub mod Names

@@ -133,11 +133,13 @@ unfolding sectorWords
 getD-sectorWords image q b h = getD-take 256 (drop (q * 256) image) b 0 h ∙ getD-drop (q * 256) image b 0
 
 -- a sector's words at the start of the lent ones
-pub sectorWords-front : (image : List ℕ) (q : ℕ) (lent : List ℕ) → q * 256 + 256 ≤ length image → 256 ≤ length lent → store lent 0 (take 256 (drop (q * 256) image)) ≡ sectorWords image q ++ drop 256 lent
+pub sectorWords-front : (image : List ℕ) (q : ℕ) (lent filled : List ℕ) → q * 256 + 256 ≤ length image → 256 ≤ length lent
+    → filled ≡ store lent 0 (take 256 (drop (q * 256) image)) → filled ≡ sectorWords image q ++ drop 256 lent
 unfolding sectorWords
-sectorWords-front image q lent inside room =
-    let n : length (take 256 (drop (q * 256) image)) ≡ 256 = length-part image (q * 256) 256 inside in
-    store-front lent (take 256 (drop (q * 256) image)) (omega arith) ∙ ap (λ (k : ℕ). take 256 (drop (q * 256) image) ++ drop k lent) n
+sectorWords-front image q lent filled inside room e =
+    let part = take 256 (drop (q * 256) image) in
+    let n : length part ≡ 256 = length-part image (q * 256) 256 inside in
+    e ∙ store-front lent part (omega arith) ∙ ap (λ (k : ℕ). part ++ drop k lent) n
 
 pub words-sectorWords : (image : List ℕ) (q : ℕ) → Words image → Words (sectorWords image q)
 unfolding sectorWords

@@ -1,5 +1,4 @@
 -- `words::copy_sector` meets its contract. Assumes nothing.
-use mathlib.Core.Path.{_∙_}
 use borrow.Author.Needs.{needs}
 use Rattle.words.proofs.StoreLaws.{sectorWords-front}
 use Rattle.words.proofs.copy_sector.Statement.{statement}
@@ -20,8 +19,8 @@ same-length c = search needs
 returns : tie.Need-returns
 returns c =
     let start = c .before .before .before .before .before .before .before in
-    c .before .before .copy-words .ensures
-    ∙ sectorWords-front (start .args .image .now) (start .args .q .0) (start .args .lent .now) (start .pre .1) (start .pre .0)
+    sectorWords-front (start .args .image .now) (start .args .q .0) (start .args .lent .now) _ (start .pre .1) (start .pre .0)
+    (c .before .before .copy-words .ensures)
 
 pub copy-sector-spec : {M : Type 1} → statement M
 copy-sector-spec = tie.close (tie.spec cast-copy-words mul-copy-words copy-words-requires same-length returns)

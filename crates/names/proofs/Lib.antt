@@ -1,0 +1,2 @@
+mod LegalLaws
+pub mod NameIsLaws

@@ -1,0 +1,133 @@
+-- `names::legal` meets its contract: each test that passes leaves the rest to decide. Assumes nothing.
+use mathlib.Core.Path.{_≡_, sym, ap, _∙_}
+use mathlib.Core.Bool.{Bool}
+use Prim.Native.Nat.{ℕ}
+use borrow.Author.Needs.{needs}
+use Rattle.disc.specs.Names.{pack, legalName}
+use Rattle.names.proofs.LegalLaws.{rest1, rest2, rest3, rest4, begins, begins-not, goes-1, goes-2, goes-3, goes-4, stops-1, stops-2, stops-3, stops-4, tested, tested-not}
+use Rattle.names.proofs.legal.Statement.{statement}
+use Rattle.names.proofs.legal.Tie as tie
+
+-- the name's number, and what is to be decided, where a test has passed
+abbrev number1 : tie.Else1 → ℕ
+number1 c = c .before .before .packed .result
+
+abbrev whole1 : tie.Else1 → Bool
+whole1 c = let name = c .before .before .before .args .name in legalName (pack (name .0) (name .1) (name .2))
+
+abbrev number2 : tie.Else2 → ℕ
+number2 c = number1 (c .before .before)
+
+abbrev whole2 : tie.Else2 → Bool
+whole2 c = whole1 (c .before .before)
+
+abbrev number3 : tie.Else3 → ℕ
+number3 c = number2 (c .before .before)
+
+abbrev whole3 : tie.Else3 → Bool
+whole3 c = whole2 (c .before .before)
+
+abbrev number4 : tie.Else4 → ℕ
+number4 c = number3 (c .before .before)
+
+abbrev whole4 : tie.Else4 → Bool
+whole4 c = whole3 (c .before .before)
+
+-- what decides there
+left1 : (c : tie.Else1) → whole1 c ≡ rest1 (number1 c)
+left1 c =
+    ap legalName (sym (c .before .before .packed .ensures)) ∙ begins (number1 c) (tested (c .before .is-letter .ensures) (c .if1 .left))
+
+left2 : (c : tie.Else2) → whole2 c ≡ rest2 (number2 c)
+left2 c = left1 (c .before .before) ∙ goes-1 (number2 c) (tested (c .before .is-letter-or-digit .ensures) (c .if2 .left))
+
+left3 : (c : tie.Else3) → whole3 c ≡ rest3 (number3 c)
+left3 c = left2 (c .before .before) ∙ goes-2 (number3 c) (tested (c .before .is-letter-or-digit2 .ensures) (c .if3 .left))
+
+left4 : (c : tie.Else4) → whole4 c ≡ rest4 (number4 c)
+left4 c = left3 (c .before .before) ∙ goes-3 (number4 c) (tested (c .before .is-letter-or-digit3 .ensures) (c .if4 .left))
+
+packed-requires : tie.Need-packed-requires
+packed-requires c κs = search needs
+
+cast-is-letter : tie.Need-cast-is-letter
+cast-is-letter c = search needs
+
+is-letter-requires : tie.Need-is-letter-requires
+is-letter-requires c κs = search needs
+
+returns : tie.Need-returns
+returns c =
+    let n = c .before .before .packed in
+    sym (begins-not (n .result) (tested-not (c .before .is-letter .ensures) (c .if1 .taken))) ∙ ap legalName (n .ensures)
+
+cast-is-letter-or-digit : tie.Need-cast-is-letter-or-digit
+cast-is-letter-or-digit c = search needs
+
+is-letter-or-digit-requires : tie.Need-is-letter-or-digit-requires
+is-letter-or-digit-requires c κs = search needs
+
+returns-2 : tie.Need-returns-2
+returns-2 c =
+    let b = c .before .before in
+    sym (left1 b ∙ stops-1 (number1 b) (tested-not (c .before .is-letter-or-digit .ensures) (c .if2 .taken)))
+
+cast-is-letter-or-digit-2 : tie.Need-cast-is-letter-or-digit-2
+cast-is-letter-or-digit-2 c = search needs
+
+is-letter-or-digit-requires-2 : tie.Need-is-letter-or-digit-requires-2
+is-letter-or-digit-requires-2 c κs = search needs
+
+returns-3 : tie.Need-returns-3
+returns-3 c =
+    let b = c .before .before in
+    sym (left2 b ∙ stops-2 (number2 b) (tested-not (c .before .is-letter-or-digit2 .ensures) (c .if3 .taken)))
+
+cast-is-letter-or-digit-3 : tie.Need-cast-is-letter-or-digit-3
+cast-is-letter-or-digit-3 c = search needs
+
+is-letter-or-digit-requires-3 : tie.Need-is-letter-or-digit-requires-3
+is-letter-or-digit-requires-3 c κs = search needs
+
+returns-4 : tie.Need-returns-4
+returns-4 c =
+    let b = c .before .before in
+    sym (left3 b ∙ stops-3 (number3 b) (tested-not (c .before .is-letter-or-digit3 .ensures) (c .if4 .taken)))
+
+cast-is-letter-or-digit-4 : tie.Need-cast-is-letter-or-digit-4
+cast-is-letter-or-digit-4 c = search needs
+
+is-letter-or-digit-requires-4 : tie.Need-is-letter-or-digit-requires-4
+is-letter-or-digit-requires-4 c κs = search needs
+
+returns-5 : tie.Need-returns-5
+returns-5 c =
+    let b = c .before .before in
+    sym (left4 b ∙ stops-4 (number4 b) (tested-not (c .before .is-letter-or-digit4 .ensures) (c .if5 .taken)))
+
+returns-6 : tie.Need-returns-6
+returns-6 c =
+    let b = c .before .before in
+    sym (left4 b ∙ goes-4 (number4 b) (tested (c .before .is-letter-or-digit4 .ensures) (c .if5 .left)))
+
+pub legal-spec : {M : Type 1} → statement M
+legal-spec =
+    tie.close
+    (tie.spec
+    packed-requires
+    cast-is-letter
+    is-letter-requires
+    returns
+    cast-is-letter-or-digit
+    is-letter-or-digit-requires
+    returns-2
+    cast-is-letter-or-digit-2
+    is-letter-or-digit-requires-2
+    returns-3
+    cast-is-letter-or-digit-3
+    is-letter-or-digit-requires-3
+    returns-4
+    cast-is-letter-or-digit-4
+    is-letter-or-digit-requires-4
+    returns-5
+    returns-6)

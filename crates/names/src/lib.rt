@@ -1,0 +1,136 @@
+// Names: their number, capitals, legal names, the unit character, SYS and MAP. All comparing and folding of names is here.
+
+ghost use mathlib.Core.Path.{_≡_};
+ghost use mathlib.Core.Bool.{_||_};
+ghost use lib.Dec.{eqb};
+ghost use Rattle.disc.specs.Names.{pack, letter, digit, legalName, capital, capitals, named, unitIn, SYS, MAP, isSystem};
+ghost use Rattle.names.specs.NameIs.{NameIs};
+use types::Name;
+
+// 'SYS' and 'MAP' as numbers.
+const SYS_NUMBER: u64 = 0x5359_5300_0000;
+
+const MAP_NUMBER: u64 = 0x4D41_5000_0000;
+
+// 'SYS'.
+pub fn sys_name() -> Name
+    ensures { λ r. ⌜ NameIs r SYS ⌝ }
+{
+    Name(0x5359, 0x5300, 0)
+}
+
+// 'MAP'.
+pub fn map_name() -> Name
+    ensures { λ r. ⌜ NameIs r MAP ⌝ }
+{
+    Name(0x4D41, 0x5000, 0)
+}
+
+// The three words as one number, the first word highest.
+pub fn packed(name: Name) -> u64
+    ensures { λ r. ⌜ r ≡ pack (name .0) (name .1) (name .2) ⌝ }
+{
+    (name.0 as u64 * 65536 + name.1 as u64) * 65536 + name.2 as u64
+}
+
+// Whether two names have the same words.
+pub fn same_name(a: Name, b: Name) -> bool
+    ensures { λ r. ⌜ r ≡ eqb (pack (a .0) (a .1) (a .2)) (pack (b .0) (b .1) (b .2)) ⌝ }
+{
+    packed(a) == packed(b)
+}
+
+// Whether a name is 'SYS' or 'MAP'.
+pub fn is_system(name: Name) -> bool
+    ensures { λ r. ⌜ r ≡ isSystem (pack (name .0) (name .1) (name .2)) ⌝ }
+{
+    let n = packed(name);
+    if n == SYS_NUMBER {
+        return true;
+    }
+    n == MAP_NUMBER
+}
+
+// A small letter's capital; any other character as it is.
+pub fn capital(c: u16) -> u16
+    ensures { λ r. ⌜ r ≡ capital c ⌝ }
+{
+    if c < 97 {
+        return c;
+    }
+    if 122 < c {
+        return c;
+    }
+    c - 32
+}
+
+// Both characters of a word in capitals.
+pub fn capitals(w: u16) -> u16
+    ensures { λ r. ⌜ r ≡ capitals w ⌝ }
+{
+    capital(w / 256) * 256 + capital(w % 256)
+}
+
+// The name that three words mean: in capitals, the sixth character 0.
+pub fn fold(name: Name) -> Name
+    ensures { λ r. ⌜ NameIs r (named name) ⌝ }
+{
+    Name(
+        capitals(name.0),
+        capitals(name.1),
+        capital(name.2 / 256) * 256,
+    )
+}
+
+// The unit number in a message's name.
+pub fn unit_of(name: Name) -> u16
+    ensures { λ r. ⌜ r ≡ unitIn name ⌝ }
+{
+    name.2 % 256
+}
+
+// Whether a character is a capital letter.
+pub fn is_letter(c: u16) -> bool
+    ensures { λ r. ⌜ r ≡ letter c ⌝ }
+{
+    if c < 65 {
+        return false;
+    }
+    c <= 90
+}
+
+// Whether a character is a capital letter or a digit.
+pub fn is_letter_or_digit(c: u16) -> bool
+    ensures { λ r. ⌜ r ≡ letter c || digit c ⌝ }
+{
+    if is_letter(c) {
+        return true;
+    }
+    if c < 48 {
+        return false;
+    }
+    c <= 57
+}
+
+// Whether a name is legal and in capitals: a letter, letters or digits, then zeros to the sixth character.
+pub fn legal(name: Name) -> bool
+    ensures { λ r. ⌜ r ≡ legalName (pack (name .0) (name .1) (name .2)) ⌝ }
+{
+    let n = packed(name);
+    if !is_letter((n / 0x100_0000_0000) as u16) {
+        return false;
+    }
+    if !is_letter_or_digit((n / 0x1_0000_0000 % 256) as u16) {
+        return n % 0x100_0000_0000 == 0;
+    }
+    if !is_letter_or_digit((n / 0x100_0000 % 256) as u16) {
+        return n % 0x1_0000_0000 == 0;
+    }
+    if !is_letter_or_digit((n / 65536 % 256) as u16) {
+        return n % 0x100_0000 == 0;
+    }
+    if !is_letter_or_digit((n / 256 % 256) as u16) {
+        return n % 65536 == 0;
+    }
+    n % 256 == 0
+}

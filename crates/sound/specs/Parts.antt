@@ -1,0 +1,50 @@
+-- The rules of a sound unit in the parts in which they are decided, and the marks of slices that files have.
+use mathlib.Core.Path.{_≡_}
+use mathlib.Core.Bool.{Bool, true, false}
+use mathlib.Core.List.{List, [], _∷_, _++_}
+use Prim.Native.Nat.{ℕ, _*_, _-_, _≤_, _<_}
+use lib.ListN.{length, getD}
+use lib.Dec.{T}
+use Rattle.types.specs.declared.State.{State}
+use Rattle.types.specs.State.{areaAt}
+use Rattle.disc.specs.Numbers.{ceilDiv}
+use Rattle.disc.specs.Words.{Holds}
+use Rattle.disc.specs.Names.{isSystem}
+use Rattle.disc.specs.Slices.{InRangeOnce, occurrences}
+use Rattle.disc.specs.Kit.{Kit, Limits, mapIndexSector}
+use Rattle.disc.specs.Map.{onesInMap}
+use Rattle.disc.specs.Entries.{nameAt, sysEntry, mapEntry}
+use Rattle.sound.specs.Places.{Used, Entered, LegalPlace}
+use Rattle.sound.specs.State.{DistinctAreas, IsOpen, LegalUsers}
+
+-- "The image has 256 times N words, laid out as above; the kit is within limits; free sectors equals s times the ones in the
+-- map"; MAP has "the index 1, 1, 9".
+pub record SoundKit (image : List ℕ) (H s F N : ℕ) : Type 0 where
+  pub size : length image ≡ 256 * N
+  pub kit : Kit image H s N (s * onesInMap image) F
+  pub limits : Limits H s F N
+  pub mapIndex : Holds image mapIndexSector (1 ∷ 1 ∷ 9 ∷ [])
+
+-- The names: "Every used entry has a legal name in capitals, alone of that name, in a sector of its key"; SYS and MAP are
+-- entered.
+pub record SoundNames (H s L : ℕ) (sys : List ℕ) (P : ℕ → ℕ → ℕ) (count : ℕ) : Type 0 where
+  pub sysEntered : Entered P count (sysEntry H s L sys)
+  pub mapEntered : Entered P count mapEntry
+  pub legal : (t : ℕ) → t < count → Used P t → LegalPlace P H t
+  pub alone : (t u : ℕ) → t < count → u < count → Used P t → Used P u → nameAt P t ≡ nameAt P u → t ≡ u
+
+-- The users of all open areas, and their distinct names.
+pub record SoundUsers (state : State) : Type 0 where
+  pub distinct : DistinctAreas state
+  pub users : (j : ℕ) → j < 8 → IsOpen state j → LegalUsers (areaAt state j)
+
+-- A mark for each slice, 1 where it is in the list and 0 where it is not: mark k - 1 is slice k's.
+pub record MarksOf (marks : List ℕ) (slices : List ℕ) : Type 0 where
+  pub size : length marks ≡ 4096
+  pub each : (k : ℕ) → 1 ≤ k → k ≤ 4096 → getD marks (k - 1) 0 ≡ occurrences k slices
+
+-- The answer is true exactly if Q holds and the new slices, beside those marked before, are the unit's and stand once; then
+-- they are marked too.
+pub record Marking (answer : Bool) (Q : Type 0) (m : ℕ) (marks : List ℕ) (slices new : List ℕ) : Type 0 where
+  pub yes : answer ≡ true → Q × InRangeOnce m (slices ++ new) × MarksOf marks (slices ++ new)
+  pub not : answer ≡ false → Q → InRangeOnce m (slices ++ new) → ⊥
