@@ -44,6 +44,16 @@ inUnit-out m (suc k) p = go (compare k m) (tri k m) p
     go o (same h) p = absurd (omega arith)
     go o (more h) p = absurd (omega arith)
 
+-- more slices have room for more
+pub inUnit-mono : (m n k : ℕ) → m ≤ n → inUnit m k ≤ inUnit n k
+inUnit-mono m n zero h = omega arith
+inUnit-mono m n (suc k) h = go (compare k m) (tri k m)
+  where
+    go : (o : Ordering) → Tri k m o → oneIfBelow o ≤ inUnit n (suc k)
+    go o (less l) = omega (arith, inUnit-in n (suc k) (omega arith) (omega arith))
+    go o (same e) = omega arith
+    go o (more l) = omega arith
+
 pub occurrences-self : (k : ℕ) (h : List ℕ) → occurrences k (k ∷ h) ≡ suc (occurrences k h)
 occurrences-self k h = rw (tri-same k) (omega arith)
 

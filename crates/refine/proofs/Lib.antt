@@ -4,3 +4,5 @@ pub mod Unique
 pub mod UnitFiles
 pub mod UnitSlices
 pub mod UnitSound
+pub mod Sectors
+pub mod Writers

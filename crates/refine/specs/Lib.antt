@@ -1,2 +1,3 @@
 pub mod Represents
+pub mod Writes
 pub mod Demands

@@ -1,0 +1,269 @@
+-- The writers: each changes one part of the layout and leaves the others.
+use mathlib.Core.Path.{_≡_, refl, sym, ap, _∙_}
+use mathlib.Core.List.{List, [], _∷_, _++_}
+use mathlib.Core.Logic.{_≢_, _⊎_, inl, inr}
+use mathlib.Core.Option.{Option, none, some}
+use Prim.Native.Nat.{ℕ, zero, suc, _+_, _*_, _-_, _/_, _%_, _≤_, _<_}
+use native.Mathlib.Omega.{arith}
+use lib.ListN.{length, getD, List·getD-append}
+use Rattle.disc.specs.Numbers.{sliceStart}
+use Rattle.disc.specs.Words.{word, Holds}
+use Rattle.disc.specs.Names.{keyOf}
+use Rattle.disc.specs.Slices.{occurrences, inUnit, InRangeOnce}
+use Rattle.disc.specs.Stretches.{sectorIn, indexWords, sysFrom}
+use Rattle.disc.specs.Kit.{Kit, kitSector}
+use Rattle.disc.specs.Map.{mapBit, MapOf}
+use Rattle.disc.specs.Entries.{placeWord, placeCount, nameAt}
+use Rattle.disc.proofs.Compare.{same-or, below-or}
+use Rattle.disc.proofs.SliceLaws.{inUnit-mono, occurrences-append}
+use Rattle.words.specs.Store.{store, zeroWords}
+use Rattle.words.proofs.StoreLaws.{length-zeroWords, getD-zeroWords, word-store-in, word-store-beside}
+use Rattle.map.specs.Marks.{allUsed, allFree}
+use Rattle.map.proofs.MarkLaws.{map-taken, map-freed, in-map}
+use Rattle.plain.specs.Table.{Table, tableFind, tablePut, tableRemove}
+use Rattle.plain.specs.Unit.{Plain, File, M, withFiles, withTables}
+use Rattle.plain.proofs.TableLaws.{some≢none, some-inj, find-put, find-put-other, remove-some}
+use Rattle.sound.specs.Places.{Unused}
+use Rattle.refine.specs.Represents.{FileOnImage, CatalogOf, Layout}
+use Rattle.refine.specs.Writes.{setFree, placeSector, storePlace}
+use Rattle.refine.proofs.Sectors.{Same, Outside, NotIn, holds-kept, store-outside, marked-outside-map, bit-kept}
+use Rattle.refine.proofs.CatalogLaws.{Named, nameIn, catalog-put, catalog-remove, catalog-grow, catalog-same}
+use Rattle.refine.proofs.Ground.{Ground, positive, top, sys-in, first-in, block-in, sys-data, file-data, sys-file, file-file, in-sys, place-in}
+
+-- ---- the kit
+
+pub kit-kept : {i j : List ℕ} {H s N free F : ℕ} → Kit i H s N free F → Same i j kitSector → Kit j H s N free F
+kit-kept k e = record {
+  keys = e .at 0 (omega arith) ∙ k .keys;
+  slice = e .at 1 (omega arith) ∙ k .slice;
+  sectors = e .at 2 (omega arith) ∙ k .sectors;
+  unused = e .at 3 (omega arith) ∙ k .unused;
+  first = e .at 4 (omega arith) ∙ k .first;
+  top = e .at 5 (omega arith) ∙ k .top;
+}
+
+free-outside : (i : List ℕ) (v : ℕ) → Outside i (setFree i v) (kitSector ∷ [])
+free-outside i v = store-outside i (v ∷ []) kitSector 3 (omega arith)
+
+kit-free : {i : List ℕ} {H s N free F : ℕ} (v : ℕ) → Kit i H s N free F → 2304 ≤ length i → Kit (setFree i v) H s N v F
+kit-free {i} v k l =
+    let off : (b : ℕ) → (b < 3) ⊎ (3 + 1 ≤ b) → word (setFree i v) kitSector b ≡ word i kitSector b = word-store-beside i kitSector 3 (v ∷ []) in
+    record {
+      keys = off 0 (inl (omega arith)) ∙ k .keys;
+      slice = off 1 (inl (omega arith)) ∙ k .slice;
+      sectors = off 2 (inl (omega arith)) ∙ k .sectors;
+      unused = word-store-in i kitSector 3 (v ∷ []) (omega arith) 0 (omega arith);
+      first = off 4 (inr (omega arith)) ∙ k .first;
+      top = off 5 (inr (omega arith)) ∙ k .top;
+    }
+
+-- ---- frames of files and places
+
+module _ (p : Plain) (g : Ground p) where
+  -- a file whose sectors keep their words
+  pub file-kept : (i j : List ℕ) (m : ℕ) (a : File) → tableFind m (p .files) ≡ some a → ((b : ℕ) → b / p .s < length (a .slices) → Same i j (sectorIn (p .F) (p .s) (a .slices) b))
+      → FileOnImage i (p .F) (p .s) a → FileOnImage j (p .F) (p .s) a
+  file-kept i j m a e same q = record {
+    index = λ x. holds-kept (q .index x) (same 0 (first-in p g (a .slices) x));
+    blocks = λ b x. holds-kept (q .blocks b x) (same (b + 1) (block-in p g m a e b x));
+  }
+
+  module _ (i : List ℕ) (size : length i ≡ 256 * p .N) (t : ℕ) (x : t < placeCount (p .H) (p .layers)) (e : List ℕ) (len : length e ≡ 16) where
+    pub place-outside : Outside i (storePlace p i t e) (placeSector p t ∷ [])
+    place-outside = store-outside i e (placeSector p t) (t % 16 * 16) (omega arith)
+
+    pub place-here : (w : ℕ) → w < 16 → placeWord (storePlace p i t e) (p .F) (p .s) (p .sys) sysFrom t w ≡ getD e w 0
+    place-here w y =
+        word-store-in i (placeSector p t) (t % 16 * 16) e (let d = sys-data p g (t / 16 + sysFrom) (place-in p g t x) in omega (arith, d .1)) w (omega arith)
+
+    pub place-off : (u w : ℕ) → u < placeCount (p .H) (p .layers) → u ≢ t → w < 16
+        → placeWord (storePlace p i t e) (p .F) (p .s) (p .sys) sysFrom u w ≡ placeWord i (p .F) (p .s) (p .sys) sysFrom u w
+    place-off u w y d z = same-or (u / 16) (t / 16)
+        (λ q. rw q (word-store-beside i (placeSector p t) (t % 16 * 16) e (u % 16 * 16 + w)
+          (below-or (u % 16) (t % 16) (λ h. inl (omega arith)) (λ h. inr (omega arith)))))
+        (λ q. place-outside .same (placeSector p u)
+          ((λ r. q (let z : u / 16 + sysFrom ≡ t / 16 + sysFrom = in-sys p g (u / 16 + sysFrom) (t / 16 + sysFrom) (place-in p g u y) (place-in p g t x) r in omega arith)), tt)
+          .at (u % 16 * 16 + w) (omega arith))
+
+  -- places where SYS's sectors keep their words
+  pub place-same : (i j : List ℕ) → ((q : ℕ) → q / p .s < length (p .sys) → Same i j (sectorIn (p .F) (p .s) (p .sys) q))
+      → (t w : ℕ) → t < placeCount (p .H) (p .layers) → w < 16 → placeWord j (p .F) (p .s) (p .sys) sysFrom t w ≡ placeWord i (p .F) (p .s) (p .sys) sysFrom t w
+  place-same i j same t w x y = same (t / 16 + sysFrom) (place-in p g t x) .at (t % 16 * 16 + w) (omega arith)
+
+-- q is none of the sectors of a slice list
+abbrev pub Off : ℕ → ℕ → List ℕ → ℕ → Type 0
+Off F s l q = (b : ℕ) → b / s < length l → q ≢ sectorIn F s l b
+
+-- the entries under another name
+pub relabel : {i : List ℕ} {p : Plain} {v w : ℕ} {h k : List ℕ} {E D : ℕ → Option (List ℕ)} → Layout i p v h E → w ≡ v → ((x : ℕ) → occurrences x k ≡ occurrences x h) → ((m : ℕ) → D m ≡ E m) → Layout i p w k D
+relabel {i} {p} {v} {w} {h} {k} {E} {D} r e t d = record {
+  size = r .size;
+  kit = rw e (r .kit);
+  map = λ x a b. omega (arith, r .map x a b, t x);
+  sysIndex = r .sysIndex;
+  mapIndex = r .mapIndex;
+  files = r .files;
+  catalog = catalog-same (r .catalog) _ D (λ t w x y. refl) d;
+}
+
+module _ {i : List ℕ} {p : Plain} {v : ℕ} {h : List ℕ} {E : ℕ → Option (List ℕ)} (g : Ground p) (r : Layout i p v h E) where
+  pub long : 2560 ≤ length i
+  long = omega (arith, r .size, g .limits .first, g .limits .some-data)
+
+  -- ---- writes below the data
+
+  pub low-write : (j : List ℕ) (w : ℕ) (k : List ℕ) → length j ≡ length i → ((q : ℕ) → 10 ≤ q → Same i j q) → Same i j 6 → Same i j 7
+      → Kit j (p .H) (p .s) (p .N) w (p .F) → ((x : ℕ) → 1 ≤ x → x ≤ 4096 → mapBit j x + occurrences x k ≡ inUnit (M p) x) → Layout j p w k E
+  low-write j w k size keep six seven kit map = record {
+    size = size ∙ r .size;
+    kit = kit;
+    map = map;
+    sysIndex = holds-kept (r .sysIndex) six;
+    mapIndex = holds-kept (r .mapIndex) seven;
+    files = λ m a e. file-kept p g i j m a e (λ b x. keep _ (file-data p g m a e b x .0)) (r .files m a e);
+    catalog = catalog-same (r .catalog) _ E (place-same p g i j (λ q x. keep _ (sys-data p g q x .0))) (λ m. refl);
+  }
+
+  -- the free count
+  pub write-free : (w : ℕ) → Layout (setFree i w) p w h E
+  write-free w =
+      let o = free-outside i w in
+      low-write (setFree i w) w h (o .size) (λ q x. o .same q (omega arith, tt)) (o .same 6 (omega arith, tt)) (o .same 7 (omega arith, tt))
+      (kit-free w (r .kit) (omega (arith, long)))
+      (λ x a b. omega (arith, bit-kept x a b (o .same 9 (omega arith, tt)), r .map x a b))
+
+  map-write : (j : List ℕ) (k : List ℕ) → Outside i j (9 ∷ []) → ((x : ℕ) → 1 ≤ x → x ≤ 4096 → mapBit j x + occurrences x k ≡ inUnit (M p) x) → Layout j p v k E
+  map-write j k o m =
+      low-write j v k (o .size) (λ q x. o .same q (omega arith, tt)) (o .same 6 (omega arith, tt)) (o .same 7 (omega arith, tt)) (kit-kept (r .kit) (o .same 8 (omega arith, tt))) m
+
+  -- slices l marked free: k is left
+  pub write-freed : (l k : List ℕ) → InRangeOnce (M p) h → ((x : ℕ) → occurrences x k + occurrences x l ≡ occurrences x h) → Layout (allFree i l) p v k E
+  write-freed l k once left =
+      map-write (allFree i l) k
+      (marked-outside-map 1 i l (omega arith) (in-map l (λ x. omega (arith, left x, once x, few x))) long)
+      (map-freed (M p) l k h i (g .limits .slices-high) long (r .map) once (λ x. omega (arith, left x)))
+    where
+      few : (x : ℕ) → inUnit (M p) x ≤ inUnit 4096 x
+      few x = inUnit-mono (M p) 4096 x (g .limits .slices-high)
+
+  -- slices l marked used: k is held then
+  pub write-used : (l k : List ℕ) → InRangeOnce (M p) k → ((x : ℕ) → occurrences x k ≡ occurrences x l + occurrences x h) → Layout (allUsed i l) p v k E
+  write-used l k once both =
+      map-write (allUsed i l) k
+      (marked-outside-map 0 i l (omega arith) (in-map l (λ x. omega (arith, both x, once x, few x))) long)
+      (λ x a b.
+        omega (
+          arith,
+          map-taken (M p) l h i (g .limits .slices-high) long (r .map) (λ y. omega (arith, both y, once y, occurrences-append y l h)) x a b,
+          occurrences-append x l h,
+          both x
+        ))
+    where
+      few : (x : ℕ) → inUnit (M p) x ≤ inUnit 4096 x
+      few x = inUnit-mono (M p) 4096 x (g .limits .slices-high)
+
+  -- ---- a place of SYS
+
+  module _ (t : ℕ) (in₀ : t < placeCount (p .H) (p .layers)) (e : List ℕ) (len : length e ≡ 16) where
+    place-write : (D : ℕ → Option (List ℕ)) → CatalogOf (placeWord (storePlace p i t e) (p .F) (p .s) (p .sys) sysFrom) (placeCount (p .H) (p .layers)) (p .H) D → Layout (storePlace p i t e) p v h D
+    place-write D c =
+        let o = place-outside p g i (r .size) t in₀ e len in
+        let d = sys-data p g (t / 16 + sysFrom) (place-in p g t in₀) in
+        let low : (q : ℕ) → q < 10 → Same i (storePlace p i t e) q = λ q x. o .same q (omega (arith, d .0), tt) in
+        record {
+          size = o .size ∙ r .size;
+          kit = kit-kept (r .kit) (low 8 (omega arith));
+          map = λ x a b. omega (arith, bit-kept x a b (low 9 (omega arith)), r .map x a b);
+          sysIndex = holds-kept (r .sysIndex) (low 6 (omega arith));
+          mapIndex = holds-kept (r .mapIndex) (low 7 (omega arith));
+          files = λ m a f. file-kept p g i _ m a f (λ b x. o .same _ (sys-file p g m a f b (t / 16 + sysFrom) x (place-in p g t in₀), tt)) (r .files m a f);
+          catalog = c;
+        }
+
+    -- an entry at an unused place, or in the place of the name's old one
+    pub write-entry : (D : ℕ → Option (List ℕ)) (n : ℕ) → Named E → ((m : ℕ) → m ≢ n → D m ≡ E m) → D n ≡ some e → nameIn e ≡ n → n ≢ 0 → t / 16 % p .H ≡ keyOf (p .H) n
+        → ((u : ℕ) → u < placeCount (p .H) (p .layers) → nameAt (placeWord i (p .F) (p .s) (p .sys) sysFrom) u ≡ n → u ≡ t)
+        → (nameAt (placeWord i (p .F) (p .s) (p .sys) sysFrom) t ≢ n → nameAt (placeWord i (p .F) (p .s) (p .sys) sysFrom) t ≡ 0)
+        → Layout (storePlace p i t e) p v h D
+    write-entry D n nm other new named nz key only mine =
+        place-write D (catalog-put (r .catalog) nm _ D n t in₀ (place-off p g i (r .size) t in₀ e len) other e new named nz (place-here p g i (r .size) t in₀ e len) key only mine)
+
+  -- a place emptied
+  pub write-zero : (t : ℕ) → t < placeCount (p .H) (p .layers) → (D : ℕ → Option (List ℕ)) (n : ℕ) → Named E → ((m : ℕ) → m ≢ n → D m ≡ E m) → D n ≡ none
+      → nameAt (placeWord i (p .F) (p .s) (p .sys) sysFrom) t ≡ n → n ≢ 0 → Layout (storePlace p i t (zeroWords 16)) p v h D
+  write-zero t in₀ D n nm other gone was nz =
+      let len : length (zeroWords 16) ≡ 16 = length-zeroWords 16 in
+      place-write t in₀ (zeroWords 16) len D
+      (catalog-remove (r .catalog) nm _ D n t in₀ (place-off p g i (r .size) t in₀ (zeroWords 16) len) other gone was nz (record { zero = λ w x. place-here p g i (r .size) t in₀ (zeroWords 16) len w x ∙ getD-zeroWords 16 w }))
+
+  -- ---- a file
+
+  -- its name and lists dropped: nothing is written
+  pub forget-file : (n : ℕ) → Layout i (withFiles p (tableRemove n (p .files))) v h E
+  forget-file n = record {
+    size = r .size;
+    kit = r .kit;
+    map = r .map;
+    sysIndex = r .sysIndex;
+    mapIndex = r .mapIndex;
+    files = λ m a e. r .files m a (remove-some m n 0 (p .files) a (g .names) e .1);
+    catalog = r .catalog;
+  }
+
+  -- writes inside the sectors of the file's new slices only
+  pub write-file : (n : ℕ) (f : File) → Ground (withFiles p (tablePut n f (p .files))) → (j : List ℕ) → length j ≡ length i → ((q : ℕ) → Off (p .F) (p .s) (f .slices) q → Same i j q)
+      → FileOnImage j (p .F) (p .s) f → Layout j (withFiles p (tablePut n f (p .files))) v h E
+  write-file n f g′ j size keep new =
+      let p′ : Plain = withFiles p (tablePut n f (p .files)) in
+      let here : tableFind n (p′ .files) ≡ some f = find-put n f (p .files) in
+      let low : (q : ℕ) → q < 10 → Same i j q = λ q x. keep q (λ b y e. let d = file-data p′ g′ n f here b y in omega (arith, d .0)) in
+      record {
+        size = size ∙ r .size;
+        kit = kit-kept (r .kit) (low 8 (omega arith));
+        map = λ x a b. omega (arith, bit-kept x a b (low 9 (omega arith)), r .map x a b);
+        sysIndex = holds-kept (r .sysIndex) (low 6 (omega arith));
+        mapIndex = holds-kept (r .mapIndex) (low 7 (omega arith));
+        files = λ m a e. same-or m n
+          (λ q. let z : f ≡ a = some-inj (sym here ∙ ap (λ (x : ℕ). tableFind x (p′ .files)) (sym q) ∙ e) in rw (← z) new)
+          (λ d. file-kept p′ g′ i j m a e (λ b x. keep _ (λ c y. file-file p′ g′ m n a f d e here b c x y)) (r .files m a (sym (find-put-other m n f (p .files) d) ∙ e)));
+        catalog = catalog-same (r .catalog) _ E (place-same p g i j (λ q x. keep _ (λ b y z. sys-file p′ g′ n f here b q y x (sym z)))) (λ m. refl);
+      }
+
+  -- ---- SYS grows by a layer
+
+  pub grown-sector : (y : List ℕ) (q : ℕ) → q / p .s < length (p .sys) → sectorIn (p .F) (p .s) (p .sys ++ y) q ≡ sectorIn (p .F) (p .s) (p .sys) q
+  grown-sector y q x = ap (λ (k : ℕ). sliceStart (p .F) (p .s) k + q % p .s) (List·getD-append (p .sys) y 0 (q / p .s) x)
+
+  module _ (y : List ℕ) (g′ : Ground (withTables p (suc (p .layers)) (p .sys ++ y) (p .files) (p .areas))) (j : List ℕ) (size : length j ≡ length i)
+      (keep : (q : ℕ) → q ≢ 6 → ((b : ℕ) → p .H * p .layers ≤ b → b < p .H * suc (p .layers) → q ≢ sectorIn (p .F) (p .s) (p .sys ++ y) b) → Same i j q)
+      (six : Holds j 6 (indexWords (p .F) (p .s) (p .sys ++ y)))
+      (zeroed : (b w : ℕ) → p .H * p .layers ≤ b → b < p .H * suc (p .layers) → w < 256 → word j (sectorIn (p .F) (p .s) (p .sys ++ y) b) w ≡ 0) where
+    abbrev grown : Plain
+    grown = withTables p (suc (p .layers)) (p .sys ++ y) (p .files) (p .areas)
+
+    -- the old places keep their words, the new ones are zero
+    pub layer-old : (t w : ℕ) → t < placeCount (p .H) (p .layers) → w < 16 → placeWord j (p .F) (p .s) (p .sys ++ y) sysFrom t w ≡ placeWord i (p .F) (p .s) (p .sys) sysFrom t w
+    layer-old t w x y₁ =
+        let old : (t / 16 + sysFrom) / p .s < length (p .sys) = place-in p g t x in
+        let e : sectorIn (p .F) (p .s) (p .sys ++ y) (t / 16 + sysFrom) ≡ placeSector p t = grown-sector y (t / 16 + sysFrom) old in
+        let d = sys-data p g (t / 16 + sysFrom) old in
+        let q : Same i j (placeSector p t) = keep _ (omega (arith, d .0)) (λ b lo hi z.
+          let u : t / 16 + sysFrom ≡ b = in-sys grown g′ (t / 16 + sysFrom) b (sys-in grown g′ (t / 16 + sysFrom) (omega arith)) (sys-in grown g′ b hi) (e ∙ z) in omega arith) in
+        ap (λ (k : ℕ). word j k (t % 16 * 16 + w)) e ∙ q .at (t % 16 * 16 + w) (omega arith)
+
+    pub layer-new : (t : ℕ) → placeCount (p .H) (p .layers) ≤ t → t < placeCount (p .H) (suc (p .layers)) → Unused (placeWord j (p .F) (p .s) (p .sys ++ y) sysFrom) t
+    layer-new t lo hi = record { zero = λ w x. zeroed (t / 16 + sysFrom) (t % 16 * 16 + w) (omega arith) (omega arith) (omega arith) }
+
+    pub write-layer : Layout j grown v h E
+    write-layer =
+        let low : (q : ℕ) → q < 10 → q ≢ 6 → Same i j q = λ q x d. keep q d (λ b lo hi e. let z = sys-data grown g′ b (sys-in grown g′ b hi) in omega (arith, z .0)) in
+        record {
+          size = size ∙ r .size;
+          kit = kit-kept (r .kit) (low 8 (omega arith) (omega arith));
+          map = λ x a b. omega (arith, bit-kept x a b (low 9 (omega arith) (omega arith)), r .map x a b);
+          sysIndex = six;
+          mapIndex = holds-kept (r .mapIndex) (low 7 (omega arith) (omega arith));
+          files = λ m a e. file-kept grown g′ i j m a e
+            (λ b x. keep _ (let d = file-data grown g′ m a e b x in omega (arith, d .0)) (λ c lo hi. sys-file grown g′ m a e b c x (sys-in grown g′ c hi))) (r .files m a e);
+          catalog = catalog-grow (r .catalog) _ E (placeCount (p .H) (suc (p .layers))) (omega arith) layer-old layer-new (λ m. refl);
+        }
