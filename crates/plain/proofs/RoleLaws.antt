@@ -77,7 +77,7 @@ raised-writer count Sharing h = go (eqb count 4) (eqb count 2) h
     go false true q = inl tt
     go false false q = inr q
 
-writer-le : (role : Role) → isWriter role ≤ 1
+pub writer-le : (role : Role) → isWriter role ≤ 1
 writer-le Sharing = omega arith
 writer-le ExclusiveWriter = omega arith
 writer-le ExclusiveUser = omega arith

@@ -6,3 +6,10 @@ pub mod UnitSlices
 pub mod UnitSound
 pub mod Sectors
 pub mod Writers
+pub mod KeyPlaces
+pub mod ReadFile
+pub mod ReadFiles
+pub mod ReadCatalog
+pub mod ReadUsers
+pub mod ReadAreas
+pub mod Read

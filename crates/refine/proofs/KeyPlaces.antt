@@ -1,0 +1,159 @@
+-- Sums over a range, and the places of a key among those of SYS: sixteen for each layer.
+use mathlib.Core.Path.{_≡_, refl, sym, ap, _∙_}
+use mathlib.Core.Logic.{_≢_}
+use Prim.Native.Nat.{ℕ, zero, suc, _+_, _*_, _/_, _%_, _≤_, _<_, compare, Ordering, Ordering·lt, Ordering·eq, Ordering·gt}
+use native.Mathlib.Omega.{arith}
+use native.Mathlib.Nat.{add-suc, mod-eq-of-lt, mul-add-mod-self-left}
+use Rattle.disc.specs.Slices.{oneIfSame}
+use Rattle.disc.specs.Entries.{placeCount}
+use Rattle.disc.proofs.Compare.{Tri, less, same, more, tri, tri-same, same-or, below-or}
+use Rattle.plain.proofs.Collect.{sumBelow, sum-ext}
+
+-- ---- sums over a range
+
+pub sum-le : (n : ℕ) (f g : ℕ → ℕ) → ((t : ℕ) → t < n → f t ≤ g t) → sumBelow n f ≤ sumBelow n g
+unfolding sumBelow
+sum-le zero f g h = omega arith
+sum-le (suc n) f g h = omega (arith, sum-le n f g (λ t x. h t (omega arith)), h n (omega arith))
+
+-- n terms of at most c each
+pub sum-most : (n c : ℕ) (f : ℕ → ℕ) → ((t : ℕ) → t < n → f t ≤ c) → sumBelow n f ≤ n * c
+unfolding sumBelow
+sum-most zero c f h = omega arith
+sum-most (suc n) c f h = omega (arith, sum-most n c f (λ t x. h t (omega arith)), h n (omega arith))
+
+sum-zero : (n : ℕ) (f : ℕ → ℕ) → ((t : ℕ) → t < n → f t ≡ 0) → sumBelow n f ≡ 0
+sum-zero n f h = omega (arith, sum-most n 0 f (λ t x. omega (arith, h t x)))
+
+sum-times : (n c : ℕ) (f : ℕ → ℕ) → sumBelow n (λ t. c * f t) ≡ c * sumBelow n f
+unfolding sumBelow
+sum-times zero c f = omega arith
+sum-times (suc n) c f = omega (arith, sum-times n c f)
+
+sum-split : (a b : ℕ) (f : ℕ → ℕ) → sumBelow (a + b) f ≡ sumBelow a f + sumBelow b (λ j. f (a + j))
+unfolding sumBelow
+sum-split a zero f = rw (let e : a + 0 ≡ a = omega arith in e) (omega arith)
+sum-split a (suc b) f = rw (add-suc a b) (omega (arith, sum-split a b f))
+
+-- a times b terms, in b groups of a
+sum-regroup : (a b : ℕ) (f : ℕ → ℕ) → sumBelow (a * b) f ≡ sumBelow b (λ q. sumBelow a (λ j. f (a * q + j)))
+unfolding sumBelow
+sum-regroup a zero f = rw (let e : a * 0 ≡ 0 = omega arith in e) refl
+sum-regroup a (suc b) f = rw (let e : a * suc b ≡ a * b + a = omega arith in e) (omega (arith, sum-split (a * b) a f, sum-regroup a b f))
+
+-- ---- a sum and one of its terms
+
+abbrev butBy : Ordering → ℕ → ℕ
+butBy Ordering·lt x = x
+butBy Ordering·eq x = 0
+butBy Ordering·gt x = x
+
+-- the terms with that at i left out
+abbrev but : ℕ → (ℕ → ℕ) → ℕ → ℕ
+but i f t = butBy (compare t i) (f t)
+
+but-other : (i : ℕ) (f : ℕ → ℕ) (t : ℕ) → t ≢ i → but i f t ≡ f t
+but-other i f t d = go (compare t i) (tri t i)
+  where
+    go : (o : Ordering) → Tri t i o → butBy o (f t) ≡ f t
+    go o (less h) = refl
+    go o (same e) = absurd (d e)
+    go o (more h) = refl
+
+sum-but : (n i : ℕ) (f : ℕ → ℕ) → i < n → sumBelow n f ≡ sumBelow n (but i f) + f i
+unfolding sumBelow
+sum-but zero i f h = absurd (omega arith)
+sum-but (suc n) i f h = same-or n i at (λ d. past d (sum-but n i f (omega arith)))
+  where
+    at : n ≡ i → sumBelow n f + f n ≡ sumBelow n (but i f) + but i f n + f i
+    at e =
+        let here : but i f n ≡ 0 = rw (e, tri-same i) refl in
+        omega (arith, sum-ext n f (but i f) (λ t x. sym (but-other i f t (omega arith))), here, ap f e)
+
+    past : n ≢ i → sumBelow n f ≡ sumBelow n (but i f) + f i → sumBelow n f + f n ≡ sumBelow n (but i f) + but i f n + f i
+    past d ih = omega (arith, but-other i f n d)
+
+-- terms below those of g, and beside them two numbers below terms of g for which they have 0
+pub sum-two : (n i j a b : ℕ) (f g : ℕ → ℕ) → i < n → j < n → i ≢ j → ((t : ℕ) → t < n → f t ≤ g t) → f i ≡ 0 → f j ≡ 0 → a ≤ g i → b ≤ g j
+    → sumBelow n f + a + b ≤ sumBelow n g
+sum-two n i j a b f g hi hj d le zi zj la lb =
+    omega (
+      arith,
+      sum-but n i g hi,
+      sum-but n j (but i g) hj,
+      but-other i g j (λ e. d (sym e)),
+      sum-le n f (but j (but i g)) (λ t x. same-or t j
+          (λ e. omega (arith, ap f e))
+          (λ dj. same-or t i (λ e. omega (arith, ap f e)) (λ di. omega (arith, but-other j (but i g) t dj, but-other i g t di, le t x)))),
+    )
+
+-- the first term taken out
+pub sum-front : (n : ℕ) (f : ℕ → ℕ) → sumBelow (suc n) f ≡ f 0 + sumBelow n (λ t. f (suc t))
+unfolding sumBelow
+sum-front zero f = omega arith
+sum-front (suc n) f = omega (arith, sum-front n f)
+
+-- a sum of which at most one term counts
+pub sum-alone : (n : ℕ) (f : ℕ → ℕ) → ((t : ℕ) → t < n → f t ≤ 1) → ((t u : ℕ) → t < n → u < n → 1 ≤ f t → 1 ≤ f u → t ≡ u) → sumBelow n f ≤ 1
+unfolding sumBelow
+sum-alone zero f le one = omega arith
+sum-alone (suc n) f le one = below-or (f n) 1
+    (λ z. omega (arith, sum-alone n f (λ t x. le t (omega arith)) (λ t u x y. one t u (omega arith) (omega arith))))
+    (λ z.
+    let none : sumBelow n f ≡ 0 = sum-zero n f (λ t x. below-or (f t) 1 (λ y. omega arith) (λ y. absurd (omega (arith, one t n (omega arith) (omega arith) y z)))) in
+    omega (arith, le n (omega arith)))
+
+-- a sum that is not 0 has such a term
+pub sum-some : (n : ℕ) (f : ℕ → ℕ) → 1 ≤ sumBelow n f → (t : ℕ) × (t < n) × (1 ≤ f t)
+unfolding sumBelow
+sum-some zero f h = absurd (omega arith)
+sum-some (suc n) f h = below-or (f n) 1
+    (λ z. let r = sum-some n f (omega arith) in (r .0, omega (arith, r .1), r .2))
+    (λ z. (n, omega arith, z))
+
+-- ---- the places of a key
+
+abbrev pub isKey : ℕ → ℕ → ℕ
+isKey k x = oneIfSame (compare x k)
+
+is-most : (k x : ℕ) → isKey k x ≤ 1
+is-most k x = go (compare x k)
+  where
+    go : (o : Ordering) → oneIfSame o ≤ 1
+    go Ordering·lt = omega arith
+    go Ordering·eq = omega arith
+    go Ordering·gt = omega arith
+
+is-same : (k x : ℕ) → 1 ≤ isKey k x → x ≡ k
+is-same k x h = go (compare x k) (tri x k) h
+  where
+    go : (o : Ordering) → Tri x k o → 1 ≤ oneIfSame o → x ≡ k
+    go o (less l) h = absurd (omega arith)
+    go o (same e) h = e
+    go o (more l) h = absurd (omega arith)
+
+-- one number is k
+one-key : (n k : ℕ) → sumBelow n (isKey k) ≤ 1
+one-key n k = sum-alone n (isKey k) (λ t x. is-most k t) (λ t u x y a b. is-same k t a ∙ sym (is-same k u b))
+
+-- one sector of each layer
+sectors-of : (H L k : ℕ) → sumBelow (H * L) (λ q. isKey k (q % H)) ≤ L
+sectors-of H L k =
+    omega (
+      arith,
+      sum-regroup H L (λ q. isKey k (q % H)),
+      sum-most L 1 (λ l. sumBelow H (λ j. isKey k ((H * l + j) % H))) (λ l x.
+          omega (arith, one-key H k, sum-ext H (λ j. isKey k ((H * l + j) % H)) (isKey k) (λ j y. ap (isKey k) (mul-add-mod-self-left H l j ∙ mod-eq-of-lt y)))),
+    )
+
+pub places-of : (H L k : ℕ) → sumBelow (placeCount H L) (λ t. isKey k (t / 16 % H)) ≤ 16 * L
+places-of H L k =
+    omega (
+      arith,
+      sum-regroup 16 (H * L) (λ t. isKey k (t / 16 % H)),
+      sum-le (H * L) (λ q. sumBelow 16 (λ j. isKey k ((16 * q + j) / 16 % H))) (λ q. 16 * isKey k (q % H)) (λ q x.
+          sum-most 16 (isKey k (q % H)) (λ j. isKey k ((16 * q + j) / 16 % H)) (λ j y.
+          omega (arith, ap (λ (n : ℕ). isKey k (n % H)) (let e : (16 * q + j) / 16 ≡ q = omega arith in e)))),
+      sum-times (H * L) 16 (λ q. isKey k (q % H)),
+      sectors-of H L k,
+    )

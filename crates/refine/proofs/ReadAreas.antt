@@ -1,0 +1,261 @@
+-- The open area processes of a state, collected by name: what the state's search finds, the tables find.
+use mathlib.Core.Path.{_≡_, refl, sym, ap, _∙_}
+use mathlib.Core.Bool.{Bool, true, false, _&&_, cond}
+use mathlib.Core.List.{List, [], _∷_}
+use mathlib.Core.Logic.{_≢_}
+use mathlib.Core.Option.{Option, none, some}
+use Prim.Native.Nat.{ℕ, zero, suc, _≤_, _<_}
+use native.Mathlib.Omega.{arith}
+use lib.ListN.{length, getD}
+use lib.Dec.{T, eqb, eqb→eq}
+use borrow.Author.Tests.{eq-eqb}
+use Rattle.types.specs.declared.Area.{Area}
+use Rattle.types.specs.declared.State.{State}
+use Rattle.types.specs.State.{pastArea, areaAt}
+use Rattle.disc.specs.Names.{isSystem}
+use Rattle.disc.specs.Entries.{nameAt, indexSector}
+use Rattle.plain.specs.Table.{Row, Table, tableFind, SortedFrom}
+use Rattle.plain.specs.Unit.{File, AreaUser}
+use Rattle.plain.specs.Good.{GoodArea}
+use Rattle.plain.proofs.TableLaws.{some≢none, some-inj, one, total-length}
+use Rattle.plain.proofs.UnitLaws.{legal-positive}
+use Rattle.plain.proofs.Collect.{collect, weightIf, sorted-collect, collect-find, find-collect, total-collect}
+use Rattle.sound.specs.Places.{Used}
+use Rattle.sound.specs.State.{Shaped, areaName, firstOpen, openArea, liveIndex, liveLength, IsOpen, DistinctAreas}
+use Rattle.sound.specs.Sound.{indexOf, SoundEntries, SoundAreas}
+use Rattle.refine.specs.Represents.{usersIn, areaOfState, areaOfUnit}
+use Rattle.refine.proofs.KeyPlaces.{sum-most}
+use Rattle.refine.proofs.ReadFile.{readFile, length-sectors, index-from}
+use Rattle.refine.proofs.ReadFiles.{filesBelow, file-find}
+use Rattle.refine.proofs.ReadUsers.{sorted-users, three-users, good-roles, good-user}
+
+-- ---- the search in the descriptors
+
+-- where an open descriptor of a name stands
+record OpenAt (n : ℕ) (l : List Area) (a : Area) : Type 0 where
+  pub place : ℕ
+  pub inside : place < length l
+  pub is : getD l place pastArea ≡ a
+  pub live : a .live ≡ true
+  pub name : areaName a ≡ n
+
+first-some : (n : ℕ) (l : List Area) (a : Area) → firstOpen n l ≡ some a → OpenAt n l a
+first-some n [] a e = absurd (some≢none (sym e))
+first-some n (x ∷ l) a e = go (x .live) refl (eqb (areaName x) n) refl e (λ q. first-some n l a q)
+  where
+    up : OpenAt n l a → OpenAt n (x ∷ l) a
+    up o = record { place = suc (o .place); inside = omega (arith, o .inside); is = o .is; live = o .live; name = o .name }
+
+    go : (b : Bool) → x .live ≡ b → (c : Bool) → eqb (areaName x) n ≡ c → cond (b && c) (some x) (firstOpen n l) ≡ some a
+        → (firstOpen n l ≡ some a → OpenAt n l a) → OpenAt n (x ∷ l) a
+    go false p c q e ih = up (ih e)
+    go true p false q e ih = up (ih e)
+    go true p true q e ih =
+        let z : x ≡ a = some-inj e in
+        record { place = 0; inside = omega arith; is = z; live = ap (λ (y : Area). y .live) (sym z) ∙ p; name = ap areaName (sym z) ∙ eqb→eq (areaName x) n (rw q tt) }
+
+first-none : (n : ℕ) (l : List Area) → firstOpen n l ≡ none → (j : ℕ) → j < length l → getD l j pastArea .live ≡ true → areaName (getD l j pastArea) ≢ n
+first-none n [] e j h p q = absurd (omega arith)
+first-none n (x ∷ l) e zero h p q = some≢none (sym here ∙ e)
+  where
+    here : cond (x .live && eqb (areaName x) n) (some x) (firstOpen n l) ≡ some x
+    here = rw (p, eq-eqb (areaName x) n q) refl
+first-none n (x ∷ l) e (suc j) h p q = go (x .live && eqb (areaName x) n) e (λ z. first-none n l z j (omega arith) p q)
+  where
+    go : (b : Bool) → cond b (some x) (firstOpen n l) ≡ none → (firstOpen n l ≡ none → ⊥) → ⊥
+    go true z ih = some≢none z
+    go false z ih = ih z
+
+-- ---- the areas by name
+
+abbrev areaBy : Bool → ℕ → Table AreaUser → Option (Row (Table AreaUser))
+areaBy false n users = none
+areaBy true zero users = none
+areaBy true (suc n) users = some (record { key = suc n; val = users })
+
+record IsArea (b : Bool) (n : ℕ) (users : Table AreaUser) (r : Row (Table AreaUser)) : Type 0 where
+  pub live : b ≡ true
+  pub key : n ≡ r .key
+  pub val : users ≡ r .val
+  pub positive : 0 < n
+
+area-some : (b : Bool) (n : ℕ) (users : Table AreaUser) (r : Row (Table AreaUser)) → areaBy b n users ≡ some r → IsArea b n users r
+area-some false n users r e = absurd (some≢none (sym e))
+area-some true zero users r e = absurd (some≢none (sym e))
+area-some true (suc n) users r e =
+    let q = some-inj e in
+    record { live = refl; key = ap (λ (x : Row (Table AreaUser)). x .key) q; val = ap (λ (x : Row (Table AreaUser)). x .val) q; positive = omega arith }
+
+area-is : (b : Bool) (n : ℕ) (users : Table AreaUser) → b ≡ true → 0 < n → areaBy b n users ≡ some (record { key = n; val = users })
+area-is false n users e h = absurd (let z : _≡_ {A = ℕ} 0 1 = cc in omega arith)
+area-is true zero users e h = absurd (omega arith)
+area-is true (suc n) users e h = refl
+
+module _ (state : State) where
+  abbrev rowAt : ℕ → Option (Row (Table AreaUser))
+  rowAt j = areaBy (areaAt state j .live) (areaName (areaAt state j)) (usersIn (areaAt state j .users))
+
+  unfoldable pub readAreas : Table (Table AreaUser)
+  readAreas = collect rowAt 8
+
+  row-of : (j : ℕ) (r : Row (Table AreaUser)) → rowAt j ≡ some r → IsArea (areaAt state j .live) (areaName (areaAt state j)) (usersIn (areaAt state j .users)) r
+  row-of j r e = area-some (areaAt state j .live) (areaName (areaAt state j)) (usersIn (areaAt state j .users)) r e
+
+  positive-key : (j : ℕ) (r : Row (Table AreaUser)) → rowAt j ≡ some r → 0 < r .key
+  positive-key j r e = let q = row-of j r e in omega (arith, q .key, q .positive)
+
+  pub sorted-areas : SortedFrom 0 readAreas
+  unfolding readAreas
+  sorted-areas = sorted-collect rowAt positive-key 8
+
+  -- what the table finds is an open descriptor
+  row-there : (n : ℕ) (users : Table AreaUser) → tableFind n readAreas ≡ some users
+      → (j : ℕ) × (j < 8) × IsArea (areaAt state j .live) (areaName (areaAt state j)) (usersIn (areaAt state j .users)) (record { key = n; val = users })
+  unfolding readAreas
+  row-there n users e = let c = collect-find rowAt positive-key 8 n users e in (c .0, c .1, row-of (c .0) (record { key = n; val = users }) (c .2))
+
+  module _ (shaped : Shaped state) (distinct : DistinctAreas state) where
+    one-row : (j k : ℕ) (x y : Row (Table AreaUser)) → j < 8 → k < 8 → rowAt j ≡ some x → rowAt k ≡ some y → x .key ≡ y .key → j ≡ k
+    one-row j k x y a b e f z =
+        let q = row-of j x e in
+        let v = row-of k y f in
+        distinct j k a b (q .live) (v .live) (q .key ∙ z ∙ sym (v .key))
+
+    pub eight-areas : length readAreas ≤ 8
+    unfolding readAreas
+    eight-areas = omega (arith, total-length readAreas, total-collect rowAt positive-key 8 one-row one 8 (omega arith), sum-most 8 1 (λ t. weightIf one (rowAt t)) (λ t x. go (rowAt t)))
+      where
+        go : (o : Option (Row (Table AreaUser))) → weightIf one o ≤ 1
+        go none = omega arith
+        go (some r) = omega arith
+
+    -- an open descriptor is the one that the search finds
+    pub open-at : (j : ℕ) → j < 8 → IsOpen state j → openArea state (areaName (areaAt state j)) ≡ some (areaAt state j)
+    open-at j h live = go (openArea state (areaName (areaAt state j))) refl
+      where
+        go : (o : Option Area) → openArea state (areaName (areaAt state j)) ≡ o → o ≡ some (areaAt state j)
+        go none e = absurd (first-none (areaName (areaAt state j)) (state .areas) e j (omega (arith, shaped .eight)) live refl)
+        go (some a) e =
+            let o = first-some (areaName (areaAt state j)) (state .areas) a e in
+            let same : o .place ≡ j = distinct (o .place) j (omega (arith, o .inside, shaped .eight)) h (ap (λ (x : Area). x .live) (o .is) ∙ o .live) live (ap areaName (o .is) ∙ o .name) in
+            ap some (sym (o .is) ∙ ap (areaAt state) same)
+
+    -- and the table of areas finds its users
+    area-find : (j : ℕ) → j < 8 → IsOpen state j → 0 < areaName (areaAt state j) → tableFind (areaName (areaAt state j)) readAreas ≡ some (usersIn (areaAt state j .users))
+    unfolding readAreas
+    area-find j h live p =
+        find-collect rowAt positive-key 8 one-row 8 (omega arith) j
+        (record { key = areaName (areaAt state j); val = usersIn (areaAt state j .users) }) h
+        (area-is (areaAt state j .live) (areaName (areaAt state j)) (usersIn (areaAt state j .users)) live p)
+
+    pub area-none : (n : ℕ) → openArea state n ≡ none → tableFind n readAreas ≡ none
+    area-none n e = go (tableFind n readAreas) refl
+      where
+        go : (o : Option (Table AreaUser)) → tableFind n readAreas ≡ o → o ≡ none
+        go none h = refl
+        go (some users) h =
+            let c = row-there n users h in
+            absurd (first-none n (state .areas) e (c .0) (omega (arith, c .1, shaped .eight)) (c .2 .live) (c .2 .key))
+
+-- ---- with the entries
+
+module _ (image : List ℕ) (state : State) (H s F : ℕ) (P : ℕ → ℕ → ℕ) (count : ℕ)
+    (en : SoundEntries image state H s F P count) (shaped : Shaped state) (sa : SoundAreas state P count) where
+  abbrev files : Table File
+  files = filesBelow image state F s P count
+
+  -- an open area with its descriptor and its file's place
+  record Open (n : ℕ) : Type 0 where
+    pub area : ℕ
+    pub below : area < 8
+    pub live : IsOpen state area
+    pub name : areaName (areaAt state area) ≡ n
+    pub place : ℕ
+    pub inside : place < count
+    pub used : Used P place
+    pub ordinary : T (isSystem (nameAt P place)) → ⊥
+    pub entered : nameAt P place ≡ n
+    pub users : tableFind n (readAreas state) ≡ some (usersIn (areaAt state area .users))
+    pub found : openArea state n ≡ some (areaAt state area)
+    pub file : tableFind n files ≡ some (readFile image state F s P place)
+
+  opened : (j : ℕ) → j < 8 → IsOpen state j → (n : ℕ) → areaName (areaAt state j) ≡ n → Open n
+  opened j h live n e =
+      let t = sa .entered j h live in
+      let named : nameAt P (t .0) ≡ n = t .3 ∙ e in
+      let p : 0 < nameAt P (t .0) = legal-positive (nameAt P (t .0)) (en .legal (t .0) (t .1) (t .2) .name) in
+      let ord : T (isSystem (nameAt P (t .0))) → ⊥ = λ y. sa .ordinary j h live (rw (t .3) at y) in
+      record {
+        area = j;
+        below = h;
+        live = live;
+        name = e;
+        place = t .0;
+        inside = t .1;
+        used = t .2;
+        ordinary = ord;
+        entered = named;
+        users = rw e at (area-find state shaped (sa .distinct) j h live (omega (arith, t .3)));
+        found = rw e at (open-at state shaped (sa .distinct) j h live);
+        file = ap (λ (m : ℕ). tableFind m files) (sym named) ∙ file-find image state F s P H count en (t .0) (t .1) p ord;
+      }
+
+  by-users : (n : ℕ) (users : Table AreaUser) → tableFind n (readAreas state) ≡ some users → Open n
+  by-users n users e =
+      let c = row-there state n users e in
+      opened (c .0) (c .1) (c .2 .live) n (c .2 .key)
+
+  by-search : (n : ℕ) (a : Area) → openArea state n ≡ some a → Open n
+  by-search n a e =
+      let o = first-some n (state .areas) a e in
+      opened (o .place) (omega (arith, o .inside, shaped .eight)) (ap (λ (x : Area). x .live) (o .is) ∙ o .live) n (ap areaName (o .is) ∙ o .name)
+
+  -- a name without users in the tables is not open
+  pub not-open : (n : ℕ) → tableFind n (readAreas state) ≡ none → openArea state n ≡ none
+  not-open n h = go (openArea state n) refl
+    where
+      go : (x : Option Area) → openArea state n ≡ x → x ≡ none
+      go none e = refl
+      go (some a) e = absurd (some≢none (sym (by-search n a e .users) ∙ h))
+
+  module _ (n : ℕ) (o : Open n) where
+    live-index : indexOf state P (o .place) ≡ areaAt state (o .area) .index .0
+    live-index = ap (λ (m : ℕ). liveIndex (openArea state m) (P (o .place) 8)) (o .entered) ∙ ap (λ (x : Option Area). liveIndex x (P (o .place) 8)) (o .found)
+
+    live-length : length (readFile image state F s P (o .place) .sectors) ≡ areaAt state (o .area) .length
+    live-length =
+        length-sectors image state F s P (o .place)
+        ∙ ap (λ (m : ℕ). liveLength (openArea state m) (P (o .place) 7)) (o .entered) ∙ ap (λ (x : Option Area). liveLength x (P (o .place) 7)) (o .found)
+
+  pub good-area : (n : ℕ) (users : Table AreaUser) → tableFind n (readAreas state) ≡ some users → GoodArea files n users
+  good-area n users e =
+      let o = by-users n users e in
+      let a : Area = areaAt state (o .area) in
+      let ok = sa .users (o .area) (o .below) (o .live) in
+      let three = shaped .three (o .area) (o .below) in
+      rw (some-inj (sym e ∙ o .users)) (record {
+        file = readFile image state F s P (o .place);
+        entered = o .file;
+        sorted = sorted-users (a .users);
+        three = three-users a three ok;
+        roles = good-roles a three ok;
+        each = λ sender u h. rw (live-length n o) (good-user a three ok sender u h);
+      })
+
+  -- what the state shows of a name is what the tables show
+  pub same-area : (n : ℕ) → areaOfState (openArea state n) ≡ areaOfUnit F s (tableFind n (readAreas state)) (tableFind n files)
+  same-area n = go (openArea state n) refl
+    where
+      go : (x : Option Area) → openArea state n ≡ x → areaOfState x ≡ areaOfUnit F s (tableFind n (readAreas state)) (tableFind n files)
+      go none e = sym (ap (λ (x : Option (Table AreaUser)). areaOfUnit F s x (tableFind n files)) (area-none state shaped (sa .distinct) n e))
+      go (some a) e =
+          let o = by-search n a e in
+          let same : a ≡ areaAt state (o .area) = some-inj (sym e ∙ o .found) in
+          let f : File = readFile image state F s P (o .place) in
+          let i : areaAt state (o .area) .index .0 ≡ indexSector F s (length (f .slices)) (f .slices) =
+          sym (live-index n o) ∙ sym (index-from image F s (indexOf state P (o .place)) (en .files (o .place) (o .inside) (o .used) (o .ordinary) .legal .index)) in
+          let l : areaAt state (o .area) .length ≡ length (f .sectors) = sym (live-length n o) in
+          ap (λ (x : Area). areaOfState (some x)) same
+          ∙ (λ z. some (record { index = i z; size = l z; users = usersIn (areaAt state (o .area) .users) }))
+          ∙ sym (ap (λ (x : Option (Table AreaUser)). areaOfUnit F s x (some f)) (o .users))
+          ∙ sym (ap (areaOfUnit F s (tableFind n (readAreas state))) (o .file))
