@@ -13,3 +13,9 @@ pub mod ReadCatalog
 pub mod ReadUsers
 pub mod ReadAreas
 pub mod Read
+pub mod TableCount
+pub mod UserLaws
+pub mod ReserveLaws
+pub mod StateLaws
+pub mod UnitAreas
+pub mod SoundRepresents

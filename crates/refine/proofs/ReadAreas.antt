@@ -27,7 +27,8 @@ use Rattle.refine.specs.Represents.{usersIn, areaOfState, areaOfUnit}
 use Rattle.refine.proofs.KeyPlaces.{sum-most}
 use Rattle.refine.proofs.ReadFile.{readFile, length-sectors, index-from}
 use Rattle.refine.proofs.ReadFiles.{filesBelow, file-find}
-use Rattle.refine.proofs.ReadUsers.{sorted-users, three-users, good-roles, good-user}
+use Rattle.refine.proofs.UserLaws.{users-sorted}
+use Rattle.refine.proofs.ReadUsers.{three-users, good-roles, good-user}
 
 -- ---- the search in the descriptors
 
@@ -236,7 +237,7 @@ module _ (image : List ℕ) (state : State) (H s F : ℕ) (P : ℕ → ℕ → �
       rw (some-inj (sym e ∙ o .users)) (record {
         file = readFile image state F s P (o .place);
         entered = o .file;
-        sorted = sorted-users (a .users);
+        sorted = users-sorted (a .users);
         three = three-users a three ok;
         roles = good-roles a three ok;
         each = λ sender u h. rw (live-length n o) (good-user a three ok sender u h);

@@ -1,4 +1,4 @@
--- The users of an area descriptor as a table: its order, what it finds, and the rules of their roles.
+-- The users of an area descriptor as a table: what it finds, and the rules of their roles.
 use mathlib.Core.Path.{_≡_, refl, sym, ap, _∙_}
 use mathlib.Core.List.{List, [], _∷_}
 use mathlib.Core.Logic.{_≢_}
@@ -21,25 +21,15 @@ use Rattle.plain.proofs.RoleLaws.{users-length, writer-le}
 use Rattle.plain.proofs.Collect.{sumBelow}
 use Rattle.sound.specs.State.{LegalUsers}
 use Rattle.refine.specs.Represents.{withUser, usersIn}
+use Rattle.refine.proofs.UserLaws.{plainUser, users-sorted}
 use Rattle.refine.proofs.KeyPlaces.{sum-most, sum-front, sum-alone, sum-some}
-
-abbrev asUser : User → AreaUser
-asUser u = record { role = u .role; opens = u .opens; position = u .position .0 }
-
-pub sorted-users : (l : List User) → SortedFrom 0 (usersIn l)
-sorted-users [] = tt
-sorted-users (u ∷ l) = go (u .id) (sorted-users l)
-  where
-    go : (k : ℕ) → SortedFrom 0 (usersIn l) → SortedFrom 0 (withUser k u (usersIn l))
-    go zero ok = ok
-    go (suc k) ok = sorted-put 0 (suc k) (asUser u) (usersIn l) (omega arith) ok
 
 -- what is found is a taken entry
 pub record UserOf (l : List User) (sender : ℕ) (v : AreaUser) : Type 0 where
   pub entry : ℕ
   pub inside : entry < length l
   pub taken : getD l entry vacantUser .id ≢ 0
-  pub is : asUser (getD l entry vacantUser) ≡ v
+  pub is : plainUser (getD l entry vacantUser) ≡ v
 
 pub user-there : (l : List User) (sender : ℕ) (v : AreaUser) → tableFind sender (usersIn l) ≡ some v → UserOf l sender v
 user-there [] sender v e = absurd (some≢none (sym e))
@@ -53,9 +43,9 @@ user-there (u ∷ l) sender v e = go (u .id) refl e (λ q. user-there l sender v
     go zero h e ih = up (ih e)
     go (suc k) h e ih = same-or sender (suc k)
         (λ z.
-        let q : asUser u ≡ v = some-inj (sym (find-put (suc k) (asUser u) (usersIn l)) ∙ ap (λ (x : ℕ). tableFind x (tablePut (suc k) (asUser u) (usersIn l))) (sym z) ∙ e) in
+        let q : plainUser u ≡ v = some-inj (sym (find-put (suc k) (plainUser u) (usersIn l)) ∙ ap (λ (x : ℕ). tableFind x (tablePut (suc k) (plainUser u) (usersIn l))) (sym z) ∙ e) in
         record { entry = 0; inside = omega arith; taken = λ y. omega arith; is = q })
-        (λ d. up (ih (sym (find-put-other sender (suc k) (asUser u) (usersIn l) d) ∙ e)))
+        (λ d. up (ih (sym (find-put-other sender (suc k) (plainUser u) (usersIn l) d) ∙ e)))
 
 -- ---- the entries of a kind
 
@@ -74,7 +64,7 @@ entries-most kind (u ∷ l) = omega (arith, sum-front (length l) (countAt kind (
     go : (k : ℕ) → usersOf kind (usersIn l) ≤ sumBelow (length l) (countAt kind l)
         → usersOf kind (withUser k u (usersIn l)) ≤ counts kind k (u .role) + sumBelow (length l) (countAt kind l)
     go zero ih = omega arith
-    go (suc k) ih = omega (arith, total-put (λ (r : Row AreaUser). kind (r .val .role)) (suc k) (asUser u) (usersIn l))
+    go (suc k) ih = omega (arith, total-put (λ (r : Row AreaUser). kind (r .val .role)) (suc k) (plainUser u) (usersIn l))
 
 counts-taken : (kind : Role → ℕ) (k : ℕ) (role : Role) → 1 ≤ counts kind k role → (k ≢ 0) × (1 ≤ kind role)
 counts-taken kind zero role h = absurd (omega arith)

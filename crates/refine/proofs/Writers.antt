@@ -80,10 +80,10 @@ module _ (p : Plain) (g : Ground p) where
         → placeWord (storePlace p i t e) (p .F) (p .s) (p .sys) sysFrom u w ≡ placeWord i (p .F) (p .s) (p .sys) sysFrom u w
     place-off u w y d z = same-or (u / 16) (t / 16)
         (λ q. rw q (word-store-beside i (placeSector p t) (t % 16 * 16) e (u % 16 * 16 + w)
-          (below-or (u % 16) (t % 16) (λ h. inl (omega arith)) (λ h. inr (omega arith)))))
+        (below-or (u % 16) (t % 16) (λ h. inl (omega arith)) (λ h. inr (omega arith)))))
         (λ q. place-outside .same (placeSector p u)
-          ((λ r. q (let z : u / 16 + sysFrom ≡ t / 16 + sysFrom = in-sys p g (u / 16 + sysFrom) (t / 16 + sysFrom) (place-in p g u y) (place-in p g t x) r in omega arith)), tt)
-          .at (u % 16 * 16 + w) (omega arith))
+        ((λ r. q (let z : u / 16 + sysFrom ≡ t / 16 + sysFrom = in-sys p g (u / 16 + sysFrom) (t / 16 + sysFrom) (place-in p g u y) (place-in p g t x) r in omega arith)), tt)
+        .at (u % 16 * 16 + w) (omega arith))
 
   -- places where SYS's sectors keep their words
   pub place-same : (i j : List ℕ) → ((q : ℕ) → q / p .s < length (p .sys) → Same i j (sectorIn (p .F) (p .s) (p .sys) q))
@@ -152,12 +152,12 @@ module _ {i : List ℕ} {p : Plain} {v : ℕ} {h : List ℕ} {E : ℕ → Option
       map-write (allUsed i l) k
       (marked-outside-map 0 i l (omega arith) (in-map l (λ x. omega (arith, both x, once x, few x))) long)
       (λ x a b.
-        omega (
-          arith,
-          map-taken (M p) l h i (g .limits .slices-high) long (r .map) (λ y. omega (arith, both y, once y, occurrences-append y l h)) x a b,
-          occurrences-append x l h,
-          both x
-        ))
+      omega (
+        arith,
+        map-taken (M p) l h i (g .limits .slices-high) long (r .map) (λ y. omega (arith, both y, once y, occurrences-append y l h)) x a b,
+        occurrences-append x l h,
+        both x,
+      ))
     where
       few : (x : ℕ) → inUnit (M p) x ≤ inUnit 4096 x
       few x = inUnit-mono (M p) 4096 x (g .limits .slices-high)
@@ -224,8 +224,8 @@ module _ {i : List ℕ} {p : Plain} {v : ℕ} {h : List ℕ} {E : ℕ → Option
         sysIndex = holds-kept (r .sysIndex) (low 6 (omega arith));
         mapIndex = holds-kept (r .mapIndex) (low 7 (omega arith));
         files = λ m a e. same-or m n
-          (λ q. let z : f ≡ a = some-inj (sym here ∙ ap (λ (x : ℕ). tableFind x (p′ .files)) (sym q) ∙ e) in rw (← z) new)
-          (λ d. file-kept p′ g′ i j m a e (λ b x. keep _ (λ c y. file-file p′ g′ m n a f d e here b c x y)) (r .files m a (sym (find-put-other m n f (p .files) d) ∙ e)));
+            (λ q. let z : f ≡ a = some-inj (sym here ∙ ap (λ (x : ℕ). tableFind x (p′ .files)) (sym q) ∙ e) in rw (← z) new)
+            (λ d. file-kept p′ g′ i j m a e (λ b x. keep _ (λ c y. file-file p′ g′ m n a f d e here b c x y)) (r .files m a (sym (find-put-other m n f (p .files) d) ∙ e)));
         catalog = catalog-same (r .catalog) _ E (place-same p g i j (λ q x. keep _ (λ b y z. sys-file p′ g′ n f here b q y x (sym z)))) (λ m. refl);
       }
 
@@ -248,7 +248,7 @@ module _ {i : List ℕ} {p : Plain} {v : ℕ} {h : List ℕ} {E : ℕ → Option
         let e : sectorIn (p .F) (p .s) (p .sys ++ y) (t / 16 + sysFrom) ≡ placeSector p t = grown-sector y (t / 16 + sysFrom) old in
         let d = sys-data p g (t / 16 + sysFrom) old in
         let q : Same i j (placeSector p t) = keep _ (omega (arith, d .0)) (λ b lo hi z.
-          let u : t / 16 + sysFrom ≡ b = in-sys grown g′ (t / 16 + sysFrom) b (sys-in grown g′ (t / 16 + sysFrom) (omega arith)) (sys-in grown g′ b hi) (e ∙ z) in omega arith) in
+        let u : t / 16 + sysFrom ≡ b = in-sys grown g′ (t / 16 + sysFrom) b (sys-in grown g′ (t / 16 + sysFrom) (omega arith)) (sys-in grown g′ b hi) (e ∙ z) in omega arith) in
         ap (λ (k : ℕ). word j k (t % 16 * 16 + w)) e ∙ q .at (t % 16 * 16 + w) (omega arith)
 
     pub layer-new : (t : ℕ) → placeCount (p .H) (p .layers) ≤ t → t < placeCount (p .H) (suc (p .layers)) → Unused (placeWord j (p .F) (p .s) (p .sys ++ y) sysFrom) t
@@ -264,6 +264,6 @@ module _ {i : List ℕ} {p : Plain} {v : ℕ} {h : List ℕ} {E : ℕ → Option
           sysIndex = six;
           mapIndex = holds-kept (r .mapIndex) (low 7 (omega arith) (omega arith));
           files = λ m a e. file-kept grown g′ i j m a e
-            (λ b x. keep _ (let d = file-data grown g′ m a e b x in omega (arith, d .0)) (λ c lo hi. sys-file grown g′ m a e b c x (sys-in grown g′ c hi))) (r .files m a e);
+              (λ b x. keep _ (let d = file-data grown g′ m a e b x in omega (arith, d .0)) (λ c lo hi. sys-file grown g′ m a e b c x (sys-in grown g′ c hi))) (r .files m a e);
           catalog = catalog-grow (r .catalog) _ E (placeCount (p .H) (suc (p .layers))) (omega arith) layer-old layer-new (λ m. refl);
         }

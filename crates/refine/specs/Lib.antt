@@ -1,3 +1,4 @@
 pub mod Represents
 pub mod Writes
+pub mod Claims
 pub mod Demands

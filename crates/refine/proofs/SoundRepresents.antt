@@ -1,0 +1,54 @@
+-- A unit is sound exactly if some good plain unit is represented, and that one is unique.
+use mathlib.Core.Path.{_≡_, refl, sym, ap, _∙_, subst}
+use mathlib.Core.List.{List}
+use Prim.Native.Nat.{ℕ}
+use Rattle.types.specs.declared.State.{State}
+use Rattle.disc.specs.Words.{word}
+use Rattle.disc.specs.Stretches.{slicesAt}
+use Rattle.disc.specs.Kit.{kitSector, sysIndexSector}
+use Rattle.plain.specs.Unit.{Plain}
+use Rattle.plain.specs.Good.{Good}
+use Rattle.sound.specs.Sound.{SoundWith, SoundUnit}
+use Rattle.refine.specs.Represents.{Represents}
+use Rattle.refine.specs.Claims.{SoundRepresents}
+use Rattle.refine.proofs.Unique.{represents-unique}
+use Rattle.refine.proofs.UnitSound.{kit-ones, sys-read, sys-index, sys-entered, map-entered, sound-entries, sound-once, sound-map}
+use Rattle.refine.proofs.UnitAreas.{sound-areas}
+use Rattle.refine.proofs.Read.{sound-reads}
+
+module _ {image : List ℕ} {state : State} {p : Plain} (g : Good p) (r : Represents image state p) where
+  -- the rules with the plain unit's numbers and slices
+  with-unit : SoundWith image state (p .H) (p .s) (p .F) (p .N) (p .sys)
+  with-unit = record {
+    words = r .words;
+    shaped = r .areas .shaped;
+    size = r .layout .size;
+    kit = kit-ones g r;
+    limits = g .limits;
+    layers = p .layers;
+    layered = g .layered;
+    sysEntered = sys-entered g r;
+    mapEntered = map-entered g r;
+    mapIndex = r .layout .mapIndex;
+    sysIndex = sys-index g r;
+    sysCount = g .sysCount;
+    sysFirst = g .sysFirst;
+    entries = sound-entries g r;
+    once = sound-once g r;
+    map = sound-map g r;
+    areas = sound-areas g r;
+  }
+
+  -- the kit and sector 6 have those numbers and slices
+  pub represents-sound : SoundUnit image state
+  represents-sound =
+      let kit = r .layout .kit in
+      let with-sys = subst (SoundWith image state (p .H) (p .s) (p .F) (p .N)) (sym (sys-read g r)) with-unit in
+      record { rules = rw (kit .keys, kit .slice, kit .first, kit .sectors) with-sys }
+
+pub sound-represents : SoundRepresents
+sound-represents = record {
+  reads = λ image state sound. let x = sound-reads image state sound in (x .plain, x .good, x .represents);
+  sound = λ image state p g r. represents-sound g r;
+  unique = represents-unique;
+}

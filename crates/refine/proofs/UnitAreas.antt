@@ -1,0 +1,118 @@
+-- The open areas of a represented plain unit meet the rules of a sound unit.
+use mathlib.Core.Path.{_≡_, refl, sym, ap, _∙_}
+use mathlib.Core.Bool.{Bool, not}
+use mathlib.Core.List.{List}
+use mathlib.Core.Logic.{_≢_}
+use mathlib.Core.Option.{Option, none, some}
+use Prim.Native.Nat.{ℕ, zero, suc, _+_, _≤_, _<_}
+use native.Mathlib.Omega.{arith}
+use lib.ListN.{length}
+use lib.Dec.{T, T-not}
+use Rattle.types.specs.declared.Role.{Role}
+use Rattle.types.specs.declared.Role.the-variants.{ExclusiveWriter, ExclusiveUser}
+use Rattle.types.specs.declared.Area.{Area}
+use Rattle.types.specs.declared.State.{State}
+use Rattle.types.specs.State.{areaAt, userAt}
+use Rattle.disc.specs.Names.{isSystem}
+use Rattle.disc.specs.Entries.{nameAt}
+use Rattle.disc.proofs.Compare.{same-or}
+use Rattle.plain.specs.Table.{Row, Table, tableFind, total}
+use Rattle.plain.specs.Unit.{Plain, File, AreaUser, fileEntry, entry}
+use Rattle.plain.specs.Areas.{isExclusive, isWriter, isUser, usersOf}
+use Rattle.plain.specs.Good.{Good, GoodArea}
+use Rattle.plain.proofs.TableLaws.{some≢none, some-inj, total-one, total-two}
+use Rattle.plain.proofs.RoleLaws.{users-length}
+use Rattle.plain.proofs.UnitLaws.{mapSome, entry-other, not-system}
+use Rattle.sound.specs.Places.{Used}
+use Rattle.sound.specs.State.{openArea, areaName, IsOpen, IsTaken, LegalUsers}
+use Rattle.sound.specs.Sound.{SoundAreas}
+use Rattle.refine.specs.Represents.{LiveArea, usersIn, areaOfState, areaOfUnit, Represents}
+use Rattle.refine.proofs.CatalogLaws.{name-zero, no-zero, Named}
+use Rattle.refine.proofs.Ground.{entry-named}
+use Rattle.refine.proofs.UserLaws.{plainUser, DistinctUsers, own-entry, user-found, users-sorted}
+use Rattle.refine.proofs.StateLaws.{own-area, open-found}
+use Rattle.refine.proofs.UnitFiles.{P, count}
+
+module _ {image : List ℕ} {state : State} {p : Plain} (g : Good p) (r : Represents image state p) where
+  abbrev Q : ℕ → ℕ → ℕ
+  Q = P g r
+
+  module _ (j : ℕ) (inside : j < 8) (live : IsOpen state j) where
+    abbrev a : Area
+    a = areaAt state j
+
+    abbrev n : ℕ
+    n = areaName (areaAt state j)
+
+    found : openArea state n ≡ some a
+    found = open-found state n j (own-area state j (r .areas .shaped) (r .areas .distinct) inside live)
+
+    -- the unit has the area, with the descriptor's users
+    unit-area : tableFind n (p .areas) ≡ some (usersIn (a .users))
+    unit-area = go (tableFind n (p .areas)) (tableFind n (p .files)) (ap areaOfState (sym found) ∙ r .areas .each n)
+      where
+        go : (o : Option (Table AreaUser)) (f : Option File) → areaOfState (some a) ≡ areaOfUnit (p .F) (p .s) o f → o ≡ some (usersIn (a .users))
+        go none f e = absurd (some≢none e)
+        go (some users) none e = ap (λ (l : LiveArea). some (l .users)) (sym (some-inj e))
+        go (some users) (some f) e = ap (λ (l : LiveArea). some (l .users)) (sym (some-inj e))
+
+    good : GoodArea (p .files) n (usersIn (a .users))
+    good = g .areas n (usersIn (a .users)) unit-area
+
+    -- the live length is the file's
+    length-file : length (good .file .sectors) ≡ a .length
+    length-file =
+        let z : areaOfState (some a) ≡ areaOfUnit (p .F) (p .s) (some (usersIn (a .users))) (some (good .file)) = rw (found, unit-area, good .entered) at (r .areas .each n) in
+        sym (ap (λ (l : LiveArea). l .size) (some-inj z))
+
+    distinct : DistinctUsers a
+    distinct = record { three = r .areas .shaped .three j inside; only = λ u v x y t e. r .areas .distinctUsers j u v inside live x y t e }
+
+    -- a taken entry is in the table
+    in-table : (u : ℕ) → u < 3 → IsTaken a u → tableFind (userAt a u .id) (usersIn (a .users)) ≡ some (plainUser (userAt a u))
+    in-table u x t = user-found a (userAt a u .id) u t (own-entry a u distinct x t)
+
+    -- two different taken entries have different identifications
+    apart : (u v : ℕ) → u < 3 → v < 3 → IsTaken a u → u ≢ v → userAt a v .id ≢ userAt a u .id
+    apart u v x y t d e = d (distinct .only u v x y t (sym e))
+
+    legal-users : LegalUsers a
+    legal-users = record {
+      distinct = λ u v x y t e. distinct .only u v x y t e;
+      opens-low = λ u x t. good .each (userAt a u .id) (plainUser (userAt a u)) (in-table u x t) .opens-low;
+      opens-high = λ u x t. good .each (userAt a u .id) (plainUser (userAt a u)) (in-table u x t) .opens-high;
+      inside = λ u x t. omega (arith, good .each (userAt a u .id) (plainUser (userAt a u)) (in-table u x t) .inside, length-file);
+      alone = λ u v x y t s role. same-or u v (λ e. e) (λ d. absurd (
+          let one : isExclusive (userAt a u .role) ≡ 1 = ap isExclusive role in
+          let two = total-two (λ (w : Row AreaUser). isUser (w .val .role)) (userAt a u .id) (userAt a v .id) (plainUser (userAt a u)) (plainUser (userAt a v)) (usersIn (a .users)) (users-sorted (a .users)) (in-table u x t) (in-table v y s) (apart u v x y t d) in
+          let some-exclusive = total-one (λ (w : Row AreaUser). isExclusive (w .val .role)) (userAt a u .id) (plainUser (userAt a u)) (usersIn (a .users)) (in-table u x t) in
+          omega (arith, good .roles .alone (omega arith), users-length (usersIn (a .users)))));
+      oneWriter = λ u v x y t s role role′. same-or u v (λ e. e) (λ d. absurd (
+          let one : isWriter (userAt a u .role) ≡ 1 = ap isWriter role in
+          let other : isWriter (userAt a v .role) ≡ 1 = ap isWriter role′ in
+          omega (
+            arith,
+            total-two (λ (w : Row AreaUser). isWriter (w .val .role)) (userAt a u .id) (userAt a v .id) (plainUser (userAt a u)) (plainUser (userAt a v)) (usersIn (a .users)) (users-sorted (a .users)) (in-table u x t) (in-table v y s) (apart u v x y t d),
+            good .roles .oneWriter,
+          )));
+    }
+
+    -- the name is entered
+    area-entered : (t : ℕ) × (t < count g r) × Used Q t × (nameAt Q t ≡ n)
+    area-entered =
+        let f : File = good .file in
+        let d = not-system n (g .files n f (good .entered) .ordinary) in
+        let e : entry p n ≡ some (fileEntry (p .F) (p .s) n f) = entry-other p n (d .0) (d .1) ∙ ap (mapSome (fileEntry (p .F) (p .s) n)) (good .entered) in
+        let there = r .layout .catalog .there n (fileEntry (p .F) (p .s) n f) e in
+        (there .0, there .1, (λ z. no-zero (r .layout .catalog) (entry-named p (g .names)) n (fileEntry (p .F) (p .s) n f) e (sym (there .2) ∙ name-zero Q (there .0) z)), there .2)
+
+    area-ordinary : T (isSystem n) → ⊥
+    area-ordinary t = T-not (isSystem n) (g .files n (good .file) (good .entered) .ordinary) t
+
+  pub sound-areas : SoundAreas state Q (count g r)
+  sound-areas = record {
+    distinct = r .areas .distinct;
+    entered = area-entered;
+    ordinary = area-ordinary;
+    users = legal-users;
+  }

@@ -1,0 +1,59 @@
+-- `state::find_area` meets its contract. The invariant: the search from the start is the search from descriptor j on.
+-- Assumes nothing.
+use Prim.Native.Nat.{_≤_, _-_}
+use mathlib.Core.Path.{_≡_, refl, sym, _∙_}
+use native.Mathlib.Omega.{arith}
+use lib.ListN.{drop}
+use Rattle.types.specs.State.{pastArea}
+use Rattle.state.specs.Areas.{packed, isNamed, areaNamed, firstFrom}
+use Rattle.state.proofs.SearchLaws.{first-hit, first-miss, first-end}
+use Rattle.state.proofs.ShapeLaws.{areas-length}
+use Rattle.state.proofs.find_area.Statement.{statement}
+use Rattle.state.proofs.find_area.Tie as tie
+
+abbrev Inv-loop : tie.InvT-loop
+Inv-loop name state j₀ j = (j ≤ 8) × (areaNamed (packed name) state ≡ firstFrom (isNamed (packed name)) j (drop j (state .areas)))
+
+abbrev μ-loop : tie.MeasureT-loop
+μ-loop name state j₀ j = 8 - j
+
+loop-holds : tie.Need-loop-holds Inv-loop μ-loop
+loop-holds c = (omega arith, refl)
+
+mul-area : tie.Need-mul-area Inv-loop μ-loop
+mul-area c = omega arith
+
+element-copy-out-area : tie.Need-element-copy-out-area Inv-loop μ-loop
+element-copy-out-area c = omega arith
+
+is-named-requires : tie.Need-is-named-requires Inv-loop μ-loop
+is-named-requires c κs = tt
+
+returns : tie.Need-returns Inv-loop μ-loop
+returns c =
+    let turn = c .before .before .before in
+    let start = turn .before .before in
+    let eight = areas-length (start .args .t1) _ (start .good .0) in
+    sym (turn .before .loop .inv .1 ∙ first-hit (isNamed (packed (start .args .name))) _ 8 _ pastArea eight (turn .loop-test .taken) (sym (c .before .is-named .ensures) ∙ c .if1 .taken))
+
+add-j : tie.Need-add-j Inv-loop μ-loop
+add-j c = omega arith
+
+loop-less : tie.Need-loop-less Inv-loop μ-loop
+loop-less c = omega arith
+
+loop-again : tie.Need-loop-again Inv-loop μ-loop
+loop-again c =
+    let turn = c .before .before .before in
+    let start = turn .before .before in
+    let eight = areas-length (start .args .t1) _ (start .good .0) in
+    (omega arith, turn .before .loop .inv .1 ∙ first-miss (isNamed (packed (start .args .name))) _ 8 _ pastArea eight (turn .loop-test .taken) (sym (c .before .is-named .ensures) ∙ c .if1 .left))
+
+returns-2 : tie.Need-returns-2 Inv-loop μ-loop
+returns-2 c =
+    let start = c .before .before in
+    let eight = areas-length (start .args .t1) _ (start .good .0) in
+    sym (c .before .loop .inv .1 ∙ first-end (isNamed (packed (start .args .name))) _ 8 _ pastArea eight (c .loop-test .left))
+
+pub find-area-spec : {M : Type 1} → statement M
+find-area-spec = tie.close (tie.spec Inv-loop μ-loop loop-holds mul-area element-copy-out-area is-named-requires returns add-j loop-less loop-again returns-2)
