@@ -1,0 +1,95 @@
+-- `users::users_legal` meets its contract: the rules of each entry and of each pair are those of the area. Assumes nothing.
+use borrow.Author.Needs.{needs}
+use native.Mathlib.Omega.{arith}
+use Rattle.types.specs.State.{userAt}
+use Rattle.disc.proofs.DecideLaws.{fails, refutes, grants}
+use Rattle.users.specs.Rules.{LegalUser, LegalPair}
+use Rattle.users.proofs.UserLaws.{three-each, three-pairs, all-legal, one-legal, two-legal}
+use Rattle.users.proofs.users_legal.Statement.{statement}
+use Rattle.users.proofs.users_legal.Tie as tie
+
+element-copy-out-a : tie.Need-element-copy-out-a
+element-copy-out-a c = search needs
+
+user-legal-requires : tie.Need-user-legal-requires
+user-legal-requires c κs = search needs
+
+returns : tie.Need-returns
+returns c = fails (λ l. refutes _ (c .before .user-legal .ensures) (c .if1 .taken) (one-legal _ l 0 (omega arith)))
+
+element-copy-out-b : tie.Need-element-copy-out-b
+element-copy-out-b c = search needs
+
+user-legal-requires-2 : tie.Need-user-legal-requires-2
+user-legal-requires-2 c κs = search needs
+
+returns-2 : tie.Need-returns-2
+returns-2 c = fails (λ l. refutes _ (c .before .user-legal2 .ensures) (c .if2 .taken) (one-legal _ l 1 (omega arith)))
+
+element-copy-out-c : tie.Need-element-copy-out-c
+element-copy-out-c c = search needs
+
+user-legal-requires-3 : tie.Need-user-legal-requires-3
+user-legal-requires-3 c κs = search needs
+
+returns-3 : tie.Need-returns-3
+returns-3 c = fails (λ l. refutes _ (c .before .user-legal3 .ensures) (c .if3 .taken) (one-legal _ l 2 (omega arith)))
+
+pair-legal-requires : tie.Need-pair-legal-requires
+pair-legal-requires c κs = search needs
+
+returns-4 : tie.Need-returns-4
+returns-4 c = fails (λ l. refutes _ (c .before .pair-legal .ensures) (c .if4 .taken) (two-legal _ l 0 1 (omega arith) (omega arith)))
+
+pair-legal-requires-2 : tie.Need-pair-legal-requires-2
+pair-legal-requires-2 c κs = search needs
+
+returns-5 : tie.Need-returns-5
+returns-5 c = fails (λ l. refutes _ (c .before .pair-legal2 .ensures) (c .if5 .taken) (two-legal _ l 0 2 (omega arith) (omega arith)))
+
+pair-legal-requires-3 : tie.Need-pair-legal-requires-3
+pair-legal-requires-3 c κs = search needs
+
+returns-6 : tie.Need-returns-6
+returns-6 c =
+    let pair02 = c .before in
+    let pair01 = pair02 .before .before in
+    let user2 = pair01 .before .before in
+    let user1 = user2 .before .before .before in
+    let user0 = user1 .before .before .before in
+    let area = user0 .before .before .before .args .t1 in
+    record {
+      yes = λ e. all-legal
+          area
+          (three-each
+          (λ u. LegalUser (area .length) (userAt area u))
+          (grants _ (user0 .before .user-legal .ensures) (user0 .if1 .left))
+          (grants _ (user1 .before .user-legal2 .ensures) (user1 .if2 .left))
+          (grants _ (user2 .before .user-legal3 .ensures) (user2 .if3 .left)))
+          (three-pairs
+          (λ u v. LegalPair (userAt area u) (userAt area v))
+          (grants _ (pair01 .before .pair-legal .ensures) (pair01 .if4 .left))
+          (grants _ (pair02 .before .pair-legal2 .ensures) (pair02 .if5 .left))
+          (c .pair-legal3 .ensures .yes e));
+      not = λ e l. c .pair-legal3 .ensures .not e (two-legal area l 1 2 (omega arith) (omega arith));
+    }
+
+pub users-legal-spec : {M : Type 1} → statement M
+users-legal-spec =
+    tie.close
+    (tie.spec
+    element-copy-out-a
+    user-legal-requires
+    returns
+    element-copy-out-b
+    user-legal-requires-2
+    returns-2
+    element-copy-out-c
+    user-legal-requires-3
+    returns-3
+    pair-legal-requires
+    returns-4
+    pair-legal-requires-2
+    returns-5
+    pair-legal-requires-3
+    returns-6)
