@@ -1,4 +1,5 @@
 pub mod Compare
+pub mod DecideLaws
 pub mod NumberLaws
 pub mod WordLaws
 pub mod NameLaws
@@ -7,5 +8,9 @@ pub mod StretchLaws
 pub mod Geometry
 pub mod EntryLaws
 pub mod IndexUnique
+pub mod Longest
+pub mod AppendLaws
+pub mod CutLaws
+pub mod IndexLaws
+pub mod SectorLaws
 pub mod IndexRead
-pub mod DecideLaws

@@ -8,3 +8,4 @@ pub mod Stretches
 pub mod Kit
 pub mod Map
 pub mod Entries
+pub mod Pairs

@@ -40,7 +40,7 @@ use Rattle.refine.proofs.Ground.{Ground, ground, positive, top, first-i
 pub index-block : (image : List ℕ) (F s q : ℕ) (l : List ℕ) → 0 < s → ((j : ℕ) → j < length l → 1 ≤ getD l j 0) → 0 < length l → stretchCount l ≤ 127 → Holds image q (indexWords F s l)
     → IndexBlock image F s q
 index-block image F s q l pos above has few h =
-    let read : slicesAt image F s q ≡ l = slices-read image F s q l pos above few h in
+    let read : slicesAt image F s q ≡ l = slices-read image F s q pos l above few h in
     let count : word image q 0 ≡ stretchCount l = h .at 0 (omega arith) (omega arith) in
     record { some = rw count (count-some l has); few = rw count few; pairs = rw read h }
 
@@ -56,7 +56,7 @@ slices-from image F s f low pos above few h = go (f .slices) refl (indexSector F
     go (x ∷ l) e (suc q) z =
         let has : 0 < length (f .slices) = omega (arith, ap length e) in
         let here : sectorIn F s (f .slices) 0 ≡ suc q = sector-first F s (f .slices) has ∙ z in
-        slices-read image F s (suc q) (f .slices) pos above few (rw here at (h .index has))
+        slices-read image F s (suc q) pos (f .slices) above few (rw here at (h .index has))
 
 pub own-index : (image : List ℕ) (F s : ℕ) (f : File) → 10 ≤ F → 0 < s → ((j : ℕ) → j < length (f .slices) → 1 ≤ getD (f .slices) j 0) → stretchCount (f .slices) ≤ 127
     → FileOnImage image F s f → indexSector F s (length (f .slices)) (f .slices) ≢ 0 → OwnIndex image F s (indexSector F s (length (f .slices)) (f .slices))
@@ -70,7 +70,7 @@ own-index image F s f low pos above few h nz = below-or 0 (length (f .slices)) o
     own has =
         let q : ℕ = indexSector F s (length (f .slices)) (f .slices) in
         let words : Holds image q (indexWords F s (f .slices)) = rw (sector-first F s (f .slices) has) at (h .index has) in
-        let read : slicesAt image F s q ≡ f .slices = slices-read image F s q (f .slices) pos above few words in
+        let read : slicesAt image F s q ≡ f .slices = slices-read image F s q pos (f .slices) above few words in
         record {
           block = index-block image F s q (f .slices) pos above has few words;
           first = ap (λ (l : List ℕ). sliceStart F s (firstOf l)) read ∙ at-first (f .slices) has;

@@ -63,7 +63,7 @@ module _ {image : List ℕ} {state : State} {p : Plain} (g : Good p) (r : Repres
 
   -- sector 6 describes SYS's slices
   pub sys-read : slicesAt image (p .F) (p .s) sysIndexSector ≡ p .sys
-  sys-read = slices-read image (p .F) (p .s) sysIndexSector (p .sys) (positive p gr) (sys-slices p gr) (g .sysFew) (r .layout .sysIndex)
+  sys-read = slices-read image (p .F) (p .s) sysIndexSector (positive p gr) (p .sys) (sys-slices p gr) (g .sysFew) (r .layout .sysIndex)
 
   pub sys-index : IndexBlock image (p .F) (p .s) sysIndexSector
   sys-index = index-block image (p .F) (p .s) sysIndexSector (p .sys) (positive p gr) (sys-slices p gr) sys-some (g .sysFew) (r .layout .sysIndex)

@@ -1,0 +1,81 @@
+-- The first and the last pair of a block, and a slice behind it: where there is no pair, where the slice joins it, where it does not.
+use mathlib.Core.Path.{_≡_, refl, sym, ap, _∙_}
+use mathlib.Core.Bool.{true, false}
+use mathlib.Core.List.{List}
+use Prim.Native.Nat.{ℕ, zero, suc, _+_, _-_, _/_, _≤_, _<_}
+use native.Mathlib.Omega.{arith}
+use lib.Dec.{eqb}
+use lib.ListN.{set}
+use Rattle.disc.specs.Numbers.{sliceStart}
+use Rattle.disc.specs.Pairs.{pairLength, pairStart}
+use Rattle.disc.proofs.Compare.{same-or}
+use Rattle.index.specs.Block.{pairCount, sectorsFrom, firstSliceOf, firstSlice, lastSliceOf, lastSlice, joinsLast, joins, stretchesWith, withPair, lengthened, extended, appended}
+
+module _ (F s : ℕ) (l : List ℕ) (q n : ℕ) (count : n ≡ pairCount l q) where
+  pub first-none : n ≡ 0 → 0 ≡ firstSlice F s l q
+  unfolding firstSliceOf
+  first-none z = sym (ap (firstSliceOf F s l q) (sym count ∙ z))
+
+  pub first-some : 1 ≤ n → (pairStart l q 0 - F) / s + 1 ≡ firstSlice F s l q
+  unfolding firstSliceOf
+  first-some h = go n h ∙ ap (firstSliceOf F s l q) count
+    where
+      go : (m : ℕ) → 1 ≤ m → (pairStart l q 0 - F) / s + 1 ≡ firstSliceOf F s l q m
+      go zero x = absurd (omega arith)
+      go (suc j) x = refl
+
+  pub last-none : n ≡ 0 → 0 ≡ lastSlice F s l q
+  unfolding lastSliceOf
+  last-none z = sym (ap (lastSliceOf F s l q) (sym count ∙ z))
+
+  pub last-some : 1 ≤ n → (pairStart l q (n - 1) - F) / s + pairLength l q (n - 1) / s ≡ lastSlice F s l q
+  unfolding lastSliceOf
+  last-some h = go n h ∙ ap (lastSliceOf F s l q) count
+    where
+      go : (m : ℕ) → 1 ≤ m → (pairStart l q (m - 1) - F) / s + pairLength l q (m - 1) / s ≡ lastSliceOf F s l q m
+      go zero x = absurd (omega arith)
+      go (suc j) x = let e : suc j - 1 ≡ j = omega arith in rw e
+
+  pub joins-none : (k : ℕ) → n ≡ 0 → false ≡ joins F s k l q
+  unfolding joinsLast
+  joins-none k z = sym (ap (joinsLast F s k l q) (sym count ∙ z))
+
+  pub joins-some : (k : ℕ) → 1 ≤ n → eqb (pairStart l q (n - 1) + pairLength l q (n - 1)) (sliceStart F s k) ≡ joins F s k l q
+  unfolding joinsLast
+  joins-some k h = go n h ∙ ap (joinsLast F s k l q) count
+    where
+      go : (m : ℕ) → 1 ≤ m → eqb (pairStart l q (m - 1) + pairLength l q (m - 1)) (sliceStart F s k) ≡ joinsLast F s k l q m
+      go zero x = absurd (omega arith)
+      go (suc j) x = let e : suc j - 1 ≡ j = omega arith in rw e
+
+  -- a slice joins some pair
+  pub joins-pair : (k : ℕ) → joins F s k l q ≡ true → 1 ≤ n
+  unfolding joinsLast
+  joins-pair k t = go n refl
+    where
+      go : (m : ℕ) → n ≡ m → 1 ≤ m
+      go zero z = let e : false ≡ true = joins-none k z ∙ t in let o : _≡_ {A = ℕ} 0 1 = cc in absurd (omega arith)
+      go (suc j) z = omega arith
+
+  pub with-joined : (k : ℕ) → joins F s k l q ≡ true → n ≡ stretchesWith F s k l q
+  with-joined k t = rw t count
+
+  pub with-apart : (k : ℕ) → joins F s k l q ≡ false → n + 1 ≡ stretchesWith F s k l q
+  with-apart k t = rw t (ap (λ (m : ℕ). m + 1) count)
+
+-- one pair has no more sectors than all
+pub pair-le : (l : List ℕ) (q n i j : ℕ) → i ≤ j → j < i + n → pairLength l q j ≤ sectorsFrom l q n i
+unfolding sectorsFrom
+pair-le l q zero i j a b = absurd (omega arith)
+pair-le l q (suc n) i j a b = same-or i j
+    (λ e. let f : pairLength l q i ≡ pairLength l q j = ap (pairLength l q) e in omega arith)
+    (λ d. omega (arith, pair-le l q n (suc i) j (omega arith) (omega arith)))
+
+module _ (F s k : ℕ) (block : List ℕ) (n : ℕ) (count : n ≡ pairCount block 0) where
+  pub appended-joined : joins F s k block 0 ≡ true → withPair block (n - 1) (pairLength block 0 (n - 1) + s) (pairStart block 0 (n - 1)) ≡ appended F s k block
+  unfolding appended lengthened
+  appended-joined t = rw (t, count)
+
+  pub appended-apart : joins F s k block 0 ≡ false → withPair (set block 0 (n + 1)) n s (sliceStart F s k) ≡ appended F s k block
+  unfolding appended extended
+  appended-apart t = rw (t, count)

@@ -1,0 +1,47 @@
+-- `index::first_slice_at` meets its contract. Assumes nothing.
+use mathlib.Core.Path.{ap, _∙_}
+use Prim.Native.Nat.{ℕ, _+_, _-_, _/_}
+use native.Mathlib.Omega.{arith}
+use Rattle.disc.proofs.NumberLaws.{quotient-lt}
+use Rattle.index.proofs.CaseLaws.{first-none, first-some}
+use borrow.Author.Needs.{needs}
+use Rattle.index.proofs.first_slice_at.Statement.{statement}
+use Rattle.index.proofs.first_slice_at.Tie as tie
+
+pair-count-requires : tie.Need-pair-count-requires
+pair-count-requires c κs = search needs
+
+returns : tie.Need-returns
+returns c =
+    let a = c .before .before .before .args in
+    first-none (a .first .0) (a .s) (a .image .now) (a .q .0) _ (c .before .pair-count .ensures) (c .if1 .taken)
+
+pair-start-requires : tie.Need-pair-start-requires
+pair-start-requires c κs = search needs
+
+less-requires : tie.Need-less-requires
+less-requires c κs = search needs
+
+div-t8 : tie.Need-div-t8
+div-t8 c = search needs
+
+add-t9 : tie.Need-add-t9
+add-t9 c = omega (arith, quotient-lt (c .less .result) (c .before .before .before .before .before .args .s) 32768 (omega arith) (omega arith))
+
+returns-2 : tie.Need-returns-2
+returns-2 c =
+    let a = c .before .before .before .before .before .args in
+    ap (λ (x : ℕ). x / a .s + 1) (c .less .ensures ∙ ap (λ (x : ℕ). x - a .first .0) (c .before .pair-start .ensures))
+    ∙ first-some (a .first .0) (a .s) (a .image .now) (a .q .0) _ (c .before .before .before .pair-count .ensures) (omega (arith, c .before .before .if1 .left))
+
+pub first-slice-at-spec : {M : Type 1} → statement M
+first-slice-at-spec =
+    tie.close
+    (tie.spec
+    pair-count-requires
+    returns
+    pair-start-requires
+    less-requires
+    div-t8
+    add-t9
+    returns-2)

@@ -1,0 +1,93 @@
+-- `index::sector_at` meets its contract: what is sought is the sector `rest` of the stretches from pair j on. Assumes nothing.
+use mathlib.Core.Path.{_≡_, sym, ap, _∙_}
+use Prim.Native.Nat.{ℕ, _+_, _-_, _%_, _<_}
+use native.Mathlib.Nat.{sub-zero}
+use native.Mathlib.Omega.{arith}
+use Rattle.index.specs.Block.{sectorFrom, jointSector}
+use Rattle.index.proofs.WalkLaws.{sector-none, sector-here, sector-next}
+use borrow.Author.Needs.{needs}
+use Rattle.index.proofs.sector_at.Statement.{statement}
+use Rattle.index.proofs.sector_at.Tie as tie
+
+abbrev Inv-loop : tie.InvT-loop
+Inv-loop image q b n rest₀ j₀ rest j = (rest < 0x100000000) × (sectorFrom image (q .0) (n - j) j rest ≡ jointSector image (q .0) b)
+
+abbrev μ-loop : tie.MeasureT-loop
+μ-loop image q b n rest₀ j₀ rest j = n - j
+
+pair-count-requires : tie.Need-pair-count-requires Inv-loop μ-loop
+pair-count-requires c κs = search needs
+
+cast-n : tie.Need-cast-n Inv-loop μ-loop
+cast-n c = search needs
+
+loop-holds : tie.Need-loop-holds Inv-loop μ-loop
+loop-holds c =
+    let a = c .before .before .args in
+    (search needs, rw sub-zero (ap (λ (n : ℕ). sectorFrom (a .image .now) (a .q .0) n 0 (a .b)) (c .pair-count .ensures)))
+
+pair-length-requires : tie.Need-pair-length-requires Inv-loop μ-loop
+pair-length-requires c κs = search needs
+
+cast-length : tie.Need-cast-length Inv-loop μ-loop
+cast-length c = search needs
+
+pair-start-requires : tie.Need-pair-start-requires Inv-loop μ-loop
+pair-start-requires c κs = search needs
+
+cast-wrapping-add-u16 : tie.Need-cast-wrapping-add-u16 Inv-loop μ-loop
+cast-wrapping-add-u16 c = search needs
+
+wrapping-add-u16-requires : tie.Need-wrapping-add-u16-requires Inv-loop μ-loop
+wrapping-add-u16-requires c κs = search needs
+
+returns : tie.Need-returns Inv-loop μ-loop
+returns c =
+    let l = c .before .before .before .before .before in
+    let n = l .before .pair-count .result in
+    let a = l .before .before .before .args in
+    c .wrapping-add-u16 .ensures
+    ∙ ap (λ (w : ℕ). (w + l .loop .rest) % 65536) (c .before .pair-start .ensures)
+    ∙ sym (sector-here (a .image .now) (a .q .0) n (l .loop .j) (l .loop .rest) (c .before .before .before .before .loop-test .taken) (omega (arith, c .before .before .before .pair-length .ensures)))
+    ∙ l .loop .inv .1
+
+add-j : tie.Need-add-j Inv-loop μ-loop
+add-j c = search needs
+
+loop-less : tie.Need-loop-less Inv-loop μ-loop
+loop-less c = search needs
+
+loop-again : tie.Need-loop-again Inv-loop μ-loop
+loop-again c =
+    let l = c .before .before .before in
+    let n = l .before .pair-count .result in
+    let a = l .before .before .before .args in
+    let e = c .before .pair-length .ensures in
+    let s = sector-next (a .image .now) (a .q .0) n (l .loop .j) (l .loop .rest) (c .before .before .loop-test .taken) (omega (arith, e)) in
+    (omega (arith, l .loop .inv .0), rw e (sym s ∙ l .loop .inv .1))
+
+returns-2 : tie.Need-returns-2 Inv-loop μ-loop
+returns-2 c =
+    let a = c .before .before .before .before .args in
+    let n = c .before .before .pair-count .result in
+    sym (sector-none (a .image .now) (a .q .0) n (c .before .loop .j) (c .before .loop .rest) (c .loop-test .left)) ∙ c .before .loop .inv .1
+
+pub sector-at-spec : {M : Type 1} → statement M
+sector-at-spec =
+    tie.close
+    (tie.spec
+    Inv-loop
+    μ-loop
+    pair-count-requires
+    cast-n
+    loop-holds
+    pair-length-requires
+    cast-length
+    pair-start-requires
+    cast-wrapping-add-u16
+    wrapping-add-u16-requires
+    returns
+    add-j
+    loop-less
+    loop-again
+    returns-2)

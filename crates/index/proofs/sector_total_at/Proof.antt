@@ -1,0 +1,71 @@
+-- `index::sector_total_at` meets its contract: the total and the sectors of the pairs to come are all sectors. Assumes nothing.
+use mathlib.Core.Path.{_≡_, ap}
+use Prim.Native.Nat.{ℕ, _+_, _-_, _*_, _≤_}
+use native.Mathlib.Nat.{zero-add, sub-zero}
+use native.Mathlib.Omega.{arith}
+use Rattle.index.specs.Block.{sectorsFrom, sectorTotal}
+use Rattle.index.proofs.WalkLaws.{sectors-none, sectors-more}
+use borrow.Author.Needs.{needs}
+use Rattle.index.proofs.sector_total_at.Statement.{statement}
+use Rattle.index.proofs.sector_total_at.Tie as tie
+
+abbrev Inv-loop : tie.InvT-loop
+Inv-loop image q n total₀ j₀ total j = (total ≤ j * 65535) × (total + sectorsFrom image (q .0) (n - j) j ≡ sectorTotal image (q .0))
+
+abbrev μ-loop : tie.MeasureT-loop
+μ-loop image q n total₀ j₀ total j = n - j
+
+pair-count-requires : tie.Need-pair-count-requires Inv-loop μ-loop
+pair-count-requires c κs = search needs
+
+cast-n : tie.Need-cast-n Inv-loop μ-loop
+cast-n c = search needs
+
+loop-holds : tie.Need-loop-holds Inv-loop μ-loop
+loop-holds c =
+    let a = c .before .before .args in
+    (omega arith, rw (zero-add, sub-zero) (ap (λ (n : ℕ). sectorsFrom (a .image .now) (a .q .0) n 0) (c .pair-count .ensures)))
+
+pair-length-requires : tie.Need-pair-length-requires Inv-loop μ-loop
+pair-length-requires c κs = search needs
+
+cast-total : tie.Need-cast-total Inv-loop μ-loop
+cast-total c = search needs
+
+add-total : tie.Need-add-total Inv-loop μ-loop
+add-total c = search needs
+
+add-j : tie.Need-add-j Inv-loop μ-loop
+add-j c = search needs
+
+loop-less : tie.Need-loop-less Inv-loop μ-loop
+loop-less c = search needs
+
+loop-again : tie.Need-loop-again Inv-loop μ-loop
+loop-again c =
+    let a = c .before .before .before .before .before .args in
+    let n = c .before .before .before .pair-count .result in
+    (omega arith, omega (arith, c .pair-length .ensures, sectors-more (a .image .now) (a .q .0) n (c .before .before .loop .j) (c .before .loop-test .taken), c .before .before .loop .inv .1))
+
+returns : tie.Need-returns Inv-loop μ-loop
+returns c =
+    let a = c .before .before .before .before .args in
+    let n = c .before .before .pair-count .result in
+    omega (arith, sectors-none (a .image .now) (a .q .0) n (c .before .loop .j) (c .loop-test .left), c .before .loop .inv .1)
+
+pub sector-total-at-spec : {M : Type 1} → statement M
+sector-total-at-spec =
+    tie.close
+    (tie.spec
+    Inv-loop
+    μ-loop
+    pair-count-requires
+    cast-n
+    loop-holds
+    pair-length-requires
+    cast-total
+    add-total
+    add-j
+    loop-less
+    loop-again
+    returns)

@@ -1,0 +1,23 @@
+-- `index::store_block` meets its contract: the block's 256 words are all that is stored. Assumes nothing.
+use mathlib.Core.Path.{ap, _∙_}
+use Prim.Native.Nat.{_*_}
+use native.Mathlib.Omega.{arith}
+use lib.Seq.{take-all}
+use Rattle.words.specs.Store.{store}
+use borrow.Author.Needs.{needs}
+use Rattle.index.proofs.store_block.Statement.{statement}
+use Rattle.index.proofs.store_block.Tie as tie
+
+store-sector-requires : tie.Need-store-sector-requires
+store-sector-requires c κs = search needs
+
+same-length : tie.Need-same-length
+same-length c = search needs
+
+returns : tie.Need-returns
+returns c =
+    let a = c .before .before .before .before .before .before .before .before .args in
+    c .before .before .store-sector .ensures ∙ ap (store (a .image .now) (a .q .0 * 256)) (take-all 256 (a .t3 .words) (omega arith))
+
+pub store-block-spec : {M : Type 1} → statement M
+store-block-spec = tie.close (tie.spec store-sector-requires same-length returns)

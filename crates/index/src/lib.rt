@@ -1,0 +1,298 @@
+// Index blocks: read in place or as a value, changed as a value, and stored whole.
+
+ghost use mathlib.Core.Path.{_≡_};
+ghost use Prim.Native.Nat.{_+_, _-_, _*_, _≤_, _<_, min};
+ghost use lib.ListN.{length, set};
+ghost use Rattle.disc.specs.Pairs.{pairLength, pairStart};
+ghost use Rattle.words.specs.Store.{store, zeroWords};
+ghost use Rattle.index.specs.Block.{pairCount, blockAt, sectorTotal, sliceTotal, firstSlice, lastSlice, jointSector, sliceNumber, joins, stretchesWith, withPair, appended, Appendable, cutTo};
+use types::Block;
+use types::Sector;
+use types::Slice;
+
+// The 256 words of an index block, held while a message changes it.
+pub struct IndexBlock {
+    pub words: [u16; 256],
+}
+
+// The block of no slices.
+pub fn empty_block() -> IndexBlock
+    ensures { λ r. ⌜ r .words ≡ zeroWords 256 ⌝ }
+{
+    let words = [0u16; 256];
+    IndexBlock { words: words }
+}
+
+// The count of descriptions of the block in sector q, at most 127.
+pub fn pair_count(image: &[u16], q: Sector) -> u16
+    ensures { λ r. ⌜ r ≡ pairCount (now (image .entry)) (q .0) ⌝ }
+{
+    let n = words::word(image, q, 0);
+    if n < 127 { n } else { 127 }
+}
+
+// The length in sectors of pair j of the block in sector q.
+pub fn pair_length(image: &[u16], q: Sector, j: usize) -> u16
+    requires { ⌜ j < 127 ⌝ }
+    ensures { λ r. ⌜ r ≡ pairLength (now (image .entry)) (q .0) j ⌝ }
+{
+    words::word(image, q, 2 * j + 1)
+}
+
+// The first sector of pair j of the block in sector q.
+pub fn pair_start(image: &[u16], q: Sector, j: usize) -> u16
+    requires { ⌜ j < 127 ⌝ }
+    ensures { λ r. ⌜ r ≡ pairStart (now (image .entry)) (q .0) j ⌝ }
+{
+    words::word(image, q, 2 * j + 2)
+}
+
+// The block with another count.
+fn set_count(block: IndexBlock, n: u16) -> IndexBlock
+    ensures { λ r. ⌜ r .words ≡ set (block .words) 0 n ⌝ }
+{
+    let mut w = block.words;
+    w[0] = n;
+    IndexBlock { words: w }
+}
+
+// The block with another pair j.
+fn set_pair(block: IndexBlock, j: usize, length: u16, start: u16) -> IndexBlock
+    requires { ⌜ j < 127 ⌝ }
+    ensures { λ r. ⌜ r .words ≡ withPair (block .words) j length start ⌝ }
+{
+    let mut w = block.words;
+    w[2 * j + 1] = length;
+    w[2 * j + 2] = start;
+    IndexBlock { words: w }
+}
+
+// The block in sector q as a value.
+pub fn read_block(image: &[u16], q: Sector) -> IndexBlock
+    ensures { λ r. ⌜ r .words ≡ blockAt (now (image .entry)) (q .0) ⌝ }
+{
+    let n = pair_count(image, q);
+    let mut block = set_count(empty_block(), n);
+    let mut j: usize = 0;
+    while j < n as usize {
+        block = set_pair(block, j, pair_length(image, q, j), pair_start(image, q, j));
+        j += 1;
+    }
+    block
+}
+
+// The sectors of all stretches of the block in sector q.
+pub fn sector_total_at(image: &[u16], q: Sector) -> u32
+    ensures { λ r. ⌜ r ≡ sectorTotal (now (image .entry)) (q .0) ⌝ }
+{
+    let n = pair_count(image, q) as usize;
+    let mut total: u32 = 0;
+    let mut j = 0;
+    while j < n {
+        total += pair_length(image, q, j) as u32;
+        j += 1;
+    }
+    total
+}
+
+// The number of slices of the block in sector q.
+pub fn slice_total_at(image: &[u16], q: Sector, s: u16) -> u16
+    requires { ⌜ (1 ≤ s) × (sliceTotal s (now image) (q .0) < 65536) ⌝ }
+    ensures { λ r. ⌜ r ≡ sliceTotal s (now (image .entry)) (q .0) ⌝ }
+{
+    (sector_total_at(image, q) / s as u32) as u16
+}
+
+// The difference of two numbers, 0 where it would be below.
+fn less(a: u16, b: u16) -> u16
+    ensures { λ r. ⌜ r ≡ a - b ⌝ }
+{
+    if a < b { 0 } else { a - b }
+}
+
+// The first slice of the block in sector q, 0 if there is none.
+pub fn first_slice_at(image: &[u16], q: Sector, first: Sector, s: u16) -> Slice
+    requires { ⌜ 2 ≤ s ⌝ }
+    ensures { λ r. ⌜ r .0 ≡ firstSlice (first .0) s (now (image .entry)) (q .0) ⌝ }
+{
+    if pair_count(image, q) == 0 {
+        return Slice(0);
+    }
+    Slice(less(pair_start(image, q, 0), first.0) / s + 1)
+}
+
+// The last slice of the block in sector q, 0 if there is none.
+pub fn last_slice_at(image: &[u16], q: Sector, first: Sector, s: u16) -> Slice
+    requires { ⌜ 2 ≤ s ⌝ }
+    ensures { λ r. ⌜ r .0 ≡ lastSlice (first .0) s (now (image .entry)) (q .0) ⌝ }
+{
+    let n = pair_count(image, q) as usize;
+    if n == 0 {
+        return Slice(0);
+    }
+    let length = pair_length(image, q, n - 1);
+    let start = pair_start(image, q, n - 1);
+    Slice(less(start, first.0) / s + length / s)
+}
+
+// Sector b of the joined stretches of the block in sector q, 0 past their end.
+pub fn sector_at(image: &[u16], q: Sector, b: u32) -> Sector
+    ensures { λ r. ⌜ r .0 ≡ jointSector (now (image .entry)) (q .0) b ⌝ }
+{
+    let n = pair_count(image, q) as usize;
+    let mut rest = b;
+    let mut j = 0;
+    while j < n {
+        let length = pair_length(image, q, j) as u32;
+        if rest < length {
+            let start = pair_start(image, q, j);
+            return Sector(std::num::wrapping_add_u16(start, rest as u16));
+        }
+        rest -= length;
+        j += 1;
+    }
+    Sector(0)
+}
+
+// The sector of block b of a file with its index block in sector q, whose blocks begin at the joined sector `from`.
+pub fn block_sector_at(image: &[u16], q: Sector, from: u16, b: Block) -> Sector
+    ensures { λ r. ⌜ r .0 ≡ jointSector (now (image .entry)) (q .0) (b .0 + from) ⌝ }
+{
+    sector_at(image, q, b.0 as u32 + from as u32)
+}
+
+// Slice number j, counted from 0 in file order, of the block in sector q.
+pub fn slice_number_at(image: &[u16], q: Sector, first: Sector, s: u16, j: u16) -> Slice
+    requires { ⌜ 2 ≤ s ⌝ }
+    ensures { λ r. ⌜ r .0 ≡ sliceNumber (first .0) s j (now (image .entry)) (q .0) ⌝ }
+{
+    let sector = sector_at(image, q, s as u32 * j as u32);
+    Slice(less(sector.0, first.0) / s + 1)
+}
+
+// Whether slice k starts where the last stretch of the block in sector q ends.
+fn joins_at(image: &[u16], q: Sector, first: Sector, s: u16, k: Slice) -> bool
+    requires { ⌜ 1 ≤ k .0 ⌝ }
+    ensures { λ r. ⌜ r ≡ joins (first .0) s (k .0) (now (image .entry)) (q .0) ⌝ }
+{
+    let n = pair_count(image, q) as usize;
+    if n == 0 {
+        return false;
+    }
+    let length = pair_length(image, q, n - 1) as u64;
+    let start = pair_start(image, q, n - 1) as u64;
+    start + length == first.0 as u64 + (k.0 as u64 - 1) * s as u64
+}
+
+// The number of stretches of the block in sector q with slice k at the end.
+pub fn stretches_with_at(image: &[u16], q: Sector, first: Sector, s: u16, k: Slice) -> u16
+    requires { ⌜ 1 ≤ k .0 ⌝ }
+    ensures { λ r. ⌜ r ≡ stretchesWith (first .0) s (k .0) (now (image .entry)) (q .0) ⌝ }
+{
+    let n = pair_count(image, q);
+    if joins_at(image, q, first, s, k) {
+        return n;
+    }
+    n + 1
+}
+
+// The block with slice k at the end.
+pub fn append_slice(block: IndexBlock, first: Sector, s: u16, k: Slice) -> IndexBlock
+    requires { ⌜ Appendable (first .0) s (k .0) (block .words) ⌝ }
+    ensures { λ r. ⌜ r .words ≡ appended (first .0) s (k .0) (block .words) ⌝ }
+{
+    let n = pair_count(&block.words, Sector(0));
+    let joined = joins_at(&block.words, Sector(0), first, s, k);
+    if joined {
+        let j = n as usize - 1;
+        let length = pair_length(&block.words, Sector(0), j);
+        let start = pair_start(&block.words, Sector(0), j);
+        return set_pair(block, j, length + s, start);
+    }
+    let start = numbers::slice_start(first, s, k);
+    set_pair(set_count(block, n + 1), n as usize, s, start.0)
+}
+
+// The smaller of two numbers.
+fn smaller(a: u16, b: u32) -> u16
+    ensures { λ r. ⌜ r ≡ min a b ⌝ }
+{
+    if b < a as u32 { b as u16 } else { a }
+}
+
+// The block of the first n slices.
+pub fn cut_block(block: IndexBlock, s: u16, n: u16) -> IndexBlock
+    ensures { λ r. ⌜ r .words ≡ cutTo s n (block .words) ⌝ }
+{
+    let count = pair_count(&block.words, Sector(0));
+    let mut cut = empty_block();
+    let mut rest = s as u32 * n as u32;
+    let mut j: u16 = 0;
+    while j < count {
+        if rest == 0 {
+            break;
+        }
+        let length = pair_length(&block.words, Sector(0), j as usize);
+        let start = pair_start(&block.words, Sector(0), j as usize);
+        let kept = smaller(length, rest);
+        cut = set_pair(cut, j as usize, kept, start);
+        rest -= kept as u32;
+        j += 1;
+    }
+    set_count(cut, j)
+}
+
+// Stores the whole block in sector q.
+pub fn store_block(image: &mut [u16], q: Sector, block: IndexBlock)
+    requires { ⌜ q .0 * 256 + 256 ≤ length (now image) ⌝ }
+    ensures { λ _. ⌜ now (image .exit) ≡ store (now (image .entry)) (q .0 * 256) (block .words) ⌝ }
+{
+    words::store_sector(image, q, &block.words);
+}
+
+// The same questions of a block that is held as a value: its number of slices.
+pub fn slice_total(block: IndexBlock, s: u16) -> u16
+    requires { ⌜ (1 ≤ s) × (sliceTotal s (block .words) 0 < 65536) ⌝ }
+    ensures { λ r. ⌜ r ≡ sliceTotal s (block .words) 0 ⌝ }
+{
+    slice_total_at(&block.words, Sector(0), s)
+}
+
+// Its first slice, 0 if there is none.
+pub fn first_slice(block: IndexBlock, first: Sector, s: u16) -> Slice
+    requires { ⌜ 2 ≤ s ⌝ }
+    ensures { λ r. ⌜ r .0 ≡ firstSlice (first .0) s (block .words) 0 ⌝ }
+{
+    first_slice_at(&block.words, Sector(0), first, s)
+}
+
+// Its last slice, 0 if there is none.
+pub fn last_slice(block: IndexBlock, first: Sector, s: u16) -> Slice
+    requires { ⌜ 2 ≤ s ⌝ }
+    ensures { λ r. ⌜ r .0 ≡ lastSlice (first .0) s (block .words) 0 ⌝ }
+{
+    last_slice_at(&block.words, Sector(0), first, s)
+}
+
+// Its slice number j, counted from 0 in file order.
+pub fn slice_number(block: IndexBlock, first: Sector, s: u16, j: u16) -> Slice
+    requires { ⌜ 2 ≤ s ⌝ }
+    ensures { λ r. ⌜ r .0 ≡ sliceNumber (first .0) s j (block .words) 0 ⌝ }
+{
+    slice_number_at(&block.words, Sector(0), first, s, j)
+}
+
+// The sector of its file's block b, where the blocks begin at the joined sector `from`.
+pub fn block_sector(block: IndexBlock, from: u16, b: Block) -> Sector
+    ensures { λ r. ⌜ r .0 ≡ jointSector (block .words) 0 (b .0 + from) ⌝ }
+{
+    block_sector_at(&block.words, Sector(0), from, b)
+}
+
+// The number of its stretches with slice k at the end.
+pub fn stretches_with(block: IndexBlock, first: Sector, s: u16, k: Slice) -> u16
+    requires { ⌜ 1 ≤ k .0 ⌝ }
+    ensures { λ r. ⌜ r ≡ stretchesWith (first .0) s (k .0) (block .words) 0 ⌝ }
+{
+    stretches_with_at(&block.words, Sector(0), first, s, k)
+}
