@@ -14,3 +14,5 @@ pub mod CutLaws
 pub mod IndexLaws
 pub mod SectorLaws
 pub mod IndexRead
+pub mod SpanLaws
+pub mod WalkLaws

@@ -8,7 +8,7 @@ use lib.ListN.{length}
 use Rattle.disc.specs.Slices.{oneIfSame, occurrences, oneIfBelow, inUnit, InRangeOnce, oneIfNone, freeCount, firstIf, lowestFrom, nextOr, choose, taken}
 use Rattle.disc.proofs.Compare.{Tri, less, same, more, tri, tri-less, tri-more, tri-same}
 
-same-le : (o : Ordering) → oneIfSame o ≤ 1
+pub same-le : (o : Ordering) → oneIfSame o ≤ 1
 same-le Ordering·lt = omega arith
 same-le Ordering·eq = omega arith
 same-le Ordering·gt = omega arith

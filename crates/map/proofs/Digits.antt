@@ -15,10 +15,10 @@ digit x e = x / 2 ^ e % 2
 abbrev pub withDigit : ℕ → ℕ → ℕ → ℕ
 withDigit e v x = x - digit x e * 2 ^ e + v * 2 ^ e
 
-digit-zero : (x : ℕ) → digit x 0 ≡ x % 2
+pub digit-zero : (x : ℕ) → digit x 0 ≡ x % 2
 digit-zero x = rw div-one
 
-digit-suc : (x e : ℕ) → digit x (suc e) ≡ digit (x / 2) e
+pub digit-suc : (x e : ℕ) → digit x (suc e) ≡ digit (x / 2) e
 digit-suc x e = ap (λ (y : ℕ). y % 2) (ap (λ (k : ℕ). x / 2 ^ k) (omega arith) ∙ sym (shr-shr x 1 e))
 
 -- what a digit adds to its number
@@ -55,6 +55,15 @@ module _ (v : ℕ) (bit : v ≤ 1) where
   with-lt e zero x l h = absurd (omega arith)
   with-lt zero (suc n) x l h = omega arith
   with-lt (suc e) (suc n) x l h = omega (arith, with-suc e v x, with-lt e n (x / 2) (omega arith) (omega arith))
+
+-- what stands above the lowest n digits does not change them
+pub digit-low : (hi n lo e : ℕ) → e < n → digit (hi * 2 ^ n + lo) e ≡ digit lo e
+digit-low hi zero lo e h = absurd (omega arith)
+digit-low hi (suc n) lo zero h = omega (arith, double hi n)
+digit-low hi (suc n) lo (suc e) h =
+    let half : (hi * 2 ^ suc n + lo) / 2 ≡ hi * 2 ^ n + lo / 2 = omega (arith, double hi n) in
+    digit-suc (hi * 2 ^ suc n + lo) e ∙ ap (λ (y : ℕ). digit y e) half
+    ∙ digit-low hi n (lo / 2) e (omega arith) ∙ sym (digit-suc lo e)
 
 -- the sum of bits 1 to n
 abbrev pub countTo : (ℕ → ℕ) → ℕ → ℕ

@@ -3,3 +3,4 @@ pub mod MarkLaws
 pub mod CountLaws
 pub mod ChoiceLaws
 pub mod ScanLaws
+pub mod MapWordLaws

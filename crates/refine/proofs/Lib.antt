@@ -19,3 +19,5 @@ pub mod ReserveLaws
 pub mod StateLaws
 pub mod UnitAreas
 pub mod SoundRepresents
+pub mod FormatImage
+pub mod Format

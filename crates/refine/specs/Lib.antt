@@ -1,4 +1,5 @@
 pub mod Represents
 pub mod Writes
+pub mod Format
 pub mod Claims
 pub mod Demands

@@ -1,0 +1,56 @@
+-- `kit::map_index` meets its contract: the three words one by one. Assumes nothing.
+use native.Mathlib.Omega.{arith}
+use Rattle.disc.specs.Words.{word}
+use Rattle.disc.specs.Kit.{mapIndexSector}
+use Rattle.disc.proofs.DecideLaws.{fails}
+use Rattle.kit.proofs.KitLaws.{decides-eq, holds-three}
+use borrow.Author.Needs.{needs}
+use Rattle.kit.proofs.map_index.Statement.{statement}
+use Rattle.kit.proofs.map_index.Tie as tie
+
+shared-slice-read-if1 : tie.Need-shared-slice-read-if1
+shared-slice-read-if1 c = search needs
+
+returns : tie.Need-returns
+returns c = fails (λ h. c .if1 .taken (h .at 0 (omega arith) (omega arith)))
+
+add-if2 : tie.Need-add-if2
+add-if2 c = search needs
+
+mul-if2 : tie.Need-mul-if2
+mul-if2 c = search needs
+
+shared-slice-read-if2 : tie.Need-shared-slice-read-if2
+shared-slice-read-if2 c = search needs
+
+returns-2 : tie.Need-returns-2
+returns-2 c = fails (λ h. c .if2 .taken (h .at 1 (omega arith) (omega arith)))
+
+add-result : tie.Need-add-result
+add-result c = search needs
+
+mul-result : tie.Need-mul-result
+mul-result c = search needs
+
+shared-slice-read-result : tie.Need-shared-slice-read-result
+shared-slice-read-result c = search needs
+
+returns-3 : tie.Need-returns-3
+returns-3 c =
+    let image = c .before .before .before .before .before .args .image .now in
+    decides-eq (word image mapIndexSector 2) 9 (holds-three image mapIndexSector 1 1 9 (c .before .before .before .if1 .left) (c .before .if2 .left)) (λ h. h .at 2 (omega arith) (omega arith))
+
+pub map-index-spec : {M : Type 1} → statement M
+map-index-spec =
+    tie.close
+    (tie.spec
+    shared-slice-read-if1
+    returns
+    add-if2
+    mul-if2
+    shared-slice-read-if2
+    returns-2
+    add-result
+    mul-result
+    shared-slice-read-result
+    returns-3)

@@ -1,0 +1,88 @@
+-- `kit::within_limits` meets its contract. Assumes nothing.
+use Prim.Native.Nat.{_-_}
+use native.Mathlib.Nat.{div-mul-le-self}
+use native.Mathlib.Omega.{arith}
+use Rattle.disc.proofs.DecideLaws.{fails}
+use Rattle.kit.proofs.KitLaws.{decides-le, product-whole, whole-product, enough, enough-only}
+use borrow.Author.Needs.{needs}
+use Rattle.kit.proofs.within_limits.Statement.{statement}
+use Rattle.kit.proofs.within_limits.Tie as tie
+
+returns : tie.Need-returns
+returns c = fails (λ l. omega arith)
+
+returns-2 : tie.Need-returns-2
+returns-2 c = fails (λ l. omega arith)
+
+returns-3 : tie.Need-returns-3
+returns-3 c = fails (λ l. omega arith)
+
+returns-4 : tie.Need-returns-4
+returns-4 c = fails (λ l. omega arith)
+
+returns-5 : tie.Need-returns-5
+returns-5 c = fails (λ l. omega arith)
+
+returns-6 : tie.Need-returns-6
+returns-6 c = fails (λ l. omega arith)
+
+returns-7 : tie.Need-returns-7
+returns-7 c = fails (λ l. omega arith)
+
+sub-data : tie.Need-sub-data
+sub-data c = search needs
+
+div-slices : tie.Need-div-slices
+div-slices c = search needs
+
+mul-if8 : tie.Need-mul-if8
+mul-if8 c =
+    let a = c .before .before .before .before .before .before .before .args in
+    omega (arith, div-mul-le-self (a .sectors - a .first) (a .slice))
+
+returns-8 : tie.Need-returns-8
+returns-8 c =
+    let a = c .before .before .before .before .before .before .before .before .args in
+    fails (λ l. c .if8 .taken (whole-product (a .sectors - a .first) (a .slice) (l .whole)))
+
+returns-9 : tie.Need-returns-9
+returns-9 c = fails (λ l. omega arith)
+
+returns-10 : tie.Need-returns-10
+returns-10 c =
+    let a = c .before .before .before .before .before .before .before .before .before .args in
+    let d = a .sectors - a .first in
+    let whole = c .before .if8 .left in
+    decides-le (a .keys) d
+    (λ h.
+    record {
+      keys-low = omega arith;
+      keys-high = omega arith;
+      slice-low = omega arith;
+      slice-high = omega arith;
+      first = omega arith;
+      some-data = omega arith;
+      sectors = omega arith;
+      whole = product-whole d (a .slice) whole;
+      slices-high = omega arith;
+      slices-low = enough (a .keys) (a .slice) d (omega arith) whole h;
+    })
+    (λ l. enough-only (a .keys) (a .slice) d (omega arith) (l .slices-low))
+
+pub within-limits-spec : {M : Type 1} → statement M
+within-limits-spec =
+    tie.close
+    (tie.spec
+    returns
+    returns-2
+    returns-3
+    returns-4
+    returns-5
+    returns-6
+    returns-7
+    sub-data
+    div-slices
+    mul-if8
+    returns-8
+    returns-9
+    returns-10)

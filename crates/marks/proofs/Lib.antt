@@ -1,0 +1,6 @@
+pub mod PackedLaws
+pub mod WordTests
+pub mod AgreeLaws
+pub mod MarkLaws
+pub mod PairLaws
+pub mod IndexMarks

@@ -1,0 +1,63 @@
+-- `marks::cleared` meets its contract. The loop's invariant: the sum is 0 exactly if the words passed are 0. Assumes nothing.
+use Prim.Native.Nat.{_+_, _-_, _*_, _≤_}
+use native.Mathlib.Omega.{arith}
+use mir.Facts.{fits-widen}
+use borrow.Author.Needs.{needs}
+use Rattle.marks.proofs.WordTests.{ZeroIf, zero-none, zero-more, zero-all}
+use Rattle.marks.proofs.cleared.Statement.{statement}
+use Rattle.marks.proofs.cleared.Tie as tie
+
+abbrev Inv-loop : tie.InvT-loop
+Inv-loop image n sum₀ w₀ sum w = (n ≤ w) × (w ≤ 256) × (sum ≤ 65535 * w) × ZeroIf image n w sum
+
+abbrev μ-loop : tie.MeasureT-loop
+μ-loop image n sum₀ w₀ sum w = 256 - w
+
+loop-holds : tie.Need-loop-holds Inv-loop μ-loop
+loop-holds c = (omega arith, omega arith, omega arith, zero-none)
+
+add-sum : tie.Need-add-sum Inv-loop μ-loop
+add-sum c = search needs
+
+mul-sum : tie.Need-mul-sum Inv-loop μ-loop
+mul-sum c = search needs
+
+shared-slice-read-sum : tie.Need-shared-slice-read-sum Inv-loop μ-loop
+shared-slice-read-sum c = search needs
+
+cast-sum : tie.Need-cast-sum Inv-loop μ-loop
+cast-sum c = fits-widen tt (c .shared-slice-known .given _)
+
+add-sum-2 : tie.Need-add-sum-2 Inv-loop μ-loop
+add-sum-2 c = let l = c .before .before .loop in omega (arith, c .shared-slice-known .given (2304 + l .w))
+
+add-w : tie.Need-add-w Inv-loop μ-loop
+add-w c = search needs
+
+loop-less : tie.Need-loop-less Inv-loop μ-loop
+loop-less c = search needs
+
+loop-again : tie.Need-loop-again Inv-loop μ-loop
+loop-again c =
+    let l = c .before .before .loop in
+    (omega arith, omega arith, omega (arith, c .shared-slice-known .given (2304 + l .w)), zero-more (l .inv .0) (l .inv .3))
+
+returns : tie.Need-returns Inv-loop μ-loop
+returns c = zero-all (omega arith) (c .before .loop .inv .3)
+
+pub cleared-spec : {M : Type 1} → statement M
+cleared-spec =
+    tie.close
+    (tie.spec
+    Inv-loop
+    μ-loop
+    loop-holds
+    add-sum
+    mul-sum
+    shared-slice-read-sum
+    cast-sum
+    add-sum-2
+    add-w
+    loop-less
+    loop-again
+    returns)

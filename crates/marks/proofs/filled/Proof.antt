@@ -1,0 +1,80 @@
+-- `marks::filled` meets its contract. The loop's invariant: the words passed and their marks add up to FFFFh. Assumes nothing.
+use mathlib.Core.Path.{refl}
+use Prim.Native.Nat.{_+_, _-_, _≤_}
+use native.Mathlib.Omega.{arith}
+use mir.Facts.{fits-widen}
+use borrow.Author.Needs.{needs}
+use Rattle.disc.proofs.DecideLaws.{holds, fails}
+use Rattle.marks.specs.Packed.{Filled}
+use Rattle.marks.proofs.WordTests.{filled-none, filled-more, filled-fails, filled-all}
+use Rattle.marks.proofs.filled.Statement.{statement}
+use Rattle.marks.proofs.filled.Tie as tie
+
+abbrev Inv-loop : tie.InvT-loop
+Inv-loop image marks n w₀ w = (w ≤ n) × Filled image marks w
+
+abbrev μ-loop : tie.MeasureT-loop
+μ-loop image marks n w₀ w = n - w
+
+loop-holds : tie.Need-loop-holds Inv-loop μ-loop
+loop-holds c = (omega arith, filled-none _ _)
+
+add-if1 : tie.Need-add-if1 Inv-loop μ-loop
+add-if1 c = search needs
+
+mul-if1 : tie.Need-mul-if1 Inv-loop μ-loop
+mul-if1 c = search needs
+
+shared-slice-read-if1 : tie.Need-shared-slice-read-if1 Inv-loop μ-loop
+shared-slice-read-if1 c = search needs
+
+cast-if1 : tie.Need-cast-if1 Inv-loop μ-loop
+cast-if1 c = fits-widen tt (c .shared-slice-known2 .given _)
+
+mul-packed : tie.Need-mul-packed Inv-loop μ-loop
+mul-packed c = search needs
+
+packed-requires : tie.Need-packed-requires Inv-loop μ-loop
+packed-requires c κs = search needs
+
+add-if1-2 : tie.Need-add-if1-2 Inv-loop μ-loop
+add-if1-2 c = omega (arith, c .before .shared-slice-known2 .given (2304 + c .before .before .before .loop .w))
+
+returns : tie.Need-returns Inv-loop μ-loop
+returns c =
+    let l = c .before .before .before .before in
+    fails (filled-fails (l .loop .w) _ _ _ (c .before .before .before .loop-test .taken) refl (c .before .packed .ensures .0) (c .if1 .taken))
+
+add-w : tie.Need-add-w Inv-loop μ-loop
+add-w c = search needs
+
+loop-less : tie.Need-loop-less Inv-loop μ-loop
+loop-less c = search needs
+
+loop-again : tie.Need-loop-again Inv-loop μ-loop
+loop-again c =
+    let l = c .before .before .before .before in
+    (omega arith, filled-more (l .loop .w) _ _ refl (c .before .packed .ensures .0) (c .if1 .left) (l .loop .inv .1))
+
+returns-2 : tie.Need-returns-2 Inv-loop μ-loop
+returns-2 c = holds (filled-all (c .before .loop .w) _ (omega arith) (c .before .loop .inv .1))
+
+pub filled-spec : {M : Type 1} → statement M
+filled-spec =
+    tie.close
+    (tie.spec
+    Inv-loop
+    μ-loop
+    loop-holds
+    add-if1
+    mul-if1
+    shared-slice-read-if1
+    cast-if1
+    mul-packed
+    packed-requires
+    add-if1-2
+    returns
+    add-w
+    loop-less
+    loop-again
+    returns-2)

@@ -1,0 +1,130 @@
+-- `marks::map_agrees` meets its contract: each test is what a map that agrees has. Assumes nothing.
+use mathlib.Core.Path.{refl}
+use Prim.Native.Nat.{_+_, _*_, _/_, _≤_}
+use native.Mathlib.Omega.{arith}
+use mir.Facts.{fits-widen}
+use borrow.Author.Needs.{needs}
+use Rattle.disc.specs.Words.{word, Words}
+use Rattle.disc.specs.Kit.{mapSector}
+use Rattle.disc.proofs.DecideLaws.{holds, fails, refutes, grants}
+use Rattle.marks.proofs.AgreeLaws.{agree-filled, agree-edge, agree-full, agree-past}
+use Rattle.marks.proofs.map_agrees.Statement.{statement}
+use Rattle.marks.proofs.map_agrees.Tie as tie
+
+-- what the laws take: the words of the image, and the limit of the slices
+words : (c : tie.After-filled) → Words (c .before .before .before .args .image .now)
+words c = record { each = λ k. c .before .before .shared-slice-known .given k .fits }
+
+few : (c : tie.After-filled) → c .before .before .before .args .g .slices ≤ 4096
+few c = omega arith
+
+-- the sum of three numbers of which none is large
+edge : (c : tie.After-packed) → let a = c .before .before .before .before .before .before .before .before .before .args in
+    word (a .image .now) mapSector (a .g .slices / 16) + c .packed .result + 2 * c .before .before .bit-word .result ≤ 0x2000000
+edge c =
+    let a = c .before .before .before .before .before .before .before .before .before .args in
+    omega (arith, c .before .shared-slice-known2 .given (mapSector * 256 + a .g .slices / 16))
+
+cast-full : tie.Need-cast-full
+cast-full c = search needs
+
+filled-requires : tie.Need-filled-requires
+filled-requires c κs = search needs
+
+returns : tie.Need-returns
+returns c = let a = c .before .before .before .before .args in
+    λ all is once. fails (λ sound.
+    refutes _ (c .before .filled .ensures) (c .if1 .taken)
+    (agree-filled (a .image .now) (a .marks .now) (a .g .slices) all (words (c .before)) (few (c .before)) is once sound))
+
+returns-2 : tie.Need-returns-2
+returns-2 c = let f = c .before .before in
+    let a = f .before .before .before .args in
+    λ all is once. holds (
+    agree-full (a .image .now) (a .marks .now) (a .g .slices) all (words f) (few f) is once (c .if2 .taken)
+    (grants _ (f .filled .ensures) (c .before .if1 .left)))
+
+cast-bit-word : tie.Need-cast-bit-word
+cast-bit-word c = search needs
+
+bit-word-requires : tie.Need-bit-word-requires
+bit-word-requires c κs = search needs
+
+cast-past : tie.Need-cast-past
+cast-past c = search needs
+
+mul-past : tie.Need-mul-past
+mul-past c = search needs
+
+add-if3 : tie.Need-add-if3
+add-if3 c = search needs
+
+mul-if3 : tie.Need-mul-if3
+mul-if3 c = search needs
+
+shared-slice-read-if3 : tie.Need-shared-slice-read-if3
+shared-slice-read-if3 c = search needs
+
+cast-if3 : tie.Need-cast-if3
+cast-if3 c = fits-widen tt (c .shared-slice-known2 .given _)
+
+mul-packed : tie.Need-mul-packed
+mul-packed c = search needs
+
+packed-requires : tie.Need-packed-requires
+packed-requires c κs = search needs
+
+add-if3-2 : tie.Need-add-if3-2
+add-if3-2 c = omega (arith, edge c)
+
+add-if3-3 : tie.Need-add-if3-3
+add-if3-3 c = omega (arith, edge c)
+
+returns-3 : tie.Need-returns-3
+returns-3 c = let e = c .before .before .before .before .before in
+    let f = e .before .before in
+    let a = f .before .before .before .args in
+    λ all is once. fails (λ sound.
+    c .if3 .taken
+    (agree-edge (a .image .now) (a .marks .now) (a .g .slices) all (words f) (few f) is once
+    _ _ _ refl (c .before .packed .ensures .0) (c .before .before .before .bit-word .ensures) (omega (arith, few f, e .if2 .left)) sound))
+
+add-cleared : tie.Need-add-cleared
+add-cleared c = search needs
+
+cleared-requires : tie.Need-cleared-requires
+cleared-requires c κs = search needs
+
+returns-4 : tie.Need-returns-4
+returns-4 c = let e = c .before .before .before .before .before .before in
+    let f = e .before .before in
+    let a = f .before .before .before .args in
+    λ all is once.
+    agree-past (a .image .now) (a .marks .now) (a .g .slices) all (words f) (few f) is once
+    _ _ _ refl (c .before .before .packed .ensures .0) (c .before .before .before .before .bit-word .ensures)
+    (grants _ (f .filled .ensures) (e .before .if1 .left)) (c .before .if3 .left) (c .cleared .ensures)
+
+pub map-agrees-spec : {M : Type 1} → statement M
+map-agrees-spec =
+    tie.close
+    (tie.spec
+    cast-full
+    filled-requires
+    returns
+    returns-2
+    cast-bit-word
+    bit-word-requires
+    cast-past
+    mul-past
+    add-if3
+    mul-if3
+    shared-slice-read-if3
+    cast-if3
+    mul-packed
+    packed-requires
+    add-if3-2
+    add-if3-3
+    returns-3
+    add-cleared
+    cleared-requires
+    returns-4)

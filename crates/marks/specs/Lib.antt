@@ -1,0 +1,3 @@
+pub mod Packed
+pub mod Marked
+pub mod Indexed

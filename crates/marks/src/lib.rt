@@ -1,0 +1,186 @@
+// The marks of the slices that files have, one for each slice of a unit: set from index blocks, and compared with the map.
+
+ghost use mathlib.Core.Path.{_≡_};
+ghost use mathlib.Core.Bool.{false};
+ghost use mathlib.Core.List.{List};
+ghost use Prim.Native.Nat.{ℕ, _+_, _*_, _≤_};
+ghost use lib.ListN.{length, getD};
+ghost use Rattle.disc.specs.Decide.{Decides};
+ghost use Rattle.disc.specs.Numbers.{sliceCount};
+ghost use Rattle.disc.specs.Kit.{Limits};
+ghost use Rattle.disc.specs.Slices.{InRangeOnce};
+ghost use Rattle.sound.specs.Sound.{SoundMap};
+ghost use Rattle.disc.specs.Stretches.{span};
+ghost use Rattle.sound.specs.Parts.{MarksOf, Marking};
+ghost use Rattle.kit.specs.Geometry.{UnitOf};
+ghost use Rattle.marks.specs.Indexed.{PairMarking, IndexMarking};
+ghost use Rattle.marks.specs.Marked.{Marked, SomeMarked};
+ghost use Rattle.marks.specs.Packed.{packed, Filled, Cleared};
+use kit::Geometry;
+
+// The image's index of the map's first word, and the words of the map.
+const MAP: usize = 9 * 256;
+
+const MAP_WORDS: usize = 256;
+
+// A mark as a wider number.
+fn wide(mark: u8) -> u32
+    ensures { λ r. ⌜ (r ≡ mark) × (r ≤ 255) ⌝ }
+{
+    mark as u32
+}
+
+// Sixteen marks from mark `at` on as one number, the first of them highest.
+fn packed(marks: &[u8; 4096], at: usize) -> u32
+    requires { ⌜ at + 16 ≤ 4096 ⌝ }
+    ensures { λ r. ⌜ (r ≡ packed (λ i. getD (now (marks .entry)) i 0) at 16) × (r ≤ 255 * 0xFFFF) ⌝ }
+{
+    let mut word: u32 = 0;
+    for i in 0..16 {
+        word = 2 * word + wide(marks[at + i]);
+    }
+    word
+}
+
+// Whether each of the first n map words and the marks of its slices add up to FFFFh: every slice is free or marked, not both.
+fn filled(image: &[u16], marks: &[u8; 4096], n: usize) -> bool
+    requires { ⌜ (n ≤ 256) × (2560 ≤ length (now image)) ⌝ }
+    ensures { λ r. ⌜ Decides r (Filled (now (image .entry)) (now (marks .entry)) n) ⌝ }
+{
+    for w in 0..n {
+        if image[MAP + w] as u32 + packed(marks, 16 * w) != 0xFFFF {
+            return false;
+        }
+    }
+    true
+}
+
+// Whether the map words from word n on are 0. Their sum is taken, with no way out of the loop, so that it is quick.
+fn cleared(image: &[u16], n: usize) -> bool
+    requires { ⌜ (n ≤ 256) × (2560 ≤ length (now image)) ⌝ }
+    ensures { λ r. ⌜ Decides r (Cleared (now (image .entry)) n) ⌝ }
+{
+    let mut sum: u32 = 0;
+    for w in n..MAP_WORDS {
+        sum += image[MAP + w] as u32;
+    }
+    sum == 0
+}
+
+// Whether the map is that of the marked slices: full words, the word in which the unit's slices end, and words past it.
+pub fn map_agrees(image: &[u16], marks: &[u8; 4096], g: Geometry) -> bool
+    requires { ⌜ UnitOf (now image) g ⌝ }
+    ensures { λ r. ⌜ ((all : List ℕ) → MarksOf (now (marks .entry)) all → InRangeOnce (g .slices) all → Decides r (SoundMap (now (image .entry)) (g .slices) all)) ⌝ }
+{
+    let full = g.slices as usize / 16;
+    if !filled(image, marks, full) {
+        return false;
+    }
+    if full == MAP_WORDS {
+        return true;
+    }
+    let past = 2 * numbers::bit_word(g.slices as usize % 16) as u32;
+    if image[MAP + full] as u32 + packed(marks, 16 * full) + past != 65536 {
+        return false;
+    }
+    cleared(image, full + 1)
+}
+
+// Marks the slices from + 1 to from + count; false where one of them is marked already. What was marked is summed, with no way
+// out of the loop, so that it is quick.
+fn mark_run(marks: &mut [u8; 4096], from: usize, count: usize) -> bool
+    requires { ⌜ from + count ≤ 4096 ⌝ }
+    ensures { λ r. ⌜ ((m : ℕ) (held : List ℕ) → from + count ≤ m → Marked m (now (marks .entry)) held → Marking r (Unit {0}) m (now (marks .exit)) held (span (from + 1) count)) ⌝ }
+{
+    let mut taken: u32 = 0;
+    for n in 0..count {
+        taken += wide(marks[from + n]);
+        marks[from + n] = 1;
+    }
+    taken == 0
+}
+
+// Marks the slices of a pair of an index block, and answers their number: 0 where they are no whole slices of the unit, or one of
+// them is marked already. Dividing once and multiplying back tests the rests.
+fn mark_pair(sectors: u16, start: u16, g: Geometry, marks: &mut [u8; 4096]) -> u16
+    requires { ⌜ Limits (g .keys) (g .slice) (g .first) (g .sectors) × (g .slices ≡ sliceCount (g .slice) (g .first) (g .sectors)) ⌝ }
+    ensures { λ r. ⌜ PairMarking g sectors start (now (marks .entry)) (now (marks .exit)) r ⌝ }
+{
+    if start < g.first {
+        return 0;
+    }
+    let offset = (start - g.first) as u32;
+    let slice = g.slice as u32;
+    let from = offset / slice;
+    if from * slice != offset {
+        return 0;
+    }
+    let count = sectors as u32 / slice;
+    if count * slice != sectors as u32 {
+        return 0;
+    }
+    if (g.slices as u32) < from + count {
+        return 0;
+    }
+    if !mark_run(marks, from as usize, count as usize) {
+        return 0;
+    }
+    count as u16
+}
+
+// What is known of a file's index block: whether it is legal with no slice marked before, and then the number of its slices and
+// the first sector of the first one.
+pub struct Indexed {
+    pub good: bool,
+    pub slices: u16,
+    pub start: u16,
+}
+
+// An index block that is refused.
+fn refused() -> Indexed
+    ensures { λ r. ⌜ (r .good ≡ false) × (r .slices ≡ 0) × (r .start ≡ 0) ⌝ }
+{
+    Indexed {
+        good: false,
+        slices: 0,
+        start: 0,
+    }
+}
+
+// Judges the index block in sector q and marks its slices. No pair starts at sector 0, where the pair before the first one ends.
+pub fn mark_index(image: &[u16], q: u16, g: Geometry, marks: &mut [u8; 4096]) -> Indexed
+    requires { ⌜ UnitOf (now image) g × SomeMarked (g .slices) (now marks) ⌝ }
+    ensures { λ r. ⌜ IndexMarking (now (image .entry)) g q (now (marks .entry)) (now (marks .exit)) r ⌝ }
+{
+    if g.sectors <= q {
+        return refused();
+    }
+    let at = q as usize * 256;
+    let pairs = image[at] as usize;
+    if pairs == 0 {
+        return refused();
+    }
+    if 127 < pairs {
+        return refused();
+    }
+    let mut slices: u16 = 0;
+    let mut end: u16 = 0;
+    for j in 0..pairs {
+        let sectors = image[at + (2 * j + 1)];
+        let start = image[at + (2 * j + 2)];
+        if start == end {
+            return refused();
+        }
+        let count = mark_pair(sectors, start, g, marks);
+        if count == 0 {
+            return refused();
+        }
+        slices += count;
+        end = start + sectors;
+    }
+    Indexed {
+        good: true,
+        slices: slices,
+        start: image[at + 2],
+    }
+}
