@@ -1,6 +1,6 @@
 -- The first and the last pair of a block, and a slice behind it: where there is no pair, where the slice joins it, where it does not.
-use mathlib.Core.Path.{_≡_, refl, sym, ap, _∙_}
-use mathlib.Core.Bool.{true, false}
+use mathlib.Core.Path.{_≡_, refl, sym, ap, ap₂, _∙_}
+use mathlib.Core.Bool.{Bool, true, false}
 use mathlib.Core.List.{List}
 use Prim.Native.Nat.{ℕ, zero, suc, _+_, _-_, _/_, _≤_, _<_}
 use native.Mathlib.Omega.{arith}
@@ -48,20 +48,20 @@ module _ (F s : ℕ) (l : List ℕ) (q n : ℕ) (count : n ≡ pairCount l q) wh
       go zero x = absurd (omega arith)
       go (suc j) x = let e : suc j - 1 ≡ j = omega arith in rw e
 
-  -- a slice joins some pair
-  pub joins-pair : (k : ℕ) → joins F s k l q ≡ true → 1 ≤ n
-  unfolding joinsLast
-  joins-pair k t = go n refl
-    where
-      go : (m : ℕ) → n ≡ m → 1 ≤ m
-      go zero z = let e : false ≡ true = joins-none k z ∙ t in let o : _≡_ {A = ℕ} 0 1 = cc in absurd (omega arith)
-      go (suc j) z = omega arith
+  -- by the answer b to whether slice k joins the last pair
+  module _ (k : ℕ) (b : Bool) (answer : b ≡ joins F s k l q) where
+    pub joins-pair : b ≡ true → 1 ≤ n
+    joins-pair t = go n refl
+      where
+        go : (m : ℕ) → n ≡ m → 1 ≤ m
+        go zero z = let e : false ≡ true = joins-none k z ∙ sym answer ∙ t in let o : _≡_ {A = ℕ} 0 1 = cc in absurd (omega arith)
+        go (suc j) z = omega arith
 
-  pub with-joined : (k : ℕ) → joins F s k l q ≡ true → n ≡ stretchesWith F s k l q
-  with-joined k t = rw t count
+    pub with-joined : b ≡ true → n ≡ stretchesWith F s k l q
+    with-joined t = let e : joins F s k l q ≡ true = sym answer ∙ t in rw e count
 
-  pub with-apart : (k : ℕ) → joins F s k l q ≡ false → n + 1 ≡ stretchesWith F s k l q
-  with-apart k t = rw t (ap (λ (m : ℕ). m + 1) count)
+    pub with-apart : b ≡ false → n + 1 ≡ stretchesWith F s k l q
+    with-apart t = let e : joins F s k l q ≡ false = sym answer ∙ t in rw e (ap (λ (m : ℕ). m + 1) count)
 
 -- one pair has no more sectors than all
 pub pair-le : (l : List ℕ) (q n i j : ℕ) → i ≤ j → j < i + n → pairLength l q j ≤ sectorsFrom l q n i
@@ -71,11 +71,14 @@ pair-le l q (suc n) i j a b = same-or i j
     (λ e. let f : pairLength l q i ≡ pairLength l q j = ap (pairLength l q) e in omega arith)
     (λ d. omega (arith, pair-le l q n (suc i) j (omega arith) (omega arith)))
 
-module _ (F s k : ℕ) (block : List ℕ) (n : ℕ) (count : n ≡ pairCount block 0) where
-  pub appended-joined : joins F s k block 0 ≡ true → withPair block (n - 1) (pairLength block 0 (n - 1) + s) (pairStart block 0 (n - 1)) ≡ appended F s k block
+-- the block r that is made in either case
+module _ (F s k : ℕ) (block : List ℕ) (n : ℕ) (count : n ≡ pairCount block 0) (b : Bool) (answer : b ≡ joins F s k block 0) (r : List ℕ) where
+  pub appended-joined : b ≡ true → r ≡ withPair block (n - 1) (pairLength block 0 (n - 1) + s) (pairStart block 0 (n - 1)) → r ≡ appended F s k block
   unfolding appended lengthened
-  appended-joined t = rw (t, count)
+  appended-joined t made = let e : joins F s k block 0 ≡ true = sym answer ∙ t in made ∙ rw (e, count)
 
-  pub appended-apart : joins F s k block 0 ≡ false → withPair (set block 0 (n + 1)) n s (sliceStart F s k) ≡ appended F s k block
+  pub appended-apart : (counted : List ℕ) (start : ℕ) → b ≡ false → start ≡ sliceStart F s k → counted ≡ set block 0 (n + 1) → r ≡ withPair counted n s start → r ≡ appended F s k block
   unfolding appended extended
-  appended-apart t = rw (t, count)
+  appended-apart counted start t y c made =
+      let e : joins F s k block 0 ≡ false = sym answer ∙ t in
+      made ∙ ap₂ (λ (w : List ℕ) (a : ℕ). withPair w n s a) c y ∙ rw (e, count)

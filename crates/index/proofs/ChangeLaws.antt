@@ -1,6 +1,6 @@
 -- The block of a slice list with one slice more, and with the first n slices only.
 use mathlib.Core.Path.{_≡_, refl, sym, ap, ap₂, _∙_}
-use mathlib.Core.Bool.{false}
+use mathlib.Core.Bool.{true, false}
 use mathlib.Core.List.{List, [], _∷_, _++_}
 use Prim.Native.Nat.{ℕ, zero, suc, _+_, _-_, _*_, _/_, _≤_, _<_, min}
 use native.Mathlib.Omega.{arith}
@@ -58,7 +58,7 @@ module _ (F s : ℕ) (l : List ℕ) (k : ℕ) (pos : 1 ≤ s) (above : (j : ℕ)
       let one : Stretch = record { first = k; count = 1 } in
       let lt : n < 127 = omega (arith, ap length e, length-append rs (one ∷ [])) in
       let m : s ≡ s * 1 = omega arith in
-      sym (appended-apart F s k (wholeIndex F s l) n (sym count) f)
+      sym (appended-apart F s k (wholeIndex F s l) n (sym count) false (sym f) _ _ _ refl refl refl refl)
       ∙ ap (λ (w : List ℕ). withPair w n s (sliceStart F s k)) (whole-count n (n + 1) (pairs F s rs))
       ∙ whole-pair ((n + 1) ∷ pairs F s rs) n s (sliceStart F s k) (omega (arith, length-pairs F s rs)) lt
       ∙ ap₂ (λ (a b : ℕ). whole ((a ∷ pairs F s rs) ++ (b ∷ sliceStart F s k ∷ []))) (add-one n) m
@@ -86,7 +86,7 @@ module _ (F s : ℕ) (l : List ℕ) (k : ℕ) (pos : 1 ≤ s) (above : (j : ℕ)
       let i : stretchCount l - 1 ≡ 0 + j = omega (arith, ap length e, length-append front (r ∷ [])) in
       let i′ : 0 + j ≡ j = omega arith in
       let m : s * r .count + s ≡ s * suc (r .count) = omega arith in
-      sym (appended-joined F s k w (stretchCount l) (sym count) t)
+      sym (appended-joined F s k w (stretchCount l) (sym count) true (sym t) _ refl refl)
       ∙ ap (λ (a : ℕ). withPair w a (pairLength w 0 a + s) (pairStart w 0 a)) i
       ∙ ap₂ (λ (a b : ℕ). withPair w (0 + j) (a + s) b) (d .0) (d .1)
       ∙ ap₂ (λ (u : List ℕ) (a : ℕ). withPair u a (s * r .count + s) (sliceStart F s (r .first))) (ap (λ (ts : List Stretch). whole (length ts ∷ pairs F s ts)) e ∙ shape F s front r) i′

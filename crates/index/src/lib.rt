@@ -196,28 +196,48 @@ pub fn stretches_with_at(image: &[u16], q: Sector, first: Sector, s: u16, k: Sli
     n + 1
 }
 
+// The block with pair j lengthened by s sectors.
+fn lengthen(block: IndexBlock, j: usize, s: u16) -> IndexBlock
+    requires { ⌜ (j < 127) × (pairLength (block .words) 0 j + s < 65536) ⌝ }
+    ensures { λ r. ⌜ r .words ≡ withPair (block .words) j (pairLength (block .words) 0 j + s) (pairStart (block .words) 0 j) ⌝ }
+{
+    let length = pair_length(&block.words, Sector(0), j);
+    let start = pair_start(&block.words, Sector(0), j);
+    set_pair(block, j, length + s, start)
+}
+
 // The block with slice k at the end.
 pub fn append_slice(block: IndexBlock, first: Sector, s: u16, k: Slice) -> IndexBlock
     requires { ⌜ Appendable (first .0) s (k .0) (block .words) ⌝ }
     ensures { λ r. ⌜ r .words ≡ appended (first .0) s (k .0) (block .words) ⌝ }
 {
     let n = pair_count(&block.words, Sector(0));
-    let joined = joins_at(&block.words, Sector(0), first, s, k);
-    if joined {
-        let j = n as usize - 1;
-        let length = pair_length(&block.words, Sector(0), j);
-        let start = pair_start(&block.words, Sector(0), j);
-        return set_pair(block, j, length + s, start);
+    if joins_at(&block.words, Sector(0), first, s, k) {
+        return lengthen(block, n as usize - 1, s);
     }
     let start = numbers::slice_start(first, s, k);
     set_pair(set_count(block, n + 1), n as usize, s, start.0)
 }
 
-// The smaller of two numbers.
-fn smaller(a: u16, b: u32) -> u16
-    ensures { λ r. ⌜ r ≡ min a b ⌝ }
+// The sectors of pair j that are among the next `rest`.
+fn kept_sectors(block: IndexBlock, j: usize, rest: u32) -> u16
+    requires { ⌜ j < 127 ⌝ }
+    ensures { λ r. ⌜ r ≡ min (pairLength (block .words) 0 j) rest ⌝ }
 {
-    if b < a as u32 { b as u16 } else { a }
+    let length = pair_length(&block.words, Sector(0), j);
+    if rest < length as u32 {
+        return rest as u16;
+    }
+    length
+}
+
+// The block `cut` with pair j of another block, at another length.
+fn copy_pair(cut: IndexBlock, block: IndexBlock, j: usize, length: u16) -> IndexBlock
+    requires { ⌜ j < 127 ⌝ }
+    ensures { λ r. ⌜ r .words ≡ withPair (cut .words) j length (pairStart (block .words) 0 j) ⌝ }
+{
+    let start = pair_start(&block.words, Sector(0), j);
+    set_pair(cut, j, length, start)
 }
 
 // The block of the first n slices.
@@ -232,10 +252,8 @@ pub fn cut_block(block: IndexBlock, s: u16, n: u16) -> IndexBlock
         if rest == 0 {
             break;
         }
-        let length = pair_length(&block.words, Sector(0), j as usize);
-        let start = pair_start(&block.words, Sector(0), j as usize);
-        let kept = smaller(length, rest);
-        cut = set_pair(cut, j as usize, kept, start);
+        let kept = kept_sectors(block, j as usize, rest);
+        cut = copy_pair(cut, block, j as usize, kept);
         rest -= kept as u32;
         j += 1;
     }

@@ -2,7 +2,7 @@
 use mathlib.Core.Path.{_≡_, ap, _∙_}
 use mathlib.Core.List.{[], _∷_}
 use mathlib.Core.Logic.{⊎-elim}
-use Prim.Native.Nat.{ℕ, _-_, _*_, _/_, _≤_, _<_, min}
+use Prim.Native.Nat.{ℕ, _-_, _*_, _/_, _≤_, _<_}
 use native.Mathlib.Nat.{mul-le-mul-left, sub-zero}
 use native.Mathlib.Omega.{arith}
 use lib.ListN.{length}
@@ -39,26 +39,17 @@ loop-holds c =
     let h : a .n ≤ 65535 = omega arith in
     (omega (arith, mul-le-mul-left (a .s) h), rw sub-zero (fill-start 0 _ _ (c .empty-block .ensures ∙ whole-none)))
 
-cast-pair-length : tie.Need-cast-pair-length Inv-loop μ-loop
-cast-pair-length c = search needs
+cast-kept-sectors : tie.Need-cast-kept-sectors Inv-loop μ-loop
+cast-kept-sectors c = search needs
 
-pair-length-requires : tie.Need-pair-length-requires Inv-loop μ-loop
-pair-length-requires c κs = search needs
+kept-sectors-requires : tie.Need-kept-sectors-requires Inv-loop μ-loop
+kept-sectors-requires c κs = search needs
 
-cast-pair-start : tie.Need-cast-pair-start Inv-loop μ-loop
-cast-pair-start c = search needs
+cast-copy-pair : tie.Need-cast-copy-pair Inv-loop μ-loop
+cast-copy-pair c = search needs
 
-pair-start-requires : tie.Need-pair-start-requires Inv-loop μ-loop
-pair-start-requires c κs = search needs
-
-smaller-requires : tie.Need-smaller-requires Inv-loop μ-loop
-smaller-requires c κs = search needs
-
-cast-set-pair : tie.Need-cast-set-pair Inv-loop μ-loop
-cast-set-pair c = search needs
-
-set-pair-requires : tie.Need-set-pair-requires Inv-loop μ-loop
-set-pair-requires c κs = search needs
+copy-pair-requires : tie.Need-copy-pair-requires Inv-loop μ-loop
+copy-pair-requires c κs = search needs
 
 cast-rest : tie.Need-cast-rest Inv-loop μ-loop
 cast-rest c = search needs
@@ -74,16 +65,15 @@ loop-less c = search needs
 
 loop-again : tie.Need-loop-again Inv-loop μ-loop
 loop-again c =
-    let l = c .before .before .before .before .before .before .before .before .before .before .before .before in
-    let w = c .before .before .before .before .before .before .before .before .before .before .before .before .before .before .before .before .before .before .args .t1 .words in
-    let n = c .before .before .before .before .before .before .before .before .before .before .before .before .before .before .pair-count .result in
+    let l = c .before .before .before .before in
+    let w = c .before .before .before .before .before .before .before .before .before .before .args .t1 .words in
+    let n = c .before .before .before .before .before .before .pair-count .result in
     let j = l .loop .j in
     let rest = l .loop .rest in
-    let length = c .before .before .before .before .before .before .pair-length .ensures in
-    let kept : c .before .smaller .result ≡ min (pairLength w 0 j) rest = c .before .smaller .ensures ∙ ap (λ (x : ℕ). min x rest) length in
-    let less : rest - c .before .smaller .result ≡ rest - pairLength w 0 j = omega arith in
-    let f = rw (cut-more w n j rest (c .before .before .before .before .before .before .before .before .before .before .before .loop-test .taken) (omega (arith, c .before .before .before .before .before .before .before .before .before .before .if1 .left))) at (l .loop .inv .1) in
-    (omega (arith, l .loop .inv .0), rw (less, c .set-pair .ensures, kept, c .before .before .pair-start .ensures) (fill-more 0 _ (l .loop .cut .words) j _ _ _ (omega arith) f))
+    let kept = c .before .kept-sectors .ensures in
+    let less : rest - c .before .kept-sectors .result ≡ rest - pairLength w 0 j = omega arith in
+    let f = rw (cut-more w n j rest (c .before .before .before .loop-test .taken) (omega (arith, c .before .before .if1 .left))) at (l .loop .inv .1) in
+    (omega (arith, l .loop .inv .0), rw (less, c .copy-pair .ensures, kept) (fill-more 0 _ (l .loop .cut .words) j _ _ _ (omega arith) f))
 
 set-count-requires : tie.Need-set-count-requires Inv-loop μ-loop
 set-count-requires c κs = search needs
@@ -115,13 +105,10 @@ cut-block-spec =
     empty-block-requires
     mul-rest
     loop-holds
-    cast-pair-length
-    pair-length-requires
-    cast-pair-start
-    pair-start-requires
-    smaller-requires
-    cast-set-pair
-    set-pair-requires
+    cast-kept-sectors
+    kept-sectors-requires
+    cast-copy-pair
+    copy-pair-requires
     cast-rest
     sub-rest
     add-j

@@ -1,5 +1,4 @@
 -- `index::stretches_with_at` meets its contract. Assumes nothing.
-use mathlib.Core.Path.{sym, _∙_}
 use Rattle.index.proofs.CaseLaws.{with-joined, with-apart}
 use borrow.Author.Needs.{needs}
 use Rattle.index.proofs.stretches_with_at.Statement.{statement}
@@ -14,7 +13,7 @@ joins-at-requires c κs = search needs
 returns : tie.Need-returns
 returns c =
     let a = c .before .before .before .before .args in
-    with-joined (a .first .0) (a .s) (a .image .now) (a .q .0) _ (c .before .before .pair-count .ensures) (a .k .0) (sym (c .before .joins-at .ensures) ∙ c .if1 .taken)
+    with-joined (a .first .0) (a .s) (a .image .now) (a .q .0) _ (c .before .before .pair-count .ensures) (a .k .0) _ (c .before .joins-at .ensures) (c .if1 .taken)
 
 add-result : tie.Need-add-result
 add-result c = search needs
@@ -22,7 +21,7 @@ add-result c = search needs
 returns-2 : tie.Need-returns-2
 returns-2 c =
     let a = c .before .before .before .before .args in
-    with-apart (a .first .0) (a .s) (a .image .now) (a .q .0) _ (c .before .before .pair-count .ensures) (a .k .0) (sym (c .before .joins-at .ensures) ∙ c .if1 .left)
+    with-apart (a .first .0) (a .s) (a .image .now) (a .q .0) _ (c .before .before .pair-count .ensures) (a .k .0) _ (c .before .joins-at .ensures) (c .if1 .left)
 
 pub stretches-with-at-spec : {M : Type 1} → statement M
 stretches-with-at-spec =

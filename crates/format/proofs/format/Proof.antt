@@ -1,0 +1,76 @@
+-- `format::format` meets its contract. Assumes nothing.
+use mathlib.Core.Path.{refl, _∙_}
+use native.Mathlib.Omega.{arith}
+use lib.ListN.{getD}
+use borrow.Author.Needs.{needs}
+use Rattle.disc.proofs.DecideLaws.{refutes, grants}
+use Rattle.format.specs.Format.{RecordLent, Formattable, lentKeys, lentSlice, lentFirst, lentSectors, notLent, notAllowed, written}
+use Rattle.format.proofs.WriteLaws.{format-written, length-written}
+use Rattle.format.proofs.format.Statement.{statement}
+use Rattle.format.proofs.format.Tie as tie
+
+-- the record is lent, and no question has the answer no
+lent : (c : tie.Else2) → RecordLent (c .before .before .before .before .args .bytes) (c .before .before .before .before .args .lent .now)
+lent c = record { count = c .before .if1 .left; words = omega arith }
+
+fine : (c : tie.Else3) → Formattable (c .before .before .before .before .before .before .before .args .image .now) (c .before .before .before .before .before .before .before .args .state) (c .before .before .before .before .before .before .before .args .lent .now)
+fine c = grants _ (c .before .accepts .ensures) (c .if3 .left)
+
+returns : tie.Need-returns
+returns c = notLent (λ r. c .if1 .taken (r .count)) (record { word = refl; same = refl; kept = refl })
+
+returns-2 : tie.Need-returns-2
+returns-2 c = notLent (λ r. let n = r .words in omega arith) (record { word = refl; same = refl; kept = refl })
+
+accepts-requires : tie.Need-accepts-requires
+accepts-requires c κs = search needs
+
+same-length : tie.Need-same-length
+same-length c = search needs
+
+returns-3 : tie.Need-returns-3
+returns-3 c =
+    notAllowed (lent (c .before .before .before)) (refutes _ (c .before .accepts .ensures) (c .if3 .taken)) (record { word = refl; same = refl; kept = refl })
+
+write-system-requires : tie.Need-write-system-requires
+write-system-requires c κs =
+    let f = fine (c .before) in (lent (c .before .before .before .before) .words, f .limits, f .size)
+
+write-catalog-requires : tie.Need-write-catalog-requires
+write-catalog-requires c κs =
+    let f = fine (c .before .before .before .before .before) in
+    let a = c .before .before .before .before .before .before .before .before .before .before .before .before .args in
+    let l = a .lent .now in
+    (lent (c .before .before .before .before .before .before .before .before) .words, f .limits, length-written (a .image .now) _ (lentKeys l) (lentSlice l) (lentFirst l) (lentSectors l) (getD l 7 0) (getD l 8 0) (c .before .before .before .write-system .ensures) ∙ f .size)
+
+not-initialized-requires : tie.Need-not-initialized-requires
+not-initialized-requires c κs = search needs
+
+same-length-2 : tie.Need-same-length-2
+same-length-2 c = search needs
+
+returns-4 : tie.Need-returns-4
+returns-4 c =
+    let system = c .before .before .before .before .before .before .before in
+    let a = system .before .before .before .before .before .before .before .before .before .args in
+    let l = a .lent .now in
+    written (lent (system .before .before .before .before .before)) (fine (system .before .before)) (record {
+      word = refl;
+      whole = format-written (a .image .now) _ _ (lentKeys l) (lentSlice l) (lentFirst l) (lentSectors l) (getD l 7 0) (getD l 8 0) (system .write-system .ensures) (c .before .before .before .write-catalog .ensures);
+      left = c .not-initialized .ensures;
+    })
+
+pub format-spec : {M : Type 1} → statement M
+format-spec =
+    tie.close
+    (tie.spec
+    returns
+    returns-2
+    accepts-requires
+    same-length
+    returns-3
+    write-system-requires
+    write-catalog-requires
+    not-initialized-requires
+    same-length-2
+    returns-4)

@@ -1,0 +1,129 @@
+-- `format::write_catalog` meets its contract: SYS's sectors lie in the image, and both entries in them. Assumes nothing.
+use Prim.Native.Nat.{compare}
+use native.Mathlib.Omega.{arith}
+use Rattle.disc.proofs.SliceLaws.{same-le}
+use Rattle.refine.proofs.Format.{sys-end}
+use Rattle.format.specs.Format.{lentKeys, lentSlice, lentFirst, lentSectors}
+use Rattle.format.proofs.WriteLaws.{part-fits, catalog-written, key-inside}
+use borrow.Author.Needs.{needs}
+use Rattle.format.proofs.write_catalog.Statement.{statement}
+use Rattle.format.proofs.write_catalog.Tie as tie
+
+shared-slice-read-keys : tie.Need-shared-slice-read-keys
+shared-slice-read-keys c = search needs
+
+shared-slice-read-slice : tie.Need-shared-slice-read-slice
+shared-slice-read-slice c = search needs
+
+shared-slice-read-first : tie.Need-shared-slice-read-first
+shared-slice-read-first c = search needs
+
+sys-name-requires : tie.Need-sys-name-requires
+sys-name-requires c κs = search needs
+
+map-name-requires : tie.Need-map-name-requires
+map-name-requires c κs = search needs
+
+key-requires : tie.Need-key-requires
+key-requires c κs = search needs
+
+key-requires-2 : tie.Need-key-requires-2
+key-requires-2 c κs = search needs
+
+sys-slices-requires : tie.Need-sys-slices-requires
+sys-slices-requires c κs = search needs
+
+mul-reserved : tie.Need-mul-reserved
+mul-reserved c =
+    let start = c .before .before .before .before .before .before .before .before .before .before in
+    let l = start .args .lent .now in
+    let lim = start .pre .1 in
+    part-fits (lentKeys l) (lentSlice l) (lentFirst l) (lentSectors l) lim (omega arith)
+
+cast-clear-words : tie.Need-cast-clear-words
+cast-clear-words c = search needs
+
+mul-clear-words : tie.Need-mul-clear-words
+mul-clear-words c = search needs
+
+clear-words-requires : tie.Need-clear-words-requires
+clear-words-requires c κs =
+    let start = c .before .before .before .before .before .before .before .before .before .before .before in
+    let l = start .args .lent .now in
+    omega (arith, sys-end (lentKeys l) (lentSlice l) (lentFirst l) (lentSectors l) (start .pre .1))
+
+add-t12 : tie.Need-add-t12
+add-t12 c =
+    let key = c .before .before .before .before .before .before .before in
+    let start = key .before .before .before .before .before .before .before .before in
+    let l = start .args .lent .now in
+    let lim = start .pre .1 in
+    omega (arith, key-inside (lentKeys l) (lentSlice l) (lentFirst l) (lentSectors l) lim _ (key .key .result) (key .key .ensures), lim .sectors)
+
+enter-requires : tie.Need-enter-requires
+enter-requires c κs =
+    let key = c .before .before .before .before .before .before .before in
+    let start = key .before .before .before .before .before .before .before .before in
+    let l = start .args .lent .now in
+    let lim = start .pre .1 in
+    omega (arith, key-inside (lentKeys l) (lentSlice l) (lentFirst l) (lentSectors l) lim _ (key .key .result) (key .key .ensures))
+
+add-t12-2 : tie.Need-add-t12-2
+add-t12-2 c =
+    let key = c .before .before .before .before .before .before .before .before .before .before in
+    let start = key .before .before .before .before .before .before .before .before .before in
+    let l = start .args .lent .now in
+    let lim = start .pre .1 in
+    omega (arith, key-inside (lentKeys l) (lentSlice l) (lentFirst l) (lentSectors l) lim _ (key .key2 .result) (key .key2 .ensures), lim .sectors)
+
+map-place-requires : tie.Need-map-place-requires
+map-place-requires c κs = search needs
+
+enter-requires-2 : tie.Need-enter-requires-2
+enter-requires-2 c κs =
+    let key = c .before .before .before .before .before .before .before .before .before .before .before in
+    let start = key .before .before .before .before .before .before .before .before .before in
+    let l = start .args .lent .now in
+    let lim = start .pre .1 in
+    omega (arith, key-inside (lentKeys l) (lentSlice l) (lentFirst l) (lentSectors l) lim _ (key .key2 .result) (key .key2 .ensures), c .map-place .ensures, same-le (compare (key .key2 .result) (key .before .key .result)))
+
+same-length : tie.Need-same-length
+same-length c = search needs
+
+returns : tie.Need-returns
+returns c =
+    let place = c .before .before .before in
+    let one = place .before .before .before .before in
+    let cleared = one .before .before .before .before in
+    let used = cleared .before .before in
+    let keys = used .before in
+    let names = keys .before .before in
+    let start = names .before .before .before .before .before .before .before in
+    let l = start .args .lent .now in
+    catalog-written (lentKeys l) (lentSlice l) (lentFirst l) (lentSectors l) (start .pre .1) (used .sys-slices .result) (used .sys-slices .ensures)
+    _ _ _ _ _ (names .before .sys-name .ensures .packed) (names .map-name .ensures .packed) (keys .before .key .ensures) (keys .key2 .ensures) (place .map-place .ensures)
+    (start .args .image .now) _ _ _ (cleared .clear-words .ensures) (one .enter .ensures) (c .before .before .enter2 .ensures)
+
+pub write-catalog-spec : {M : Type 1} → statement M
+write-catalog-spec =
+    tie.close
+    (tie.spec
+    shared-slice-read-keys
+    shared-slice-read-slice
+    shared-slice-read-first
+    sys-name-requires
+    map-name-requires
+    key-requires
+    key-requires-2
+    sys-slices-requires
+    mul-reserved
+    cast-clear-words
+    mul-clear-words
+    clear-words-requires
+    add-t12
+    enter-requires
+    add-t12-2
+    map-place-requires
+    enter-requires-2
+    same-length
+    returns)
