@@ -1,0 +1,82 @@
+-- `catalog::find` meets its contract: what is sought is the first place from a layer on. Assumes nothing.
+use mathlib.Core.Path.{_≡_, ap}
+use Prim.Native.Nat.{ℕ, _-_}
+use native.Mathlib.Nat.{sub-zero}
+use borrow.Author.Needs.{needs}
+use Rattle.disc.specs.Names.{pack}
+use Rattle.catalog.specs.Catalog.{keySector, slotNamed, placeFrom, placeNamed}
+use Rattle.catalog.proofs.WalkLaws.{place-here, place-next, place-none}
+use Rattle.catalog.proofs.find.Statement.{statement}
+use Rattle.catalog.proofs.find.Tie as tie
+
+abbrev Inv-loop : tie.InvT-loop
+Inv-loop image c name key layer₀ layer =
+    let n = pack (name .0) (name .1) (name .2) in
+    placeFrom (slotNamed image n) (keySector image c key) (c .layers - layer) layer ≡ placeNamed image c n
+
+abbrev μ-loop : tie.MeasureT-loop
+μ-loop image c name key layer₀ layer = c .layers - layer
+
+key-requires : tie.Need-key-requires Inv-loop μ-loop
+key-requires c κs = c .before .pre
+
+loop-holds : tie.Need-loop-holds Inv-loop μ-loop
+loop-holds c =
+    let a = c .before .before .args in
+    let n = pack (a .name .0) (a .name .1) (a .name .2) in
+    rw sub-zero (ap (λ (k : ℕ). placeFrom (slotNamed (a .image .now) n) (keySector (a .image .now) (a .c) k) (a .c .layers) 0) (c .key .ensures))
+
+key-sector-requires : tie.Need-key-sector-requires Inv-loop μ-loop
+key-sector-requires c κs = tt
+
+slot-named-requires : tie.Need-slot-named-requires Inv-loop μ-loop
+slot-named-requires c κs = tt
+
+returns : tie.Need-returns Inv-loop μ-loop
+returns c =
+    let turn = c .before .before .before in
+    let l = turn .before .before in
+    let a = l .before .before .before .args in
+    let test = slotNamed (a .image .now) (pack (a .name .0) (a .name .1) (a .name .2)) in
+    place-here test (keySector (a .image .now) (a .c) (l .before .key .result)) (a .c .layers) (l .loop .layer)
+    (c .before .before .key-sector .result .0) (c .before .slot-named .result)
+    (l .loop .inv) (turn .if1 .taken) (c .before .before .key-sector .ensures) (c .before .slot-named .ensures) (c .if2 .taken)
+
+add-layer : tie.Need-add-layer Inv-loop μ-loop
+add-layer c = search needs
+
+loop-less : tie.Need-loop-less Inv-loop μ-loop
+loop-less c = search needs
+
+loop-again : tie.Need-loop-again Inv-loop μ-loop
+loop-again c =
+    let turn = c .before .before .before in
+    let l = turn .before .before in
+    let a = l .before .before .before .args in
+    let test = slotNamed (a .image .now) (pack (a .name .0) (a .name .1) (a .name .2)) in
+    place-next test (keySector (a .image .now) (a .c) (l .before .key .result)) (a .c .layers) (l .loop .layer)
+    (c .before .before .key-sector .result .0) (c .before .slot-named .result)
+    (l .loop .inv) (turn .if1 .taken) (c .before .before .key-sector .ensures) (c .before .slot-named .ensures) (c .if2 .left)
+
+returns-2 : tie.Need-returns-2 Inv-loop μ-loop
+returns-2 c =
+    let l = c .before .before in
+    let a = l .before .before .before .args in
+    let test = slotNamed (a .image .now) (pack (a .name .0) (a .name .1) (a .name .2)) in
+    place-none test (keySector (a .image .now) (a .c) (l .before .key .result)) (a .c .layers) (l .loop .layer) (l .loop .inv) (c .if1 .left)
+
+pub find-spec : {M : Type 1} → statement M
+find-spec =
+    tie.close
+    (tie.spec
+    Inv-loop
+    μ-loop
+    key-requires
+    loop-holds
+    key-sector-requires
+    slot-named-requires
+    returns
+    add-layer
+    loop-less
+    loop-again
+    returns-2)

@@ -1,0 +1,49 @@
+-- `catalog::is_named_slot` meets its contract. Assumes nothing.
+use mathlib.Core.Path.{_∙_}
+use native.Mathlib.Nat.{add-zero}
+use Rattle.catalog.specs.Catalog.{slotNamed}
+use borrow.Author.Needs.{needs}
+use Rattle.catalog.proofs.is_named_slot.Statement.{statement}
+use Rattle.catalog.proofs.is_named_slot.Tie as tie
+
+mul-at : tie.Need-mul-at
+mul-at c = search needs
+
+word-requires : tie.Need-word-requires
+word-requires c κs = search needs
+
+add-word : tie.Need-add-word
+add-word c = search needs
+
+word-requires-2 : tie.Need-word-requires-2
+word-requires-2 c κs = search needs
+
+add-word-2 : tie.Need-add-word-2
+add-word-2 c = search needs
+
+word-requires-3 : tie.Need-word-requires-3
+word-requires-3 c κs = search needs
+
+same-name-requires : tie.Need-same-name-requires
+same-name-requires c κs = search needs
+
+returns : tie.Need-returns
+unfolding slotNamed
+returns c =
+    let third = c .before in
+    let second = third .before in
+    let first = second .before in
+    c .same-name .ensures ∙ rw (first .word .ensures, second .word2 .ensures, third .word3 .ensures, add-zero)
+
+pub is-named-slot-spec : {M : Type 1} → statement M
+is-named-slot-spec =
+    tie.close
+    (tie.spec
+    mul-at
+    word-requires
+    add-word
+    word-requires-2
+    add-word-2
+    word-requires-3
+    same-name-requires
+    returns)

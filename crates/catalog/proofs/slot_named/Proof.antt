@@ -1,0 +1,63 @@
+-- `catalog::slot_named` meets its contract: what is sought is the first slot from i on. Assumes nothing.
+use mathlib.Core.Path.{refl}
+use Prim.Native.Nat.{_-_, _≤_}
+use native.Mathlib.Omega.{arith}
+use borrow.Author.Needs.{needs}
+use Rattle.disc.specs.Names.{pack}
+use Rattle.catalog.specs.Catalog.{slotNamed}
+use Rattle.catalog.proofs.WalkLaws.{SlotsLeft, slot-here, slot-next, slot-none}
+use Rattle.catalog.proofs.slot_named.Statement.{statement}
+use Rattle.catalog.proofs.slot_named.Tie as tie
+
+abbrev Inv-loop : tie.InvT-loop
+Inv-loop image q name i₀ i = (i ≤ 16) × SlotsLeft (slotNamed image (pack (name .0) (name .1) (name .2)) (q .0)) i
+
+abbrev μ-loop : tie.MeasureT-loop
+μ-loop image q name i₀ i = 16 - i
+
+loop-holds : tie.Need-loop-holds Inv-loop μ-loop
+loop-holds c = (search needs, refl)
+
+is-named-slot-requires : tie.Need-is-named-slot-requires Inv-loop μ-loop
+is-named-slot-requires c κs = search needs
+
+returns : tie.Need-returns Inv-loop μ-loop
+returns c =
+    let l = c .before .before .before in
+    let a = l .before .before .args in
+    let test = slotNamed (a .image .now) (pack (a .name .0) (a .name .1) (a .name .2)) (a .q .0) in
+    slot-here test (l .loop .i) (l .loop .inv .1) (c .before .before .loop-test .taken) (c .before .is-named-slot .ensures) (c .if1 .taken)
+
+add-i : tie.Need-add-i Inv-loop μ-loop
+add-i c = search needs
+
+loop-less : tie.Need-loop-less Inv-loop μ-loop
+loop-less c = search needs
+
+loop-again : tie.Need-loop-again Inv-loop μ-loop
+loop-again c =
+    let l = c .before .before .before in
+    let a = l .before .before .args in
+    let test = slotNamed (a .image .now) (pack (a .name .0) (a .name .1) (a .name .2)) (a .q .0) in
+    (omega arith, slot-next test (l .loop .i) (l .loop .inv .1) (c .before .before .loop-test .taken) (c .before .is-named-slot .ensures) (c .if1 .left))
+
+returns-2 : tie.Need-returns-2 Inv-loop μ-loop
+returns-2 c =
+    let l = c .before in
+    let a = l .before .before .args in
+    let test = slotNamed (a .image .now) (pack (a .name .0) (a .name .1) (a .name .2)) (a .q .0) in
+    slot-none test (l .loop .i) (l .loop .inv .1) (l .loop .inv .0) (c .loop-test .left)
+
+pub slot-named-spec : {M : Type 1} → statement M
+slot-named-spec =
+    tie.close
+    (tie.spec
+    Inv-loop
+    μ-loop
+    loop-holds
+    is-named-slot-requires
+    returns
+    add-i
+    loop-less
+    loop-again
+    returns-2)

@@ -1,0 +1,59 @@
+-- `catalog::unused_slot` meets its contract: what is sought is the first slot from i on. Assumes nothing.
+use mathlib.Core.Path.{refl}
+use Prim.Native.Nat.{_-_, _≤_}
+use native.Mathlib.Omega.{arith}
+use borrow.Author.Needs.{needs}
+use Rattle.catalog.specs.Catalog.{slotUnused}
+use Rattle.catalog.proofs.WalkLaws.{SlotsLeft, slot-here, slot-next, slot-none}
+use Rattle.catalog.proofs.unused_slot.Statement.{statement}
+use Rattle.catalog.proofs.unused_slot.Tie as tie
+
+abbrev Inv-loop : tie.InvT-loop
+Inv-loop image q i₀ i = (i ≤ 16) × SlotsLeft (slotUnused image (q .0)) i
+
+abbrev μ-loop : tie.MeasureT-loop
+μ-loop image q i₀ i = 16 - i
+
+loop-holds : tie.Need-loop-holds Inv-loop μ-loop
+loop-holds c = (search needs, refl)
+
+is-unused-slot-requires : tie.Need-is-unused-slot-requires Inv-loop μ-loop
+is-unused-slot-requires c κs = search needs
+
+returns : tie.Need-returns Inv-loop μ-loop
+returns c =
+    let l = c .before .before .before in
+    let a = l .before .before .args in
+    slot-here (slotUnused (a .image .now) (a .q .0)) (l .loop .i) (l .loop .inv .1) (c .before .before .loop-test .taken) (c .before .is-unused-slot .ensures) (c .if1 .taken)
+
+add-i : tie.Need-add-i Inv-loop μ-loop
+add-i c = search needs
+
+loop-less : tie.Need-loop-less Inv-loop μ-loop
+loop-less c = search needs
+
+loop-again : tie.Need-loop-again Inv-loop μ-loop
+loop-again c =
+    let l = c .before .before .before in
+    let a = l .before .before .args in
+    (omega arith, slot-next (slotUnused (a .image .now) (a .q .0)) (l .loop .i) (l .loop .inv .1) (c .before .before .loop-test .taken) (c .before .is-unused-slot .ensures) (c .if1 .left))
+
+returns-2 : tie.Need-returns-2 Inv-loop μ-loop
+returns-2 c =
+    let l = c .before in
+    let a = l .before .before .args in
+    slot-none (slotUnused (a .image .now) (a .q .0)) (l .loop .i) (l .loop .inv .1) (l .loop .inv .0) (c .loop-test .left)
+
+pub unused-slot-spec : {M : Type 1} → statement M
+unused-slot-spec =
+    tie.close
+    (tie.spec
+    Inv-loop
+    μ-loop
+    loop-holds
+    is-unused-slot-requires
+    returns
+    add-i
+    loop-less
+    loop-again
+    returns-2)

@@ -1,0 +1,170 @@
+// The places of a catalog: found by name, found unused, read, written and cleared. The catalog is a parameter; SYS is one.
+
+ghost use mathlib.Core.Path.{_≡_};
+ghost use mathlib.Core.List.{_++_};
+ghost use Prim.Native.Nat.{_+_, _≤_};
+ghost use lib.ListN.{length, take, drop};
+ghost use Rattle.disc.specs.Names.{pack};
+ghost use Rattle.words.specs.Store.{store, zeroWords};
+ghost use Rattle.catalog.specs.Catalog.{keySector, placeStart, entryWord, entryAt, slotNamed, slotUnused, firstSlot, placeNamed, placeUnused};
+use types::Name;
+use types::Sector;
+
+// A catalog: the sector of its index block, the joined sector at which its blocks begin, its number of keys and of layers.
+pub struct Catalog {
+    pub index: Sector,
+    pub from: u16,
+    pub keys: u16,
+    pub layers: u16,
+}
+
+// A place: one of the 16 slots of a sector.
+pub struct Place {
+    pub sector: Sector,
+    pub slot: u16,
+}
+
+// Where a search found what it looked for.
+pub enum Found {
+    At(Place),
+    Nothing,
+}
+
+// The sector of a key's block of a layer.
+fn key_sector(image: &[u16], c: Catalog, key: u16, layer: u16) -> Sector
+    ensures { λ r. ⌜ r .0 ≡ keySector (now (image .entry)) c key layer ⌝ }
+{
+    let block = c.keys as u32 * layer as u32 + key as u32;
+    index::sector_at(image, c.index, block + c.from as u32)
+}
+
+// Whether the name stands in a slot of sector q.
+fn is_named_slot(image: &[u16], q: Sector, slot: u16, name: Name) -> bool
+    ensures { λ r. ⌜ r ≡ slotNamed (now (image .entry)) (pack (name .0) (name .1) (name .2)) (q .0) slot ⌝ }
+{
+    let at = slot as usize * 16;
+    let first = words::word(image, q, at);
+    let second = words::word(image, q, at + 1);
+    let third = words::word(image, q, at + 2);
+    names::same_name(Name(first, second, third), name)
+}
+
+// The first slot of sector q with the name, 16 if there is none.
+pub fn slot_named(image: &[u16], q: Sector, name: Name) -> u16
+    ensures { λ r. ⌜ r ≡ firstSlot (slotNamed (now (image .entry)) (pack (name .0) (name .1) (name .2)) (q .0)) ⌝ }
+{
+    let mut i: u16 = 0;
+    while i < 16 {
+        if is_named_slot(image, q, i, name) {
+            return i;
+        }
+        i += 1;
+    }
+    16
+}
+
+// Whether a slot of sector q has 16 zero words.
+pub fn is_unused_slot(image: &[u16], q: Sector, slot: u16) -> bool
+    ensures { λ r. ⌜ r ≡ slotUnused (now (image .entry)) (q .0) slot ⌝ }
+{
+    let at = slot as usize * 16;
+    let mut w: usize = 0;
+    while w < 16 {
+        if words::word(image, q, at + w) != 0 {
+            return false;
+        }
+        w += 1;
+    }
+    true
+}
+
+// The first unused slot of sector q, 16 if there is none.
+pub fn unused_slot(image: &[u16], q: Sector) -> u16
+    ensures { λ r. ⌜ r ≡ firstSlot (slotUnused (now (image .entry)) (q .0)) ⌝ }
+{
+    let mut i: u16 = 0;
+    while i < 16 {
+        if is_unused_slot(image, q, i) {
+            return i;
+        }
+        i += 1;
+    }
+    16
+}
+
+// The place of a name, which is in capitals.
+pub fn find(image: &[u16], c: Catalog, name: Name) -> Found
+    requires { ⌜ 1 ≤ c .keys ⌝ }
+    ensures { λ r. ⌜ r ≡ placeNamed (now (image .entry)) c (pack (name .0) (name .1) (name .2)) ⌝ }
+{
+    let key = numbers::key(name, c.keys);
+    let mut layer: u16 = 0;
+    while layer < c.layers {
+        let q = key_sector(image, c, key, layer);
+        let slot = slot_named(image, q, name);
+        if slot < 16 {
+            return Found::At(Place {
+                sector: q,
+                slot: slot,
+            });
+        }
+        layer += 1;
+    }
+    Found::Nothing
+}
+
+// The first unused place of a key.
+pub fn first_unused(image: &[u16], c: Catalog, key: u16) -> Found
+    ensures { λ r. ⌜ r ≡ placeUnused (now (image .entry)) c key ⌝ }
+{
+    let mut layer: u16 = 0;
+    while layer < c.layers {
+        let q = key_sector(image, c, key, layer);
+        let slot = unused_slot(image, q);
+        if slot < 16 {
+            return Found::At(Place {
+                sector: q,
+                slot: slot,
+            });
+        }
+        layer += 1;
+    }
+    Found::Nothing
+}
+
+// Word w of a place.
+pub fn entry_word(image: &[u16], place: Place, w: u16) -> u16
+    ensures { λ r. ⌜ r ≡ entryWord (now (image .entry)) place w ⌝ }
+{
+    words::word(image, place.sector, place.slot as usize * 16 + w as usize)
+}
+
+// Hands out a place as the first 16 lent words.
+pub fn read_entry(image: &[u16], place: Place, lent: &mut [u16])
+    requires { ⌜ (16 ≤ length (now lent)) × (placeStart place + 16 ≤ length (now image)) ⌝ }
+    ensures { λ _. ⌜ now (lent .exit) ≡ entryAt (now (image .entry)) place ++ drop 16 (now (lent .entry)) ⌝ }
+{
+    words::copy_words(
+        image,
+        place.sector.0 as usize * 256 + place.slot as usize * 16,
+        lent,
+        0,
+        16,
+    );
+}
+
+// Stores the first 16 words in a place.
+pub fn write_entry(image: &mut [u16], place: Place, words: &[u16])
+    requires { ⌜ (16 ≤ length (now words)) × (placeStart place + 16 ≤ length (now image)) ⌝ }
+    ensures { λ _. ⌜ now (image .exit) ≡ store (now (image .entry)) (placeStart place) (take 16 (now (words .entry))) ⌝ }
+{
+    words::store_words(image, place.sector, place.slot as usize * 16, words, 16);
+}
+
+// Stores zero in the words of a place.
+pub fn clear_place(image: &mut [u16], place: Place)
+    requires { ⌜ placeStart place + 16 ≤ length (now image) ⌝ }
+    ensures { λ _. ⌜ now (image .exit) ≡ store (now (image .entry)) (placeStart place) (zeroWords 16) ⌝ }
+{
+    words::clear_words(image, place.sector, place.slot as usize * 16, 16);
+}
