@@ -24,7 +24,7 @@ pub decides-eq : {P : Type 0} (a b : ℕ) → (a ≡ b → P) → (P → a ≡ b
 decides-eq a b to fro = record { yes = λ e. to (eqb-true a b e); not = λ e p. eqb-false a b e (fro p) }
 
 pub decides-le : {P : Type 0} (a b : ℕ) → (a ≤ b → P) → (P → a ≤ b) → Decides (leb a b) P
-decides-le a b to fro = record { yes = λ e. to (leb-true a b e); not = λ e p. let h = fro p in let g = leb-false a b e in omega arith }
+decides-le a b to fro = record { yes = λ e. to (leb-true a b e); not = λ e p. omega (arith, fro p, leb-false a b e) }
 
 -- ---- whole slices
 
@@ -103,6 +103,6 @@ module _ {image : List ℕ} {g : Geometry} (is : GeometryOf image g) where
   pub kit-free : (free : ℕ) → free ≡ onesInMap image → SoundByKit image → word image kitSector 3 ≡ g .slice * free
   kit-free free ones kit = kit .kit .unused ∙ ap₂ (λ (a b : ℕ). a * b) (sym (is .slice)) (sym ones)
 
--- the sectors that are never left out, and a product that fits
+-- the image has sectors 0 to 9
 pub unit-long : {image : List ℕ} {g : Geometry} → UnitOf image g → 2560 ≤ length image
 unit-long unit = omega (arith, unit .size, unit .limits .first, unit .limits .some-data)

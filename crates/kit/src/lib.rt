@@ -1,4 +1,4 @@
-// The kit, sector 8 of the image: the unit's numbers, their limits, and the rules of a sound unit that need no other file.
+// The kit, sector 8 of the image: the unit's numbers, their limits, and those rules of a sound unit that read no file.
 
 ghost use mathlib.Core.Path.{_≡_};
 ghost use mathlib.Core.List.{[], _∷_};

@@ -9,8 +9,8 @@ ghost use Rattle.disc.specs.Decide.{Decides};
 ghost use Rattle.disc.specs.Numbers.{sliceCount};
 ghost use Rattle.disc.specs.Kit.{Limits};
 ghost use Rattle.disc.specs.Slices.{InRangeOnce};
-ghost use Rattle.sound.specs.Sound.{SoundMap};
 ghost use Rattle.disc.specs.Stretches.{span};
+ghost use Rattle.sound.specs.Sound.{SoundMap};
 ghost use Rattle.sound.specs.Parts.{MarksOf, Marking};
 ghost use Rattle.kit.specs.Geometry.{UnitOf};
 ghost use Rattle.marks.specs.Indexed.{PairMarking, IndexMarking};
@@ -101,7 +101,7 @@ fn mark_run(marks: &mut [u8; 4096], from: usize, count: usize) -> bool
 }
 
 // Marks the slices of a pair of an index block, and answers their number: 0 where they are no whole slices of the unit, or one of
-// them is marked already. Dividing once and multiplying back tests the rests.
+// them is marked already. A quotient multiplied back tells whether there is a remainder, with one division instead of two.
 fn mark_pair(sectors: u16, start: u16, g: Geometry, marks: &mut [u8; 4096]) -> u16
     requires { ⌜ Limits (g .keys) (g .slice) (g .first) (g .sectors) × (g .slices ≡ sliceCount (g .slice) (g .first) (g .sectors)) ⌝ }
     ensures { λ r. ⌜ PairMarking g sectors start (now (marks .entry)) (now (marks .exit)) r ⌝ }

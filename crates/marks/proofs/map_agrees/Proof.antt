@@ -32,13 +32,15 @@ filled-requires : tie.Need-filled-requires
 filled-requires c κs = search needs
 
 returns : tie.Need-returns
-returns c = let a = c .before .before .before .before .args in
+returns c =
+    let a = c .before .before .before .before .args in
     λ all is once. fails (λ sound.
     refutes _ (c .before .filled .ensures) (c .if1 .taken)
     (agree-filled (a .image .now) (a .marks .now) (a .g .slices) all (words (c .before)) (few (c .before)) is once sound))
 
 returns-2 : tie.Need-returns-2
-returns-2 c = let f = c .before .before in
+returns-2 c =
+    let f = c .before .before in
     let a = f .before .before .before .args in
     λ all is once. holds (
     agree-full (a .image .now) (a .marks .now) (a .g .slices) all (words f) (few f) is once (c .if2 .taken)
@@ -81,7 +83,8 @@ add-if3-3 : tie.Need-add-if3-3
 add-if3-3 c = omega (arith, edge c)
 
 returns-3 : tie.Need-returns-3
-returns-3 c = let e = c .before .before .before .before .before in
+returns-3 c =
+    let e = c .before .before .before .before .before in
     let f = e .before .before in
     let a = f .before .before .before .args in
     λ all is once. fails (λ sound.
@@ -96,7 +99,8 @@ cleared-requires : tie.Need-cleared-requires
 cleared-requires c κs = search needs
 
 returns-4 : tie.Need-returns-4
-returns-4 c = let e = c .before .before .before .before .before .before in
+returns-4 c =
+    let e = c .before .before .before .before .before .before in
     let f = e .before .before in
     let a = f .before .before .before .args in
     λ all is once.

@@ -15,13 +15,20 @@ Inv-loop image q g marks₀ at pairs slices₀ end₀ j₀ marks slices end j = 
 abbrev μ-loop : tie.MeasureT-loop
 μ-loop image q g marks₀ at pairs slices₀ end₀ j₀ marks slices end j = pairs - j
 
+-- the function's entry and the loop's head, seen from the end of a turn
+abbrev entry : tie.Else5 Inv-loop μ-loop → tie.Start Inv-loop μ-loop
+entry c = c .before .before .before .before .before .before .before .before .before .before .before .before .before .before
+
+abbrev head : tie.Else5 Inv-loop μ-loop → tie.At-loop Inv-loop μ-loop
+head c = c .before .before .before .before .before .before .before
+
 -- one pair more
-next : (c : tie.Else5 Inv-loop μ-loop) → let a = c .before .before .before .before .before .before .before .before .before .before .before .before .before .before .args in let l = c .before .before .before .before .before .before .before .loop in
+next : (c : tie.Else5 Inv-loop μ-loop) → let a = entry c .args in let l = head c .loop in
     Passed (a .image .now) (a .g) (a .q) (a .marks .now) (l .j + 1) (l .slices + c .before .mark-pair .result)
     (pairStart (a .image .now) (a .q) (l .j) + pairLength (a .image .now) (a .q) (l .j)) (c .before .mark-pair .last .1 .1 .1 .0)
 next c =
-    let a = c .before .before .before .before .before .before .before .before .before .before .before .before .before .before .args in
-    passed-more (a .image .now) (a .g) (a .q) (c .before .before .before .before .before .before .before .before .before .before .before .before .before .before .pre .1) (c .before .before .before .before .before .before .before .loop .inv .1) (c .before .mark-pair .result) (omega arith)
+    let a = entry c .args in
+    passed-more (a .image .now) (a .g) (a .q) (entry c .pre .1) (head c .loop .inv .1) (c .before .mark-pair .result) (omega arith)
     (c .before .before .before .if4 .left) (c .before .mark-pair .ensures)
 
 refused-requires : tie.Need-refused-requires Inv-loop μ-loop
@@ -102,9 +109,10 @@ refused-requires-4 c κs = search needs
 returns-4 : tie.Need-returns-4 Inv-loop μ-loop
 returns-4 c =
     let l = c .before .before .before .before .before .loop in
-    let a = c .before .before .before .before .before .before .before .before .before .before .before .before .args in
+    let s = c .before .before .before .before .before .before .before .before .before .before .before .before in
+    let a = s .args in
     refuse-index (a .image .now) (a .g) (a .q) (c .refused4 .ensures) (λ held marked block once.
-    same-start (a .image .now) (a .g) (a .q) (c .before .before .before .before .before .before .before .before .before .before .before .before .pre .0) (l .inv .1) (omega (arith, count-is (a .image .now) (a .g) (a .q))) (c .before .if4 .taken) block)
+    same-start (a .image .now) (a .g) (a .q) (s .pre .0) (l .inv .1) (omega (arith, count-is (a .image .now) (a .g) (a .q))) (c .before .if4 .taken) block)
 
 mark-pair-requires : tie.Need-mark-pair-requires Inv-loop μ-loop
 mark-pair-requires c κs = search needs
@@ -115,18 +123,20 @@ refused-requires-5 c κs = search needs
 returns-5 : tie.Need-returns-5 Inv-loop μ-loop
 returns-5 c =
     let l = c .before .before .before .before .before .before .before .before .loop in
-    let a = c .before .before .before .before .before .before .before .before .before .before .before .before .before .before .before .args in
+    let s = c .before .before .before .before .before .before .before .before .before .before .before .before .before .before .before in
+    let a = s .args in
     refuse-index (a .image .now) (a .g) (a .q) (c .refused5 .ensures)
-    (no-pair (a .image .now) (a .g) (a .q) (c .before .before .before .before .before .before .before .before .before .before .before .before .before .before .before .pre .0) (c .before .before .mark-pair .result) (l .inv .1)
+    (no-pair (a .image .now) (a .g) (a .q) (s .pre .0) (c .before .before .mark-pair .result) (l .inv .1)
     (omega (arith, count-is (a .image .now) (a .g) (a .q))) (c .before .if5 .taken) (c .before .before .mark-pair .ensures))
 
 add-slices : tie.Need-add-slices Inv-loop μ-loop
 add-slices c =
-    let a = c .before .before .before .before .before .before .before .before .before .before .before .before .before .before .args in
-    omega (arith, passed-few (a .image .now) (a .g) (a .q) (c .before .before .before .before .before .before .before .before .before .before .before .before .before .before .pre .1) (next c), c .before .before .before .before .before .before .before .before .before .before .before .before .before .before .pre .0 .slices, c .before .before .before .before .before .before .before .before .before .before .before .before .before .before .pre .0 .limits .slices-high)
+    let s = entry c in
+    let few = passed-few (s .args .image .now) (s .args .g) (s .args .q) (s .pre .1) (next c) in
+    omega (arith, s .pre .0 .slices, s .pre .0 .limits .slices-high)
 
 add-end : tie.Need-add-end Inv-loop μ-loop
-add-end c = omega (arith, c .before .mark-pair .ensures .high (omega arith), c .before .before .before .before .before .before .before .before .before .before .before .before .before .before .pre .0 .limits .sectors)
+add-end c = omega (arith, c .before .mark-pair .ensures .high (omega arith), entry c .pre .0 .limits .sectors)
 
 add-j : tie.Need-add-j Inv-loop μ-loop
 add-j c = search needs
@@ -149,9 +159,10 @@ shared-slice-read-t16 c = search needs
 returns-6 : tie.Need-returns-6 Inv-loop μ-loop
 returns-6 c =
     let l = c .before .before .loop in
-    let a = c .before .before .before .before .before .before .before .before .before .args in
+    let s = c .before .before .before .before .before .before .before .before .before in
+    let a = s .args in
     let count = count-is (a .image .now) (a .g) (a .q) in
-    mark-index (a .image .now) (a .g) (a .q) (c .before .before .before .before .before .before .before .before .before .pre .0) _ (omega arith) (omega arith) (omega arith) (l .inv .1) refl refl refl
+    mark-index (a .image .now) (a .g) (a .q) (s .pre .0) _ (omega arith) (omega arith) (omega arith) (l .inv .1) refl refl refl
 
 pub mark-index-spec : {M : Type 1} → statement M
 mark-index-spec =
