@@ -1,0 +1,3 @@
+pub mod FilterLaws
+pub mod AloneLaws
+pub mod SoundLaws

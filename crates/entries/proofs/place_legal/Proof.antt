@@ -1,0 +1,58 @@
+-- `entries::place_legal` meets its contract. Assumes nothing.
+use borrow.Author.Needs.{needs}
+use Rattle.disc.proofs.DecideLaws.{fails}
+use Rattle.entries.proofs.PlaceLaws.{first-used, judged-unused, judged-name, judged-key, judged-rest}
+use Rattle.entries.proofs.place_legal.Statement.{statement}
+use Rattle.entries.proofs.place_legal.Tie as tie
+
+place-name-requires : tie.Need-place-name-requires
+place-name-requires c κs = search needs
+
+is-unused-requires : tie.Need-is-unused-requires
+is-unused-requires c κs = search needs
+
+returns : tie.Need-returns
+returns c = judged-unused (c .before .before .before .place-name .ensures) (c .before .if1 .taken) (c .is-unused .ensures)
+
+legal-requires : tie.Need-legal-requires
+legal-requires c κs = search needs
+
+returns-2 : tie.Need-returns-2
+returns-2 c =
+    let first = c .before .before in
+    let n = first .before .before .place-name .ensures in
+    fails (judged-name n (first-used n (first .if1 .left)) (c .before .legal .ensures) (c .if2 .taken))
+
+key-requires : tie.Need-key-requires
+key-requires c κs = search needs
+
+returns-3 : tie.Need-returns-3
+returns-3 c =
+    let first = c .before .before .before .before in
+    let n = first .before .before .place-name .ensures in
+    fails (judged-key n (first-used n (first .if1 .left)) (c .before .key .ensures) (c .if3 .taken))
+
+system-legal-requires : tie.Need-system-legal-requires
+system-legal-requires c κs = search needs
+
+returns-4 : tie.Need-returns-4
+returns-4 c =
+    let key = c .before .before in
+    let legal = key .before .before in
+    let first = legal .before in
+    let n = first .before .before .place-name .ensures in
+    judged-rest n (first-used n (first .if1 .left)) (legal .legal .ensures) (key .before .if2 .left) (key .key .ensures) (c .before .if3 .left) (c .system-legal .ensures)
+
+pub place-legal-spec : {M : Type 1} → statement M
+place-legal-spec =
+    tie.close
+    (tie.spec
+    place-name-requires
+    is-unused-requires
+    returns
+    legal-requires
+    returns-2
+    key-requires
+    returns-3
+    system-legal-requires
+    returns-4)

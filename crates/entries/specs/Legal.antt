@@ -1,0 +1,58 @@
+-- A legal place, by its words: of a sector, of a run of sectors, of all of SYS.
+use mathlib.Core.Path.{_≡_}
+use mathlib.Core.List.{List}
+use Prim.Native.Nat.{ℕ, _+_, _*_, _/_, _%_, _<_}
+use lib.ListN.{getD}
+use lib.Dec.{T}
+use Rattle.types.specs.declared.Name.{Name}
+use Rattle.disc.specs.Words.{word}
+use Rattle.disc.specs.Names.{legalName, keyOf, SYS, MAP}
+use Rattle.disc.specs.Kit.{sysIndexSector}
+use Rattle.disc.specs.Entries.{nameAt, systemEntry, mapEntry}
+use Rattle.sound.specs.Places.{Used}
+use Rattle.entries.specs.declared.Catalog.{Catalog}
+
+-- The sixteen places of sector q: "Entry, 16 words".
+abbrev pub sectorPlaces : List ℕ → ℕ → ℕ → ℕ → ℕ
+sectorPlaces image q i w = word image q (i * 16 + w)
+
+-- A name of the code is the one in place t.
+pub record NameIn (P : ℕ → ℕ → ℕ) (t : ℕ) (name : Name) : Type 0 where
+  pub first : name .0 ≡ P t 0
+  pub second : name .1 ≡ P t 1
+  pub third : name .2 ≡ P t 2
+  pub first-word : name .0 < 65536
+  pub second-word : name .1 < 65536
+  pub third-word : name .2 < 65536
+
+-- Place t holds the words of an entry.
+pub record HoldsEntry (P : ℕ → ℕ → ℕ) (t : ℕ) (entry : List ℕ) : Type 0 where
+  pub at : (w : ℕ) → w < 16 → P t w ≡ getD entry w 0
+
+-- SYS's own entry: "SYS has length H times L", and its reserved sectors.
+unfoldable pub ownEntry : Catalog → List ℕ
+ownEntry c = systemEntry SYS (c .size) sysIndexSector (c .reserved)
+
+-- "SYS and MAP are entered with attributes 8010h, zero optional and tail, index 6 and 7": a place with one of the two names
+-- holds its entry.
+pub record SystemLegal (P : ℕ → ℕ → ℕ) (sys : List ℕ) (t : ℕ) : Type 0 where
+  pub sysWords : nameAt P t ≡ SYS → HoldsEntry P t sys
+  pub mapWords : nameAt P t ≡ MAP → HoldsEntry P t mapEntry
+
+-- Place t, in a sector of key k: "Every used entry has a legal name in capitals, .. in a sector of its key".
+pub record PlaceLegal (P : ℕ → ℕ → ℕ) (H k : ℕ) (sys : List ℕ) (t : ℕ) : Type 0 where
+  pub name : Used P t → T (legalName (nameAt P t))
+  pub key : Used P t → k ≡ keyOf H (nameAt P t)
+  pub system : SystemLegal P sys t
+
+-- The places of sector q, a sector of key k.
+pub record SectorLegal (image : List ℕ) (q H k : ℕ) (sys : List ℕ) : Type 0 where
+  pub each : (i : ℕ) → i < 16 → PlaceLegal (sectorPlaces image q) H k sys i
+
+-- The places of n sectors from sector q on, the first of key k: "key k lives in sectors k, k + H, k + 2H and so on".
+pub record StretchLegal (image : List ℕ) (q n H k : ℕ) (sys : List ℕ) : Type 0 where
+  pub each : (c : ℕ) → c < n → SectorLegal image (q + c) H ((k + c) % H) sys
+
+-- The first `count` places of SYS.
+pub record PlacesLegal (P : ℕ → ℕ → ℕ) (H : ℕ) (sys : List ℕ) (count : ℕ) : Type 0 where
+  pub each : (t : ℕ) → t < count → PlaceLegal P H (t / 16 % H) sys t

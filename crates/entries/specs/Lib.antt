@@ -1,0 +1,4 @@
+pub mod Sys
+pub mod Legal
+pub mod Found
+pub mod Names
