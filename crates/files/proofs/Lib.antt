@@ -1,0 +1,8 @@
+pub mod AttributeLaws
+pub mod LiveLaws
+pub mod FileLaws
+pub mod SequenceLaws
+pub mod PlaceLaws
+pub mod WalkLaws
+pub mod SysLaws
+pub mod SoundLaws

@@ -1,0 +1,72 @@
+-- The rules of all places are those of a sound unit's ordinary files, and the slices that they hold are the files'.
+use mathlib.Core.Path.{_≡_, refl, sym, ap, ap₂, _∙_, subst}
+use mathlib.Core.Bool.{Bool}
+use mathlib.Core.List.{List, _++_}
+use Prim.Native.Nat.{ℕ, zero, suc, _<_}
+use native.Mathlib.Omega.{arith}
+use lib.Dec.{T}
+use lib.ListN.{length}
+use Rattle.types.specs.declared.State.{State}
+use Rattle.disc.specs.Names.{legalName}
+use Rattle.disc.specs.Entries.{nameAt}
+use Rattle.kit.specs.declared.Geometry.{Geometry}
+use Rattle.marks.specs.Marked.{Marked}
+use Rattle.sound.specs.Places.{Unused, slicesFrom}
+use Rattle.sound.specs.State.{openArea}
+use Rattle.sound.specs.Sound.{slicesOf, heldBy, slicesBelow}
+use Rattle.sound.specs.Parts.{Marking}
+use Rattle.files.specs.declared.Live.{Live}
+use Rattle.files.specs.Live.{liveOf, indexBy, liveIn, FlatOf}
+use Rattle.files.specs.Rules.{entryOf, FileRules}
+use Rattle.files.specs.Walk.{placeSlices, joined, PlaceRules, PlacesMarking, sysSlices, placesIn, NamesKnown, SoundFiles}
+use Rattle.files.proofs.LiveLaws.{live-state, index-of}
+use Rattle.files.proofs.FileLaws.{rules-sound, sound-rules}
+use Rattle.files.proofs.SequenceLaws.{marking-map}
+
+-- a legal name is not 0, and that of an unused place is
+legal-some : (n : ℕ) → T (legalName n) → n ≡ 0 → ⊥
+legal-some n t e = subst (λ (x : ℕ). T (legalName x)) e t
+
+unused-name : {P : ℕ → ℕ → ℕ} {t : ℕ} → Unused P t → nameAt P t ≡ 0
+unused-name u = omega (arith, u .zero 0 (omega arith), u .zero 1 (omega arith), u .zero 2 (omega arith))
+
+held-same : (n : ℕ) {a b : List ℕ} → ((n ≡ 0 → ⊥) → a ≡ b) → heldBy n a ≡ heldBy n b
+held-same zero e = refl
+held-same (suc n) e = ap (heldBy (suc n)) (e (λ z. omega arith))
+
+module _ (image : List ℕ) (state : State) (g : Geometry) (names indexes lengths : List ℕ) (eight : length (state .areas) ≡ 8) (flat : FlatOf state names indexes lengths) where
+  abbrev P : ℕ → ℕ → ℕ
+  P = placesIn image g
+
+  abbrev lives : ℕ → Live
+  lives = liveIn names indexes lengths
+
+  live-at : (t : ℕ) → (nameAt P t ≡ 0 → ⊥) → lives (nameAt P t) ≡ liveOf (openArea state (nameAt P t))
+  live-at t d = live-state names indexes lengths (nameAt P t) d state eight flat
+
+  slices-same : (t : ℕ) → placeSlices image g lives (P t) ≡ heldBy (nameAt P t) (slicesOf image state (g .first) (g .slice) P t)
+  unfolding placeSlices
+  slices-same t = held-same (nameAt P t) (λ d.
+      ap (slicesFrom image (g .first) (g .slice)) (ap (λ (l : Live). indexBy l (P t 8)) (live-at t d) ∙ index-of (openArea state (nameAt P t)) (P t 8)))
+
+  slices-below : (n : ℕ) → joined (λ t. placeSlices image g lives (P t)) n ≡ slicesBelow image state (g .first) (g .slice) P n
+  unfolding joined
+  slices-below zero = refl
+  slices-below (suc n) = ap₂ (λ (a b : List ℕ). a ++ b) (slices-below n) (slices-same n)
+
+  module _ (count : ℕ) (legal : NamesKnown image g count) where
+    to : ((t : ℕ) → t < count → PlaceRules image g lives (P t)) → SoundFiles image state g count
+    to all t h used ordinary =
+        let d : nameAt P t ≡ 0 → ⊥ = legal-some (nameAt P t) (legal .legal t h used) in
+        rules-sound image state (g .first) (g .slice) P t (subst (FileRules image (g .first) (g .slice) (entryOf (P t))) (live-at t d) (all t h .file d ordinary))
+
+    fro : SoundFiles image state g count → (t : ℕ) → t < count → PlaceRules image g lives (P t)
+    fro files t h = record {
+      file = λ d ordinary.
+          subst (FileRules image (g .first) (g .slice) (entryOf (P t))) (sym (live-at t d))
+          (sound-rules image state (g .first) (g .slice) P t (files t h (λ u. d (unused-name u)) ordinary));
+    }
+
+    pub files-marked : {before after : List ℕ} {r : Bool} → PlacesMarking image g lives P count before after r → Marked (g .slices) before (sysSlices image g)
+        → Marking r (SoundFiles image state g count) (g .slices) after (sysSlices image g) (slicesBelow image state (g .first) (g .slice) P count)
+    files-marked m k = marking-map to fro (slices-below count) (m .marking (sysSlices image g) k)

@@ -1,0 +1,85 @@
+-- `files::flatten` meets its contract: the descriptors before descriptor j are written. Assumes nothing.
+use mathlib.Core.Path.{refl}
+use Prim.Native.Nat.{_-_, _≤_, _<_}
+use native.Mathlib.Omega.{arith}
+use borrow.Author.Needs.{needs}
+use Rattle.types.specs.State.{pastArea}
+use Rattle.files.specs.Live.{openName}
+use Rattle.files.proofs.LiveLaws.{Written, written-none, written-more}
+use Rattle.files.proofs.flatten.Statement.{statement}
+use Rattle.files.proofs.flatten.Tie as tie
+
+abbrev Inv-loop : tie.InvT-loop
+Inv-loop names₀ indexes₀ lengths₀ state j₀ names indexes lengths j =
+    (j ≤ 8) × Written openName (state .areas) pastArea names j × Written (λ a. a .index .0) (state .areas) pastArea indexes j × Written (λ a. a .length) (state .areas) pastArea lengths j
+
+abbrev μ-loop : tie.MeasureT-loop
+μ-loop names₀ indexes₀ lengths₀ state j₀ names indexes lengths j = 8 - j
+
+loop-holds : tie.Need-loop-holds Inv-loop μ-loop
+loop-holds c = (omega arith, written-none _ _ _ (c .pre .0), written-none _ _ _ (c .pre .1), written-none _ _ _ (c .pre .2))
+
+mul-area : tie.Need-mul-area Inv-loop μ-loop
+mul-area c = search needs
+
+element-copy-out-area : tie.Need-element-copy-out-area Inv-loop μ-loop
+element-copy-out-area c = search needs
+
+open-name-requires : tie.Need-open-name-requires Inv-loop μ-loop
+open-name-requires c κs = search needs
+
+mul-names : tie.Need-mul-names Inv-loop μ-loop
+mul-names c = search needs
+
+element-write-names : tie.Need-element-write-names Inv-loop μ-loop
+element-write-names c = search needs
+
+mul-indexes : tie.Need-mul-indexes Inv-loop μ-loop
+mul-indexes c = search needs
+
+element-write-indexes : tie.Need-element-write-indexes Inv-loop μ-loop
+element-write-indexes c = search needs
+
+mul-lengths : tie.Need-mul-lengths Inv-loop μ-loop
+mul-lengths c = search needs
+
+element-write-lengths : tie.Need-element-write-lengths Inv-loop μ-loop
+element-write-lengths c = search needs
+
+add-j : tie.Need-add-j Inv-loop μ-loop
+add-j c = search needs
+
+loop-less : tie.Need-loop-less Inv-loop μ-loop
+loop-less c = search needs
+
+loop-again : tie.Need-loop-again Inv-loop μ-loop
+loop-again c =
+    let l = c .before .before .before .before .loop in
+    let h : l .j < 8 = omega arith in
+    (omega arith, written-more _ _ _ h (c .open-name .ensures) (l .inv .1), written-more _ _ _ h refl (l .inv .2), written-more _ _ _ h refl (l .inv .3))
+
+returns : tie.Need-returns Inv-loop μ-loop
+returns c =
+    let i = c .before .loop .inv in
+    record { name = λ j h. i .1 .each j (omega arith); index = λ j h. i .2 .each j (omega arith); length = λ j h. i .3 .each j (omega arith) }
+
+pub flatten-spec : {M : Type 1} → statement M
+flatten-spec =
+    tie.close
+    (tie.spec
+    Inv-loop
+    μ-loop
+    loop-holds
+    mul-area
+    element-copy-out-area
+    open-name-requires
+    mul-names
+    element-write-names
+    mul-indexes
+    element-write-indexes
+    mul-lengths
+    element-write-lengths
+    add-j
+    loop-less
+    loop-again
+    returns)

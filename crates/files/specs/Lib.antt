@@ -1,0 +1,3 @@
+pub mod Live
+pub mod Rules
+pub mod Walk

@@ -1,0 +1,49 @@
+-- The open area processes, by name, in lists that are read in place of the state.
+use mathlib.Core.Path.{_≡_}
+use mathlib.Core.Bool.{true, false, cond}
+use mathlib.Core.List.{List}
+use mathlib.Core.Option.{Option, none, some}
+use Prim.Native.Nat.{ℕ, zero, suc, _<_}
+use lib.ListN.{getD}
+use lib.Dec.{eqb}
+use Rattle.types.specs.declared.Area.{Area}
+use Rattle.types.specs.declared.State.{State}
+use Rattle.types.specs.State.{areaAt}
+use Rattle.sound.specs.State.{areaName}
+use Rattle.files.specs.declared.Live.{Live}
+
+-- No area process of the name is open.
+abbrev pub closedFile : Live
+closedFile = record { opened = false; index = 0; length = 0 }
+
+-- "Where an area process is open, index sector and length are the process's".
+abbrev pub liveOf : Option Area → Live
+liveOf none = closedFile
+liveOf (some a) = record { opened = true; index = a .index .0; length = a .length }
+
+-- The index sector and the length that count, beside those that the entry says.
+abbrev pub indexBy : Live → ℕ → ℕ
+indexBy live booked = cond (live .opened) (live .index) booked
+
+abbrev pub lengthBy : Live → ℕ → ℕ
+lengthBy live booked = cond (live .opened) (live .length) booked
+
+-- The first of n names, from name j on, that is the given one.
+unfoldable pub liveFrom : List ℕ → List ℕ → List ℕ → ℕ → ℕ → ℕ → Live
+liveFrom names indexes lengths name j zero = closedFile
+liveFrom names indexes lengths name j (suc n) =
+    cond (eqb (getD names j 0) name) (record { opened = true; index = getD indexes j 0; length = getD lengths j 0 }) (liveFrom names indexes lengths name (suc j) n)
+
+-- "Eight area processes".
+unfoldable pub liveIn : List ℕ → List ℕ → List ℕ → ℕ → Live
+liveIn names indexes lengths name = liveFrom names indexes lengths name 0 8
+
+-- The name of an open descriptor, else 0.
+abbrev pub openName : Area → ℕ
+openName a = cond (a .live) (areaName a) 0
+
+-- The lists hold what the state's descriptors say.
+pub record FlatOf (state : State) (names indexes lengths : List ℕ) : Type 0 where
+  pub name : (j : ℕ) → j < 8 → getD names j 0 ≡ openName (areaAt state j)
+  pub index : (j : ℕ) → j < 8 → getD indexes j 0 ≡ areaAt state j .index .0
+  pub length : (j : ℕ) → j < 8 → getD lengths j 0 ≡ areaAt state j .length

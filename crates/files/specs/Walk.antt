@@ -1,0 +1,73 @@
+-- The places of SYS as they are judged one after the other: the rules of each, and the slices that they hold.
+use mathlib.Core.Path.{_≡_}
+use mathlib.Core.Bool.{Bool}
+use mathlib.Core.List.{List, [], _++_}
+use Prim.Native.Nat.{ℕ, zero, suc, _+_, _*_, _≤_, _<_}
+use lib.ListN.{length}
+use lib.Dec.{T}
+use Rattle.types.specs.declared.State.{State}
+use Rattle.disc.specs.Names.{pack, legalName, isSystem}
+use Rattle.disc.specs.Kit.{sysIndexSector}
+use Rattle.disc.specs.Stretches.{slicesAt}
+use Rattle.disc.specs.Entries.{nameAt}
+use Rattle.sound.specs.Places.{Used, IndexBlock}
+use Rattle.sound.specs.Sound.{heldBy, sysPlaces, SoundFile}
+use Rattle.sound.specs.Parts.{Marking}
+use Rattle.kit.specs.declared.Geometry.{Geometry}
+use Rattle.kit.specs.Geometry.{UnitOf}
+use Rattle.marks.specs.Marked.{Marked}
+use Rattle.files.specs.declared.Live.{Live}
+use Rattle.files.specs.Rules.{entryOf, wordsAt, fileSlices, FileRules}
+
+-- The name in sixteen words.
+abbrev pub nameBy : (ℕ → ℕ) → ℕ
+nameBy w = pack (w 0) (w 1) (w 2)
+
+-- The slices that the place with these words holds; the area processes are known by name.
+unfoldable pub placeSlices : List ℕ → Geometry → (ℕ → Live) → (ℕ → ℕ) → List ℕ
+placeSlices image g lives w = heldBy (nameBy w) (fileSlices image (g .first) (g .slice) (entryOf w) (lives (nameBy w)))
+
+-- "Every other file has legal attributes, ..": neither an unused place nor SYS or MAP has more rules.
+pub record PlaceRules (image : List ℕ) (g : Geometry) (lives : ℕ → Live) (w : ℕ → ℕ) : Type 0 where
+  pub file : (nameBy w ≡ 0 → ⊥) → (T (isSystem (nameBy w)) → ⊥) → FileRules image (g .first) (g .slice) (entryOf w) (lives (nameBy w))
+
+-- The first n of a sequence of lists, joined.
+unfoldable pub joined : (ℕ → List ℕ) → ℕ → List ℕ
+joined f zero = []
+joined f (suc n) = joined f n ++ f n
+
+-- One place is judged and its slices marked, and the first n places of a sequence.
+pub record PlaceMarking (image : List ℕ) (g : Geometry) (lives : ℕ → Live) (w : ℕ → ℕ) (before after : List ℕ) (answer : Bool) : Type 0 where
+  pub marking : (held : List ℕ) → Marked (g .slices) before held
+      → Marking answer (PlaceRules image g lives w) (g .slices) after held (placeSlices image g lives w)
+
+pub record PlacesMarking (image : List ℕ) (g : Geometry) (lives : ℕ → Live) (P : ℕ → ℕ → ℕ) (n : ℕ) (before after : List ℕ) (answer : Bool) : Type 0 where
+  pub marking : (held : List ℕ) → Marked (g .slices) before held
+      → Marking answer ((t : ℕ) → t < n → PlaceRules image g lives (P t)) (g .slices) after held (joined (λ t. placeSlices image g lives (P t)) n)
+
+-- The places that stand one after the other from an index of the image on: "Entry, 16 words".
+abbrev pub placesFrom : List ℕ → ℕ → ℕ → ℕ → ℕ
+placesFrom image at i = wordsAt image (at + 16 * i)
+
+-- The slices that SYS's index block in sector 6 describes, and the places in them.
+abbrev pub sysSlices : List ℕ → Geometry → List ℕ
+sysSlices image g = slicesAt image (g .first) (g .slice) sysIndexSector
+
+abbrev pub placesIn : List ℕ → Geometry → ℕ → ℕ → ℕ
+placesIn image g = sysPlaces image (g .first) (g .slice) (sysSlices image g)
+
+-- What is known of SYS by then: its index block is legal, its slices are marked, and its slices have room for the blocks.
+pub record SysKnown (image : List ℕ) (g : Geometry) (marks : List ℕ) (blocks : ℕ) : Type 0 where
+  pub unit : UnitOf image g
+  pub index : IndexBlock image (g .first) (g .slice) sysIndexSector
+  pub marked : Marked (g .slices) marks (sysSlices image g)
+  pub room : blocks ≤ g .slice * length (sysSlices image g)
+
+-- "Every used entry has a legal name".
+pub record NamesKnown (image : List ℕ) (g : Geometry) (count : ℕ) : Type 0 where
+  pub legal : (t : ℕ) → t < count → Used (placesIn image g) t → T (legalName (nameAt (placesIn image g) t))
+
+-- The ordinary files of a sound unit.
+abbrev pub SoundFiles : List ℕ → State → Geometry → ℕ → Type 0
+SoundFiles image state g count =
+    (t : ℕ) → t < count → Used (placesIn image g) t → (T (isSystem (nameAt (placesIn image g) t)) → ⊥) → SoundFile image state (g .first) (g .slice) (placesIn image g) t

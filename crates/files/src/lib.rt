@@ -1,0 +1,393 @@
+// The ordinary files, as a sound unit has them: their attributes, lengths and slices, closed or open. SYS is walked by its
+// stretches, and the slices that the files have are marked.
+
+ghost use mathlib.Core.Path.{_≡_};
+ghost use Prim.Native.Nat.{_+_, _*_, _≤_, min};
+ghost use lib.ListN.{length};
+ghost use Rattle.disc.specs.Decide.{Decides};
+ghost use Rattle.disc.specs.Numbers.{need};
+ghost use Rattle.disc.specs.Attributes.{legalAttributes, legalWith, entryOnly};
+ghost use Rattle.disc.specs.Names.{isSystem};
+ghost use Rattle.disc.specs.Kit.{sysIndexSector};
+ghost use Rattle.disc.specs.Pairs.{pairLength, pairStart};
+ghost use Rattle.disc.specs.Entries.{placeCount};
+ghost use Rattle.sound.specs.Places.{Booked};
+ghost use Rattle.sound.specs.Sound.{slicesBelow};
+ghost use Rattle.sound.specs.Parts.{Marking};
+ghost use Rattle.files.specs.Live.{indexBy, lengthBy, liveIn, openName, FlatOf};
+ghost use Rattle.kit.specs.Geometry.{UnitOf};
+ghost use Rattle.marks.specs.Marked.{SomeMarked};
+ghost use Rattle.files.specs.Walk.{nameBy, placesFrom, placesIn, sysSlices, PlaceMarking, PlacesMarking, SysKnown, NamesKnown, SoundFiles};
+ghost use Rattle.files.specs.Rules.{wordsAt, entryAt, FileNumbers, OwnMarking, FileMarking};
+use kit::Geometry;
+use marks::Indexed;
+use types::Area;
+use types::State;
+
+// The image's index of the first word of SYS's index block.
+const SYS_INDEX: usize = 6 * 256;
+
+// What is known of a file's area process: whether it is open, and then its index sector and length.
+pub struct Live {
+    pub opened: bool,
+    pub index: u16,
+    pub length: u16,
+}
+
+// The words of an entry that say what its file is.
+pub struct Entry {
+    pub attributes: u16,
+    pub size: u16,
+    pub index: u16,
+    pub reserved: u16,
+}
+
+// Whether a word has no bits but those that a caller may set, and not both 13 and 15.
+pub fn legal_attributes(a: u16) -> bool
+    ensures { λ r. ⌜ r ≡ legalAttributes a ⌝ }
+{
+    let own = 16384 * (a / 16384 % 2)
+        + 16 * (a / 16 % 2)
+        + 8 * (a / 8 % 2)
+        + 4 * (a / 4 % 2)
+        + a % 2;
+    if own != a {
+        return false;
+    }
+    a / 4 % 2 + a % 2 != 2
+}
+
+// Whether bit 13 is set.
+pub fn entry_only(a: u16) -> bool
+    ensures { λ r. ⌜ r ≡ entryOnly a ⌝ }
+{
+    a / 4 % 2 == 1
+}
+
+// Whether bit 13 may stand beside so many slices.
+pub fn legal_with(a: u16, slices: u16) -> bool
+    ensures { λ r. ⌜ r ≡ legalWith a slices ⌝ }
+{
+    if slices == 0 {
+        return true;
+    }
+    !entry_only(a)
+}
+
+// Whether so many slices, of s sectors each, are enough for n sectors and the index block.
+pub fn covered(s: u16, n: u16, slices: u16) -> bool
+    requires { ⌜ 1 ≤ s ⌝ }
+    ensures { λ r. ⌜ Decides r (need s n ≤ slices) ⌝ }
+{
+    if n == 0 {
+        return true;
+    }
+    n as u32 + 1 <= slices as u32 * s as u32
+}
+
+// The name of an open descriptor as one number, else 0.
+fn open_name(area: Area) -> u64
+    ensures { λ r. ⌜ r ≡ openName area ⌝ }
+{
+    if area.live {
+        let name = area.name;
+        return (name.0 as u64 * 65536 + name.1 as u64) * 65536 + name.2 as u64;
+    }
+    0
+}
+
+// Writes names, index sectors and lengths of the descriptors into lists, which are lent from place to place.
+pub fn flatten(state: State, names: &mut [u64; 8], indexes: &mut [u16; 8], lengths: &mut [u16; 8])
+    requires { ⌜ (length (now names) ≡ 8) × (length (now indexes) ≡ 8) × (length (now lengths) ≡ 8) ⌝ }
+    ensures { λ r. ⌜ FlatOf state (now (names .exit)) (now (indexes .exit)) (now (lengths .exit)) ⌝ }
+{
+    let mut j: usize = 0;
+    while j < 8 {
+        let area = state.areas[j];
+        let index = area.index;
+        names[j] = open_name(area);
+        indexes[j] = index.0;
+        lengths[j] = area.length;
+        j += 1;
+    }
+}
+
+// What the lists say of a name.
+pub fn live_of(names: &[u64; 8], indexes: &[u16; 8], lengths: &[u16; 8], name: u64) -> Live
+    ensures { λ r. ⌜ r ≡ liveIn (now (names .entry)) (now (indexes .entry)) (now (lengths .entry)) name ⌝ }
+{
+    let mut j: usize = 0;
+    while j < 8 {
+        if names[j] == name {
+            return Live {
+                opened: true,
+                index: indexes[j],
+                length: lengths[j],
+            };
+        }
+        j += 1;
+    }
+    Live {
+        opened: false,
+        index: 0,
+        length: 0,
+    }
+}
+
+// The index sector that counts.
+fn live_index(live: Live, booked: u16) -> u16
+    ensures { λ r. ⌜ r ≡ indexBy live booked ⌝ }
+{
+    if live.opened {
+        return live.index;
+    }
+    booked
+}
+
+// The length that counts.
+fn live_length(live: Live, booked: u16) -> u16
+    ensures { λ r. ⌜ r ≡ lengthBy live booked ⌝ }
+{
+    if live.opened {
+        return live.length;
+    }
+    booked
+}
+
+// The words of the entry that stands at a word of the image.
+fn entry_at(image: &[u16], at: usize) -> Entry
+    requires { ⌜ at + 16 ≤ length (now image) ⌝ }
+    ensures { λ r. ⌜ r ≡ entryAt (now (image .entry)) at ⌝ }
+{
+    Entry {
+        attributes: image[at + 6],
+        size: image[at + 7],
+        index: image[at + 8],
+        reserved: image[at + 9],
+    }
+}
+
+// Whether an entry may stand beside the open area process of a file with so many slices.
+fn booked_legal(entry: Entry, live: Live, slices: u16, s: u16) -> bool
+    requires { ⌜ 1 ≤ s ⌝ }
+    ensures { λ r. ⌜ Decides r (Booked s (entry .size) (entry .index) (entry .reserved) (live .length) (live .index) slices) ⌝ }
+{
+    let own = entry.reserved / s;
+    if own * s != entry.reserved {
+        return false;
+    }
+    if slices < own {
+        return false;
+    }
+    if live.length < entry.size {
+        return false;
+    }
+    if !covered(s, entry.size, own) {
+        return false;
+    }
+    if own == 0 {
+        return entry.index == 0;
+    }
+    entry.index == live.index
+}
+
+// Whether the numbers of a file with so many slices are legal.
+fn numbers_legal(entry: Entry, live: Live, slices: u16, s: u16) -> bool
+    requires { ⌜ 1 ≤ s ⌝ }
+    ensures { λ r. ⌜ Decides r (FileNumbers s entry live slices) ⌝ }
+{
+    if !legal_attributes(entry.attributes) {
+        return false;
+    }
+    if !legal_with(entry.attributes, slices) {
+        return false;
+    }
+    let size = live_length(live, entry.size);
+    if 32767 < size {
+        return false;
+    }
+    if !covered(s, size, slices) {
+        return false;
+    }
+    if live.opened {
+        return booked_legal(entry, live, slices, s);
+    }
+    entry.reserved as u32 == s as u32 * slices as u32
+}
+
+// Judges the index block in sector q, which must be the first sector of the first slice, and marks the slices; for q = 0 there
+// are none. A refused block says that its first slice begins at sector 0.
+fn own_index(image: &[u16], q: u16, g: Geometry, marks: &mut [u8; 4096]) -> Indexed
+    requires { ⌜ UnitOf (now image) g × SomeMarked (g .slices) (now marks) ⌝ }
+    ensures { λ r. ⌜ OwnMarking (now (image .entry)) g q (now (marks .entry)) (now (marks .exit)) r ⌝ }
+{
+    if q == 0 {
+        return Indexed {
+            good: true,
+            slices: 0,
+            start: 0,
+        };
+    }
+    let found = marks::mark_index(image, q, g, marks);
+    Indexed {
+        good: found.start == q,
+        slices: found.slices,
+        start: found.start,
+    }
+}
+
+// Judges the file whose entry stands at a word of the image, and marks its slices.
+fn file_sound(image: &[u16], at: usize, live: Live, g: Geometry, marks: &mut [u8; 4096]) -> bool
+    requires { ⌜ UnitOf (now image) g × SomeMarked (g .slices) (now marks) × (at + 16 ≤ length (now image)) ⌝ }
+    ensures { λ r. ⌜ FileMarking (now (image .entry)) g (entryAt (now (image .entry)) at) live (now (marks .entry)) (now (marks .exit)) r ⌝ }
+{
+    let entry = entry_at(image, at);
+    let found = own_index(image, live_index(live, entry.index), g, marks);
+    if !found.good {
+        return false;
+    }
+    numbers_legal(entry, live, found.slices, g.slice)
+}
+
+// The name that stands at a word of the image, as one number.
+fn name_at(image: &[u16], at: usize) -> u64
+    requires { ⌜ at + 16 ≤ length (now image) ⌝ }
+    ensures { λ r. ⌜ r ≡ nameBy (wordsAt (now (image .entry)) at) ⌝ }
+{
+    (image[at] as u64 * 65536 + image[at + 1] as u64) * 65536 + image[at + 2] as u64
+}
+
+// Whether a name is 'SYS' or 'MAP'.
+fn is_system(name: u64) -> bool
+    ensures { λ r. ⌜ r ≡ isSystem name ⌝ }
+{
+    name == 0x535953000000 || name == 0x4D4150000000
+}
+
+// Judges the place that stands at a word of the image, and marks the slices that it holds.
+fn place_sound(
+    image: &[u16],
+    at: usize,
+    names: &[u64; 8],
+    indexes: &[u16; 8],
+    lengths: &[u16; 8],
+    g: Geometry,
+    marks: &mut [u8; 4096],
+) -> bool
+    requires { ⌜ UnitOf (now image) g × SomeMarked (g .slices) (now marks) × (at + 16 ≤ length (now image)) ⌝ }
+    ensures { λ r. ⌜ PlaceMarking (now (image .entry)) g (liveIn (now (names .entry)) (now (indexes .entry)) (now (lengths .entry))) (wordsAt (now (image .entry)) at) (now (marks .entry)) (now (marks .exit)) r ⌝ }
+{
+    let name = name_at(image, at);
+    if name == 0 {
+        return true;
+    }
+    if is_system(name) {
+        return true;
+    }
+    let live = live_of(names, indexes, lengths, name);
+    file_sound(image, at, live, g, marks)
+}
+
+// Judges so many places, which stand one after the other from a word of the image on.
+fn run_sound(
+    image: &[u16],
+    at: usize,
+    count: usize,
+    names: &[u64; 8],
+    indexes: &[u16; 8],
+    lengths: &[u16; 8],
+    g: Geometry,
+    marks: &mut [u8; 4096],
+) -> bool
+    requires { ⌜ UnitOf (now image) g × SomeMarked (g .slices) (now marks) × (at + 16 * count ≤ length (now image)) ⌝ }
+    ensures { λ r. ⌜ PlacesMarking (now (image .entry)) g (liveIn (now (names .entry)) (now (indexes .entry)) (now (lengths .entry))) (placesFrom (now (image .entry)) at) count (now (marks .entry)) (now (marks .exit)) r ⌝ }
+{
+    let mut i: usize = 0;
+    while i < count {
+        if !place_sound(image, at + 16 * i, names, indexes, lengths, g, marks) {
+            return false;
+        }
+        i += 1;
+    }
+    true
+}
+
+// The length in sectors of pair j of SYS's index block.
+fn pair_length(image: &[u16], j: usize) -> u16
+    requires { ⌜ (j ≤ 126) × (2560 ≤ length (now image)) ⌝ }
+    ensures { λ r. ⌜ r ≡ pairLength (now (image .entry)) sysIndexSector j ⌝ }
+{
+    image[SYS_INDEX + (2 * j + 1)]
+}
+
+// The first sector of pair j of SYS's index block.
+fn pair_start(image: &[u16], j: usize) -> u16
+    requires { ⌜ (j ≤ 126) × (2560 ≤ length (now image)) ⌝ }
+    ensures { λ r. ⌜ r ≡ pairStart (now (image .entry)) sysIndexSector j ⌝ }
+{
+    image[SYS_INDEX + (2 * j + 2)]
+}
+
+// The lesser of two numbers.
+fn lesser(a: u16, b: u16) -> u16
+    ensures { λ r. ⌜ r ≡ min a b ⌝ }
+{
+    if a < b {
+        return a;
+    }
+    b
+}
+
+// Judges the places of the first `size` blocks of SYS, stretch by stretch.
+fn stretches_sound(
+    image: &[u16],
+    size: u16,
+    names: &[u64; 8],
+    indexes: &[u16; 8],
+    lengths: &[u16; 8],
+    g: Geometry,
+    marks: &mut [u8; 4096],
+) -> bool
+    requires { ⌜ SysKnown (now image) g (now marks) size ⌝ }
+    ensures { λ r. ⌜ PlacesMarking (now (image .entry)) g (liveIn (now (names .entry)) (now (indexes .entry)) (now (lengths .entry))) (placesIn (now (image .entry)) g) (16 * size) (now (marks .entry)) (now (marks .exit)) r ⌝ }
+{
+    let mut b: u16 = 0;
+    let mut j: usize = 0;
+    while b < size {
+        let n = lesser(pair_length(image, j), size - b);
+        let start = pair_start(image, j);
+        if !run_sound(
+            image,
+            start as usize * 256,
+            16 * n as usize,
+            names,
+            indexes,
+            lengths,
+            g,
+            marks,
+        ) {
+            return false;
+        }
+        b += n;
+        j += 1;
+    }
+    true
+}
+
+// Judges all ordinary files, whose entries stand in the first `layers` layers of SYS, and marks their slices beside SYS's.
+pub fn files_sound(
+    image: &[u16],
+    state: State,
+    g: Geometry,
+    layers: u16,
+    marks: &mut [u8; 4096],
+) -> bool
+    requires { ⌜ SysKnown (now image) g (now marks) (g .keys * layers) × NamesKnown (now image) g (placeCount (g .keys) layers) ⌝ }
+    ensures { λ r. ⌜ Marking r (SoundFiles (now (image .entry)) state g (placeCount (g .keys) layers)) (g .slices) (now (marks .exit)) (sysSlices (now (image .entry)) g) (slicesBelow (now (image .entry)) state (g .first) (g .slice) (placesIn (now (image .entry)) g) (placeCount (g .keys) layers)) ⌝ }
+{
+    let mut names: [u64; 8] = [0; 8];
+    let mut indexes: [u16; 8] = [0; 8];
+    let mut lengths: [u16; 8] = [0; 8];
+    flatten(state, &mut names, &mut indexes, &mut lengths);
+    stretches_sound(image, g.keys * layers, &names, &indexes, &lengths, g, marks)
+}
