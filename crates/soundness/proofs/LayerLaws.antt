@@ -1,0 +1,50 @@
+-- The rules once SYS's layers are known, as they are decided one after the other: names, areas, files, map.
+use mathlib.Core.Path.{_≡_}
+use mathlib.Core.Bool.{Bool, true, false}
+use mathlib.Core.Bool as B
+use mathlib.Core.List.{List}
+use Prim.Native.Nat.{ℕ, _*_}
+use borrow.Author.Tests.{not-true, not-false}
+use Rattle.types.specs.declared.State.{State}
+use Rattle.disc.specs.Decide.{Decides}
+use Rattle.disc.specs.Slices.{InRangeOnce}
+use Rattle.disc.specs.Entries.{placeCount}
+use Rattle.disc.proofs.DecideLaws.{fails}
+use Rattle.sound.specs.Sound.{SoundMap, slicesBelow}
+use Rattle.sound.specs.Parts.{SoundNames, MarksOf, Marking}
+use Rattle.kit.specs.declared.Geometry.{Geometry}
+use Rattle.entries.specs.Sys.{sysSlices, placesIn}
+use Rattle.alone.specs.Scan.{LegalSys}
+use Rattle.files.specs.Walk.{SysKnown, NamesKnown, SoundFiles}
+use Rattle.soundness.specs.Areas.{AreasEntered}
+use Rattle.soundness.specs.Layers.{SoundLayers, unitSlices}
+
+module _ {image : List ℕ} {g : Geometry} {L : ℕ} where
+  module _ {before : List ℕ} (known : SysKnown image g before (g .keys * L)) (names : SoundNames (g .keys) (g .slice) L (sysSlices image g) (placesIn image g) (placeCount (g .keys) L)) where
+    pub names-legal : LegalSys image g (g .keys * L)
+    names-legal = record {
+      sys = record { unit = known .unit; index = known .index; once = known .marked .once };
+      room = known .room;
+      legal = names .legal;
+    }
+
+    pub names-known : NamesKnown image g (placeCount (g .keys) L)
+    names-known = record { legal = λ t h u. names .legal t h u .name }
+
+  -- the files or their slices are not those of a sound unit, or the map decides
+  module _ {state : State} {r : Bool} {marks : List ℕ}
+      (files : Marking r (SoundFiles image state g (placeCount (g .keys) L)) (g .slices) marks (sysSlices image g) (slicesBelow image state (g .first) (g .slice) (placesIn image g) (placeCount (g .keys) L))) where
+    pub files-refused : B.not r ≡ true → Decides false (SoundLayers image state g L)
+    files-refused e = fails (λ s. files .not (not-true r e) (s .files) (s .once))
+
+    pub map-decides : {a : Bool} → B.not r ≡ false → SoundNames (g .keys) (g .slice) L (sysSlices image g) (placesIn image g) (placeCount (g .keys) L)
+        → AreasEntered state (placesIn image g) (placeCount (g .keys) L)
+        → ((all : List ℕ) → MarksOf marks all → InRangeOnce (g .slices) all → Decides a (SoundMap image (g .slices) all))
+        → Decides a (SoundLayers image state g L)
+    map-decides e names areas agrees =
+        let f = files .yes (not-false r e) in
+        let d = agrees (unitSlices image state g L) (f .2) (f .1) in
+        record {
+          yes = λ y. record { names = names; areas = areas; files = f .0; once = f .1; map = d .yes y };
+          not = λ n s. d .not n (s .map);
+        }

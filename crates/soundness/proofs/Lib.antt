@@ -1,0 +1,4 @@
+pub mod AreaLaws
+pub mod SysLaws
+pub mod LayerLaws
+pub mod TopLaws

@@ -1,0 +1,123 @@
+-- The rules of a sound unit are those on users and kit, on SYS's slices and layers, and on the rest, said of the geometry that
+-- was read.
+use mathlib.Core.Path.{_≡_, sym, subst}
+use mathlib.Core.Bool.{Bool}
+use mathlib.Core.List.{List, _++_}
+use Prim.Native.Nat.{ℕ, _*_}
+use native.Mathlib.Omega.{arith}
+use lib.ListN.{length}
+use Rattle.types.specs.declared.State.{State}
+use Rattle.disc.specs.Decide.{Decides}
+use Rattle.disc.specs.Words.{Words}
+use Rattle.disc.specs.Slices.{InRangeOnce}
+use Rattle.disc.specs.Entries.{placeCount}
+use Rattle.disc.proofs.NumberLaws.{ceilDiv-le}
+use Rattle.disc.proofs.SliceLaws.{occurrences-append}
+use Rattle.sound.specs.State.{Shaped}
+use Rattle.sound.specs.Sound.{slicesBelow, SoundWith, SoundUnit}
+use Rattle.sound.specs.Parts.{SoundUsers}
+use Rattle.kit.specs.declared.Geometry.{Geometry}
+use Rattle.kit.specs.Geometry.{GeometryOf, UnitOf, SoundByKit}
+use Rattle.kit.proofs.KitLaws.{sound-unit}
+use Rattle.marks.specs.Marked.{Marked}
+use Rattle.entries.specs.Sys.{sysSlices, placesIn}
+use Rattle.files.specs.Walk.{SysKnown}
+use Rattle.soundness.specs.Layers.{SysSound, SysMarking, SoundLayers}
+
+-- ---- what a sound unit has, by the numbers in the kit
+
+pub unit-users : {image : List ℕ} {state : State} → SoundUnit image state → SoundUsers state
+unit-users u = record { distinct = u .rules .areas .distinct; users = u .rules .areas .users }
+
+pub unit-kit : {image : List ℕ} {state : State} → SoundUnit image state → SoundByKit image
+unit-kit u = record { size = u .rules .size; kit = u .rules .kit; limits = u .rules .limits; mapIndex = u .rules .mapIndex }
+
+once-left : (m : ℕ) (l r : List ℕ) → InRangeOnce m (l ++ r) → InRangeOnce m l
+once-left m l r once k = omega (arith, once k, occurrences-append k l r)
+
+-- ---- by the geometry
+
+abbrev SoundBy : List ℕ → State → Geometry → Type 0
+SoundBy image state g = SoundWith image state (g .keys) (g .slice) (g .first) (g .sectors) (sysSlices image g)
+
+module _ {image : List ℕ} {g : Geometry} (is : GeometryOf image g) where
+  -- SYS's slices have room for its layers
+  pub sys-known : {marks : List ℕ} {L : ℕ} → SoundByKit image → SysSound image g L → Marked (g .slices) marks (sysSlices image g)
+      → SysKnown image g marks (g .keys * L)
+  sys-known {L = L} kit s marked =
+      let unit : UnitOf image g = sound-unit is kit in
+      let least = ceilDiv-le (g .keys * L) (g .slice) (length (sysSlices image g)) (omega (arith, unit .limits .slice-low)) in
+      let room = least .0 (omega (arith, s .count)) in
+      record { unit = unit; index = s .index; marked = marked; room = omega (arith, room) }
+
+  module _ {state : State} where
+    by-geometry : SoundUnit image state → SoundBy image state g
+    by-geometry u = rw (is .keys, is .slice, is .first, is .sectors) (u .rules)
+
+    by-kit : SoundBy image state g → SoundUnit image state
+    by-kit w = record { rules = rw (← is .keys, ← is .slice, ← is .first, ← is .sectors) w }
+
+    by-layers : (w : SoundBy image state g) → SoundLayers image state g (w .layers)
+    by-layers w = record {
+      names = record { sysEntered = w .sysEntered; mapEntered = w .mapEntered; legal = w .entries .legal; alone = w .entries .alone };
+      areas = record { each = λ j h o. record { entered = w .areas .entered j h o; ordinary = w .areas .ordinary j h o } };
+      files = w .entries .files;
+      once = rw (is .slices) (w .once);
+      map = rw (is .slices) (w .map);
+    }
+
+    by-sys : (w : SoundBy image state g) → SysSound image g (w .layers)
+    by-sys w = record {
+      some = w .layered;
+      index = w .sysIndex;
+      once = once-left
+          (g .slices)
+          (sysSlices image g)
+          (slicesBelow image state (g .first) (g .slice) (placesIn image g) (placeCount (g .keys) (w .layers)))
+          (by-layers w .once);
+      first = w .sysFirst;
+      count = w .sysCount;
+    }
+
+    -- the number of layers that was found is the only one
+    pub unit-layers : {marks : List ℕ} {r : ℕ} → SysMarking image g marks r → SoundUnit image state
+        → SysSound image g r × SoundLayers image state g r
+    unit-layers {r = r} found u =
+        let w = by-geometry u in
+        let only : r ≡ w .layers = found .only (w .layers) (by-sys w) (by-layers w .names) in
+        subst (λ (L : ℕ). SysSound image g L × SoundLayers image state g L) (sym only) (by-sys w, by-layers w)
+
+    layers-unit : {L : ℕ} → Words image → Shaped state → SoundUsers state → SoundByKit image
+        → SysSound image g L → SoundLayers image state g L → SoundUnit image state
+    layers-unit {L} words shaped users kit s l = by-kit (record {
+      words = words;
+      shaped = shaped;
+      size = rw (is .sectors) (kit .size);
+      kit = rw (is .keys, is .slice, is .first, is .sectors) (kit .kit);
+      limits = sound-unit is kit .limits;
+      layers = L;
+      layered = s .some;
+      sysEntered = l .names .sysEntered;
+      mapEntered = l .names .mapEntered;
+      mapIndex = kit .mapIndex;
+      sysIndex = s .index;
+      sysCount = s .count;
+      sysFirst = s .first;
+      entries = record { legal = l .names .legal; alone = l .names .alone; files = l .files };
+      once = rw (← is .slices) (l .once);
+      map = rw (← is .slices) (l .map);
+      areas = record {
+        distinct = users .distinct;
+        entered = λ j h o. l .areas .each j h o .entered;
+        ordinary = λ j h o. l .areas .each j h o .ordinary;
+        users = users .users;
+      };
+    })
+
+    -- all steps before were answered yes: the last answer is that of the whole
+    pub decides-unit : {marks : List ℕ} {L : ℕ} (r : Bool) → Words image → Shaped state → SoundUsers state → SoundByKit image
+        → SysMarking image g marks L → SysSound image g L → Decides r (SoundLayers image state g L) → Decides r (SoundUnit image state)
+    decides-unit r words shaped users kit found s d = record {
+      yes = λ e. layers-unit words shaped users kit s (d .yes e);
+      not = λ e u. d .not e (unit-layers found u .1);
+    }

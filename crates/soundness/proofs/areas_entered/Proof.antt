@@ -1,0 +1,76 @@
+-- `soundness::areas_entered` meets its contract. The invariant: the name of each open descriptor before j is entered. Assumes
+-- nothing.
+use mathlib.Core.Path.{sym, _∙_}
+use mathlib.Core.Logic.{⊎-elim}
+use Prim.Native.Nat.{ℕ, _+_, _*_, _-_, _≤_, _<_}
+use native.Mathlib.Omega.{arith}
+use borrow.Author.Count.{below-more}
+use borrow.Author.Needs.{needs}
+use Rattle.types.specs.State.{areaAt}
+use Rattle.sound.specs.State.{areaName, IsOpen}
+use Rattle.disc.proofs.DecideLaws.{holds, fails, refutes, grants, true≢false}
+use Rattle.entries.specs.Sys.{placesIn}
+use Rattle.soundness.specs.Areas.{OrdinaryEntered}
+use Rattle.soundness.proofs.areas_entered.Statement.{statement}
+use Rattle.soundness.proofs.areas_entered.Tie as tie
+
+abbrev Inv-loop : tie.InvT-loop
+Inv-loop image g blocks state j₀ j = (j ≤ 8) × ((k : ℕ) → k < j → IsOpen state k → OrdinaryEntered (placesIn image g) (16 * blocks) (areaName (areaAt state k)))
+
+abbrev μ-loop : tie.MeasureT-loop
+μ-loop image g blocks state j₀ j = 8 - j
+
+loop-holds : tie.Need-loop-holds Inv-loop μ-loop
+loop-holds c = (omega arith, λ k h. absurd (omega arith))
+
+mul-area : tie.Need-mul-area Inv-loop μ-loop
+mul-area c = omega arith
+
+element-copy-out-area : tie.Need-element-copy-out-area Inv-loop μ-loop
+element-copy-out-area c = omega arith
+
+name-entered-requires : tie.Need-name-entered-requires Inv-loop μ-loop
+name-entered-requires c κs = search needs
+
+returns : tie.Need-returns Inv-loop μ-loop
+returns c =
+    let test = c .before in
+    let turn = test .before .before .before in
+    fails (λ s. refutes _ (test .name-entered .ensures) (c .if2 .taken) (s .each _ (turn .loop-test .taken) (test .before .if1 .taken)))
+
+add-j : tie.Need-add-j Inv-loop μ-loop
+add-j c = omega arith
+
+loop-less : tie.Need-loop-less Inv-loop μ-loop
+loop-less c = omega arith
+
+loop-again : tie.Need-loop-again Inv-loop μ-loop
+loop-again c =
+    let turn = c .before .before .before in
+    let a = turn .before .before .args in (
+      omega arith,
+      below-more
+          (λ k. IsOpen (a .t3) k → OrdinaryEntered (placesIn (a .image .now) (a .g)) (16 * a .blocks) (areaName (areaAt (a .t3) k)))
+          (turn .loop .j)
+          (turn .loop .inv .1)
+          (⊎-elim (λ w o. grants _ (w .1 .ensures) (w .2 .left)) (λ w o. absurd (true≢false (sym o ∙ w .left))) (c .if1 .came)),
+    )
+
+returns-2 : tie.Need-returns-2 Inv-loop μ-loop
+returns-2 c = holds (record { each = λ j h. c .before .loop .inv .1 j (omega arith) })
+
+pub areas-entered-spec : {M : Type 1} → statement M
+areas-entered-spec =
+    tie.close
+    (tie.spec
+    Inv-loop
+    μ-loop
+    loop-holds
+    mul-area
+    element-copy-out-area
+    name-entered-requires
+    returns
+    add-j
+    loop-less
+    loop-again
+    returns-2)

@@ -1,0 +1,64 @@
+-- `soundness::layers_sound` meets its contract. Assumes nothing.
+use native.Mathlib.Omega.{arith}
+use borrow.Author.Needs.{needs}
+use Rattle.disc.proofs.DecideLaws.{fails, refutes, grants}
+use Rattle.files.proofs.SysLaws.{sys-small}
+use Rattle.soundness.proofs.LayerLaws.{names-legal, names-known, files-refused, map-decides}
+use Rattle.soundness.proofs.layers_sound.Statement.{statement}
+use Rattle.soundness.proofs.layers_sound.Tie as tie
+
+names-sound-requires : tie.Need-names-sound-requires
+names-sound-requires c κs = search needs
+
+returns : tie.Need-returns
+returns c = fails (λ s. refutes _ (c .before .names-sound .ensures) (c .if1 .taken) (s .names))
+
+mul-areas-entered : tie.Need-mul-areas-entered
+mul-areas-entered c =
+    let known = c .before .before .before .before .pre in
+    omega (arith, known .room, sys-small known, known .unit .limits .sectors)
+
+areas-entered-requires : tie.Need-areas-entered-requires
+areas-entered-requires c κs =
+    let names = c .before .before in
+    names-legal (names .before .before .pre) (grants _ (names .names-sound .ensures) (c .before .if1 .left))
+
+returns-2 : tie.Need-returns-2
+returns-2 c = fails (λ s. refutes _ (c .before .areas-entered .ensures) (c .if2 .taken) (s .areas))
+
+files-sound-requires : tie.Need-files-sound-requires
+files-sound-requires c κs =
+    let else1 = c .before .before .before .before in
+    let names = else1 .before in
+    let known = names .before .before .pre in
+    (known, names-known known (grants _ (names .names-sound .ensures) (else1 .if1 .left)))
+
+returns-3 : tie.Need-returns-3
+returns-3 c = files-refused (c .before .files-sound .ensures) (c .if3 .taken)
+
+map-agrees-requires : tie.Need-map-agrees-requires
+map-agrees-requires c κs = search needs
+
+returns-4 : tie.Need-returns-4
+returns-4 c =
+    let else3 = c .before .before in
+    let files = else3 .before in
+    let else2 = files .before .before in
+    let areas = else2 .before in
+    let else1 = areas .before .before in
+    map-decides (files .files-sound .ensures) (else3 .if3 .left) (grants _ (else1 .before .names-sound .ensures) (else1 .if1 .left))
+    (grants _ (areas .areas-entered .ensures) (else2 .if2 .left)) (c .map-agrees .ensures)
+
+pub layers-sound-spec : {M : Type 1} → statement M
+layers-sound-spec =
+    tie.close
+    (tie.spec
+    names-sound-requires
+    returns
+    mul-areas-entered
+    areas-entered-requires
+    returns-2
+    files-sound-requires
+    returns-3
+    map-agrees-requires
+    returns-4)

@@ -1,0 +1,57 @@
+-- `soundness::name_entered` meets its contract. Assumes nothing.
+use mathlib.Core.Path.{sym, _∙_}
+use native.Mathlib.Omega.{arith}
+use borrow.Author.Needs.{needs}
+use Rattle.disc.proofs.DecideLaws.{holds, fails}
+use Rattle.entries.proofs.PlaceLaws.{T-of, T-not}
+use Rattle.entries.proofs.FindLaws.{found-at, found-none}
+use Rattle.soundness.proofs.AreaLaws.{entered-first, entered-found, found-entered}
+use Rattle.soundness.proofs.name_entered.Statement.{statement}
+use Rattle.soundness.proofs.name_entered.Tie as tie
+
+returns : tie.Need-returns
+returns c =
+    let start = c .before .before .before in
+    let name = start .args .name in
+    fails (λ e. entered-first (start .pre) (name .0) (name .1) (name .2) (omega arith) (omega arith) e (c .if1 .taken))
+
+is-system-requires : tie.Need-is-system-requires
+is-system-requires c κs = search needs
+
+returns-2 : tie.Need-returns-2
+returns-2 c = fails (λ e. e .ordinary (T-of (sym (c .before .is-system .ensures) ∙ c .if2 .taken)))
+
+find-requires : tie.Need-find-requires
+find-requires c κs = search needs
+
+enum-told : tie.Need-enum-told
+enum-told c = search needs
+
+enum-told-2 : tie.Need-enum-told-2
+enum-told-2 c = search needs
+
+returns-3 : tie.Need-returns-3
+returns-3 c =
+    let f = c .before .before in
+    let start = f .before .before .before .before .before .before in
+    fails (entered-found (start .pre) _ (found-none (c .enum-told2 .given .1) (f .find .ensures)))
+
+returns-4 : tie.Need-returns-4
+returns-4 c =
+    let f = c .before .before in
+    let tests = f .before in
+    let start = tests .before .before .before .before .before in
+    holds (found-entered (start .pre) _ _ (omega (arith, tests .before .before .if1 .left)) (T-not (sym (tests .before .is-system .ensures) ∙ tests .if2 .left)) (found-at (c .enum-told .given .1) (f .find .ensures)))
+
+pub name-entered-spec : {M : Type 1} → statement M
+name-entered-spec =
+    tie.close
+    (tie.spec
+    returns
+    is-system-requires
+    returns-2
+    find-requires
+    enum-told
+    enum-told-2
+    returns-3
+    returns-4)

@@ -1,0 +1,74 @@
+-- `soundness::sound` meets its contract: the answers of the steps are joined. Assumes nothing.
+use mathlib.Core.Path.{refl}
+use native.Mathlib.Omega.{arith}
+use borrow.Author.Needs.{needs}
+use Rattle.disc.proofs.DecideLaws.{fails, refutes, grants}
+use Rattle.kit.specs.Geometry.{SoundByKit}
+use Rattle.kit.proofs.KitLaws.{sound-unit}
+use Rattle.marks.proofs.MarkLaws.{mark-none}
+use Rattle.soundness.proofs.TopLaws.{unit-users, unit-kit, sys-known, unit-layers, decides-unit}
+use Rattle.soundness.proofs.sound.Statement.{statement}
+use Rattle.soundness.proofs.sound.Tie as tie
+
+kit : (c : tie.After-geometry-of) → SoundByKit (c .before .before .before .before .before .before .args .image .now)
+kit c = grants _ (c .before .before .kit-sound .ensures) (c .before .if2 .left)
+
+users-sound-requires : tie.Need-users-sound-requires
+users-sound-requires c κs = search needs
+
+returns : tie.Need-returns
+returns c = fails (λ u. refutes _ (c .before .users-sound .ensures .0) (c .if1 .taken) (unit-users u))
+
+kit-sound-requires : tie.Need-kit-sound-requires
+kit-sound-requires c κs = search needs
+
+returns-2 : tie.Need-returns-2
+returns-2 c = fails (λ u. refutes _ (c .before .kit-sound .ensures) (c .if2 .taken) (unit-kit u))
+
+geometry-of-requires : tie.Need-geometry-of-requires
+geometry-of-requires c κs = search needs
+
+mark-sys-requires : tie.Need-mark-sys-requires
+mark-sys-requires c κs = (sound-unit (c .before .geometry-of .ensures) (kit (c .before)), mark-none _ 4096 refl)
+
+returns-3 : tie.Need-returns-3
+returns-3 c =
+    let found = c .before in
+    fails (λ u. omega (arith, c .if3 .taken, unit-layers (found .before .before .geometry-of .ensures) (found .mark-sys .ensures) u .0 .some))
+
+layers-sound-requires : tie.Need-layers-sound-requires
+layers-sound-requires c κs =
+    let found = c .before .before in
+    let geometry = found .before .before in
+    let sys = found .mark-sys .ensures .known (c .before .if3 .left) in
+    sys-known (geometry .geometry-of .ensures) (kit geometry) (sys .0) (sys .1)
+
+returns-4 : tie.Need-returns-4
+returns-4 c =
+    let found = c .before .before .before in
+    let geometry = found .before .before in
+    let users = geometry .before .before .before in
+    decides-unit
+    (geometry .geometry-of .ensures)
+    _
+    (record { each = λ k. users .before .before .shared-slice-known .given k .fits })
+    (users .before .users-sound .ensures .1)
+    (grants _ (users .before .users-sound .ensures .0) (users .if1 .left))
+    (kit geometry)
+    (found .mark-sys .ensures)
+    (found .mark-sys .ensures .known (c .before .before .if3 .left) .0)
+    (c .layers-sound .ensures)
+
+pub sound-spec : {M : Type 1} → statement M
+sound-spec =
+    tie.close
+    (tie.spec
+    users-sound-requires
+    returns
+    kit-sound-requires
+    returns-2
+    geometry-of-requires
+    mark-sys-requires
+    returns-3
+    layers-sound-requires
+    returns-4)

@@ -1,0 +1,108 @@
+// Whether a unit is sound: the rules of document 01's section 'A sound unit', decided.
+
+ghost use mathlib.Core.List.{[]};
+ghost use Prim.Native.Nat.{_*_};
+ghost use Rattle.disc.specs.Decide.{Decides};
+ghost use Rattle.disc.specs.Names.{pack};
+ghost use Rattle.entries.specs.Sys.{placesIn};
+ghost use Rattle.alone.specs.Scan.{LegalSys};
+ghost use Rattle.sound.specs.Sound.{SoundUnit};
+ghost use Rattle.kit.specs.Geometry.{UnitOf};
+ghost use Rattle.marks.specs.Marked.{Marked};
+ghost use Rattle.files.specs.Walk.{SysKnown};
+ghost use Rattle.soundness.specs.Areas.{OrdinaryEntered, AreasEntered};
+ghost use Rattle.soundness.specs.Layers.{SysMarking, SoundLayers};
+use entries::Found;
+use kit::Geometry;
+use types::Name;
+use types::State;
+
+// Whether a name is entered in the first `blocks` sectors of SYS, and not SYS or MAP.
+fn name_entered(image: &[u16], g: Geometry, name: Name, blocks: u16) -> bool
+    requires { ⌜ LegalSys (now image) g blocks ⌝ }
+    ensures { λ r. ⌜ Decides r (OrdinaryEntered (placesIn (now (image .entry)) g) (16 * blocks) (pack (name .0) (name .1) (name .2))) ⌝ }
+{
+    if name.0 == 0 {
+        return false;
+    }
+    if names::is_system(name) {
+        return false;
+    }
+    let Found::At(_) = entries::find(image, g, name, blocks) else {
+        return false;
+    };
+    true
+}
+
+// Whether the names of all open area processes are.
+pub fn areas_entered(image: &[u16], g: Geometry, state: State, blocks: u16) -> bool
+    requires { ⌜ LegalSys (now image) g blocks ⌝ }
+    ensures { λ r. ⌜ Decides r (AreasEntered state (placesIn (now (image .entry)) g) (16 * blocks)) ⌝ }
+{
+    let mut j: usize = 0;
+    while j < 8 {
+        let area = state.areas[j];
+        if area.live && !name_entered(image, g, area.name, blocks) {
+            return false;
+        }
+        j += 1;
+    }
+    true
+}
+
+// Marks SYS's slices and finds the number of SYS's layers; 0 if its index or its slices are not those of a sound unit.
+fn mark_sys(image: &[u16], g: Geometry, marks: &mut [u8; 4096]) -> u16
+    requires { ⌜ UnitOf (now image) g × Marked (g .slices) (now marks) [] ⌝ }
+    ensures { λ r. ⌜ SysMarking (now (image .entry)) g (now (marks .exit)) r ⌝ }
+{
+    let sys = marks::mark_index(image, 6, g, marks);
+    if !sys.good {
+        return 0;
+    }
+    if sys.start != g.first {
+        return 0;
+    }
+    entries::find_layers(image, g)
+}
+
+// Whether names, areas, files and map are those of a sound unit whose SYS has so many layers.
+fn layers_sound(
+    image: &[u16],
+    state: State,
+    g: Geometry,
+    layers: u16,
+    marks: &mut [u8; 4096],
+) -> bool
+    requires { ⌜ SysKnown (now image) g (now marks) (g .keys * layers) ⌝ }
+    ensures { λ r. ⌜ Decides r (SoundLayers (now (image .entry)) state g layers) ⌝ }
+{
+    if !alone::names_sound(image, g, layers) {
+        return false;
+    }
+    if !areas_entered(image, g, state, g.keys * layers) {
+        return false;
+    }
+    if !files::files_sound(image, state, g, layers, marks) {
+        return false;
+    }
+    marks::map_agrees(image, marks, g)
+}
+
+// Whether image and state are a sound unit.
+pub fn sound(image: &[u16], state: State) -> bool
+    ensures { λ r. ⌜ Decides r (SoundUnit (now (image .entry)) state) ⌝ }
+{
+    if !users::users_sound(state) {
+        return false;
+    }
+    if !kit::kit_sound(image) {
+        return false;
+    }
+    let g = kit::geometry_of(image);
+    let mut marks: [u8; 4096] = [0; 4096];
+    let layers = mark_sys(image, g, &mut marks);
+    if layers == 0 {
+        return false;
+    }
+    layers_sound(image, state, g, layers, &mut marks)
+}
