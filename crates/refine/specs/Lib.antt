@@ -1,5 +1,6 @@
 pub mod Represents
 pub mod Writes
+pub mod OnDisc
 pub mod Format
 pub mod Claims
 pub mod Demands
