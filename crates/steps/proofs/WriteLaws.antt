@@ -1,9 +1,9 @@
 -- Laws of the writes that the messages share: what each stores, what it leaves, and that words stay words.
 use mathlib.Core.Path.{_≡_, refl, sym, ap, _∙_}
-use mathlib.Core.Bool.{Bool, true, false, _&&_}
-use mathlib.Core.List.{List, [], _∷_, _++_}
-use mathlib.Core.Logic.{_≢_}
-use mathlib.Core.Option.{some}
+use mathlib.Core.Bool.{Bool, true, false, not, _&&_}
+use mathlib.Core.List.{List, [], _∷_, _++_, append-nil}
+use mathlib.Core.Logic.{_≢_, ⊎-elim}
+use mathlib.Core.Option.{Option, some}
 use Prim.Native.Nat.{ℕ, zero, suc, _+_, _*_, _/_, _%_, _≤_, _<_}
 use native.Mathlib.Omega.{arith}
 use native.Mathlib.Nat.{mul-le-mul-left}
@@ -11,12 +11,12 @@ use lib.Dec.{T, leb, eqb, leb→le, eqb→eq}
 use lib.ListN.{length, replicate}
 use Rattle.disc.specs.Numbers.{bit}
 use Rattle.disc.specs.Words.{word, Words, Holds}
-use Rattle.disc.specs.Names.{SYS, letter, legalName}
+use Rattle.disc.specs.Names.{SYS, letter, legalName, isSystem, keyOf}
 use Rattle.disc.specs.Attributes.{wordIf, legalAttributes}
 use Rattle.disc.specs.Slices.{occurrences, oneIfNone, freeCount}
-use Rattle.disc.specs.Stretches.{sectorIn, indexWords, stretchCount}
+use Rattle.disc.specs.Stretches.{sectorIn, indexWords, stretchCount, sysFrom}
 use Rattle.disc.specs.Map.{MapOf}
-use Rattle.disc.specs.Entries.{entryWords, indexSector, sysEntry}
+use Rattle.disc.specs.Entries.{entryWords, indexSector, sysEntry, placeWord, placeCount, nameAt}
 use Rattle.disc.proofs.Compare.{same-or, below-or}
 use Rattle.disc.proofs.WordLaws.{words-none, words-cons, words-append, words-replicate}
 use Rattle.disc.proofs.SliceLaws.{inUnit-mono, sum-law}
@@ -29,16 +29,19 @@ use Rattle.map.proofs.CountLaws.{ones-free}
 use Rattle.map.proofs.MarkLaws.{InMap, in-map, words-all-marked}
 use Rattle.index.specs.Block.{wholeIndex}
 use Rattle.index.proofs.BlockLaws.{length-wholeIndex, words-wholeIndex, holds-stored}
-use Rattle.plain.specs.Table.{tableFind}
-use Rattle.plain.specs.Unit.{Plain, File, M, held, freeSectors, fileEntry, entry}
+use Rattle.plain.specs.Table.{Table, tableFind}
+use Rattle.plain.specs.Unit.{Plain, File, AreaUser, M, held, freeSectors, fileEntry, entry, withTables}
 use Rattle.plain.specs.Good.{Good}
 use Rattle.plain.proofs.QuestionLaws.{and-left, and-right}
-use Rattle.refine.specs.Represents.{Layout}
+use Rattle.plain.proofs.UnitLaws.{mapSome, entry-sys, entry-map, entry-other, not-system, system-cases}
+use Rattle.sound.specs.Places.{Unused}
+use Rattle.refine.specs.Represents.{PlaceOf, CatalogOf, Layout}
 use Rattle.refine.specs.OnDisc.{OnDisc}
-use Rattle.refine.specs.Writes.{setFree, countedFree, zeroedSectors, takenImage}
+use Rattle.refine.specs.Writes.{setFree, countedFree, storePlace, zeroedSectors, takenImage}
 use Rattle.refine.proofs.Sectors.{Same, same-refl, same-trans, sector-outside}
+use Rattle.refine.proofs.CatalogLaws.{Named, nameIn, name-zero}
 use Rattle.refine.proofs.Ground.{Ground, ground, positive, top, part-sys, part-file, file-data, first-in}
-use Rattle.refine.proofs.Writers.{write-free}
+use Rattle.refine.proofs.Writers.{write-free, write-entry}
 
 -- ---- the free word
 
@@ -133,6 +136,13 @@ module _ (image : List ℕ) (q F s : ℕ) (slices : List ℕ) where
   taken-holds [] few inside has = absurd (omega arith)
   taken-holds (k ∷ new) few inside has = holds-stored (allUsed image (k ∷ new)) q F s (slices ++ (k ∷ new)) few inside
 
+  -- the index of the longer list, where that of the list stood
+  pub taken-index : (new : List ℕ) → stretchCount (slices ++ new) ≤ 127 → q * 256 + 256 ≤ length (allUsed image new) → Holds (allUsed image new) q (indexWords F s slices)
+      → Holds (takenImage image q F s slices new) q (indexWords F s (slices ++ new))
+  unfolding takenImage
+  taken-index [] few inside h = rw (append-nil slices) (rw (marked-none 0 image) at h)
+  taken-index (k ∷ new) few inside h = holds-stored (allUsed image (k ∷ new)) q F s (slices ++ (k ∷ new)) few inside
+
   -- no slices taken: nothing is written
   pub taken-none : takenImage image q F s slices [] ≡ image
   unfolding takenImage
@@ -225,3 +235,33 @@ module _ (p : Plain) (g : Good p) where
       let few = part-sectors p gr (p .sys) (part-sys p gr) in
       words-entry SYS (replicate 3 0) 0x8010 (p .H * p .layers) 6 (p .s * length (p .sys)) (replicate 6 0)
       (omega arith) (words-replicate 3 0 (omega arith)) (omega arith) (omega (arith, gr .sysCover)) (omega arith) (omega arith) (words-replicate 6 0 (omega arith))
+
+-- ---- entries and places
+
+-- another table of files with the same file, or none, for a name
+pub entry-beside : (p : Plain) (files : Table File) (areas : Table (Table AreaUser)) (m : ℕ) → tableFind m files ≡ tableFind m (p .files)
+    → entry (withTables p (p .layers) (p .sys) files areas) m ≡ entry p m
+entry-beside p files areas m e =
+    let q : Plain = withTables p (p .layers) (p .sys) files areas in
+    system-cases m
+    (λ z. ap (entry q) z ∙ entry-sys q ∙ sym (entry-sys p) ∙ ap (entry p) (sym z))
+    (λ z. ap (entry q) z ∙ entry-map q ∙ sym (entry-map p) ∙ ap (entry p) (sym z))
+    (λ a b. entry-other q m a b ∙ ap (mapSome (fileEntry (p .F) (p .s) m)) e ∙ sym (entry-other p m a b))
+
+-- the entry of a file
+pub entry-of : (p : Plain) (n : ℕ) (f : File) → T (not (isSystem n)) → tableFind n (p .files) ≡ some f → entry p n ≡ some (fileEntry (p .F) (p .s) n f)
+entry-of p n f t h = let d = not-system n t in entry-other p n (d .0) (d .1) ∙ ap (mapSome (fileEntry (p .F) (p .s) n)) h
+
+-- a place where a name stands is in a sector of its key
+place-key : {P : ℕ → ℕ → ℕ} {N H : ℕ} {E : ℕ → Option (List ℕ)} → CatalogOf P N H E → (t n : ℕ) → t < N → nameAt P t ≡ n → n ≢ 0 → t / 16 % H ≡ keyOf H n
+place-key {P} {N} {H} {E} c t n x e nz =
+    ⊎-elim (λ (z : Unused P t). absurd (nz (sym e ∙ name-zero P t z))) (λ (u : PlaceOf P H E t). u .key ∙ ap (keyOf H) e) (c .each t x)
+
+-- another entry of a name in its own place
+pub write-own : {i : List ℕ} {p : Plain} {v : ℕ} {h : List ℕ} {E : ℕ → Option (List ℕ)} → Ground p → Layout i p v h E → Named E → (D : ℕ → Option (List ℕ)) (n : ℕ) (e : List ℕ)
+    → length e ≡ 16 → ((m : ℕ) → m ≢ n → D m ≡ E m) → D n ≡ some e → nameIn e ≡ n → n ≢ 0
+    → (t : ℕ) → t < placeCount (p .H) (p .layers) → nameAt (placeWord i (p .F) (p .s) (p .sys) sysFrom) t ≡ n
+    → Layout (storePlace p i t e) p v h D
+write-own g r nm D n e len other new named nz t x was =
+    write-entry g r t x e len D n nm other new named nz (place-key (r .catalog) t n x was nz)
+    (λ u y q. r .catalog .alone u t y x (q ∙ sym was) (λ z. nz (sym q ∙ z))) (λ d. absurd (d was))
