@@ -15,7 +15,8 @@ use Rattle.disc.specs.Names.{SYS, letter, legalName, isSystem, keyOf}
 use Rattle.disc.specs.Attributes.{wordIf, legalAttributes}
 use Rattle.disc.specs.Slices.{occurrences, oneIfNone, freeCount}
 use Rattle.disc.specs.Stretches.{sectorIn, indexWords, stretchCount, sysFrom}
-use Rattle.disc.specs.Map.{MapOf}
+use Rattle.disc.specs.Kit.{kitSector}
+use Rattle.disc.specs.Map.{onesInMap, MapOf}
 use Rattle.disc.specs.Entries.{entryWords, indexSector, sysEntry, placeWord, placeCount, nameAt}
 use Rattle.disc.proofs.Compare.{same-or, below-or}
 use Rattle.disc.proofs.WordLaws.{words-none, words-cons, words-append, words-replicate}
@@ -38,7 +39,7 @@ use Rattle.sound.specs.Places.{Unused}
 use Rattle.refine.specs.Represents.{PlaceOf, CatalogOf, Layout}
 use Rattle.refine.specs.OnDisc.{OnDisc}
 use Rattle.refine.specs.Writes.{setFree, countedFree, storePlace, zeroedSectors, takenImage}
-use Rattle.refine.proofs.Sectors.{Same, same-refl, same-trans, sector-outside}
+use Rattle.refine.proofs.Sectors.{Same, same-refl, same-trans, store-outside, sector-outside}
 use Rattle.refine.proofs.CatalogLaws.{Named, nameIn, name-zero}
 use Rattle.refine.proofs.Ground.{Ground, ground, positive, top, part-sys, part-file, file-data, first-in}
 use Rattle.refine.proofs.Writers.{write-free, write-entry}
@@ -68,6 +69,10 @@ counted-on {i} {p} g w r =
       words = rw e (words-store i (8 * 256 + 3) (freeSectors p ∷ []) w (words-cons (freeSectors p) [] small words-none));
       layout = rw e (write-free (ground p g) r (freeSectors p));
     }
+
+pub counted-keep : (image : List ℕ) (s q : ℕ) → q ≢ kitSector → Same image (countedFree image s) q
+unfolding countedFree
+counted-keep image s q d = store-outside image (s * onesInMap image ∷ []) kitSector 3 (omega arith) .same q (d, tt)
 
 -- ---- zeroed sectors
 
