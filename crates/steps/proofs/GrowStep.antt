@@ -114,7 +114,7 @@ module _ {i : List ℕ} {p : Plain} (o : OnDisc i p) (room : ceilDiv (p .H * suc
   zeroed-off q off = zeroed-keep i₂ (p .F) (p .s) all (p .H * p .layers + sysFrom) (p .H) q (λ x lo hi. off x (omega arith) (omega arith))
 
   keep₃ : (q : ℕ) → q ≢ 6 → ((b : ℕ) → p .H * p .layers ≤ b → b < p .H * suc (p .layers) → q ≢ sectorIn (p .F) (p .s) all b) → Same i₁ i₃ q
-  keep₃ q d off = same-trans (taken-keep i sysIndexSector (p .F) (p .s) (p .sys) new few q d) (zeroed-off q off)
+  keep₃ q d off = same-trans (taken-keep i sysIndexSector (p .F) (p .s) (p .sys) new few q (λ x. d)) (zeroed-off q off)
 
   six₃ : Holds i₃ 6 (indexWords (p .F) (p .s) all)
   six₃ =

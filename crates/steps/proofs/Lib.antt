@@ -2,3 +2,5 @@ pub mod Whole
 pub mod WriteLaws
 pub mod RemoveStep
 pub mod GrowStep
+pub mod PlaceLaws
+pub mod CreateStep

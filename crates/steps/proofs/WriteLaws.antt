@@ -129,11 +129,11 @@ module _ (image : List ℕ) (q F s : ℕ) (slices : List ℕ) where
   taken-size (k ∷ new) = length-store (allUsed image (k ∷ new)) (q * 256) (wholeIndex F s (slices ++ (k ∷ new)))
 
   -- the index block's sector alone changes beside the map
-  pub taken-keep : (new : List ℕ) → stretchCount (slices ++ new) ≤ 127 → (r : ℕ) → r ≢ q → Same (allUsed image new) (takenImage image q F s slices new) r
+  pub taken-keep : (new : List ℕ) → stretchCount (slices ++ new) ≤ 127 → (r : ℕ) → (0 < length new → r ≢ q) → Same (allUsed image new) (takenImage image q F s slices new) r
   unfolding takenImage
   taken-keep [] few r d = rw (marked-none 0 image) (same-refl image r)
   taken-keep (k ∷ new) few r d =
-      sector-outside (allUsed image (k ∷ new)) (wholeIndex F s (slices ++ (k ∷ new))) q (omega (arith, length-wholeIndex F s (slices ++ (k ∷ new)) few)) .same r (d, tt)
+      sector-outside (allUsed image (k ∷ new)) (wholeIndex F s (slices ++ (k ∷ new))) q (omega (arith, length-wholeIndex F s (slices ++ (k ∷ new)) few)) .same r (d (omega arith), tt)
 
   pub taken-holds : (new : List ℕ) → stretchCount (slices ++ new) ≤ 127 → q * 256 + 256 ≤ length (allUsed image new) → 0 < length new
       → Holds (takenImage image q F s slices new) q (indexWords F s (slices ++ new))
