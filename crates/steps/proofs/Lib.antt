@@ -1,0 +1,6 @@
+pub mod Whole
+pub mod WriteLaws
+pub mod RemoveStep
+pub mod GrowStep
+pub mod PlaceLaws
+pub mod CreateStep

@@ -1,0 +1,83 @@
+-- Remove: the place of the name is emptied, its slices are marked free, the free word is counted.
+use mathlib.Core.Path.{_≡_, sym, ap, _∙_}
+use mathlib.Core.List.{List}
+use mathlib.Core.Logic.{_≢_}
+use mathlib.Core.Option.{none, some}
+use Prim.Native.Nat.{ℕ, _+_, _<_}
+use native.Mathlib.Omega.{arith}
+use Rattle.disc.specs.Words.{Words}
+use Rattle.disc.specs.Slices.{occurrences}
+use Rattle.disc.specs.Stretches.{sysFrom}
+use Rattle.disc.specs.Entries.{placeWord, placeCount, nameAt}
+use Rattle.words.specs.Store.{zeroWords}
+use Rattle.words.proofs.StoreLaws.{words-store, words-zeroWords}
+use Rattle.plain.specs.Table.{tableFind, tableRemove}
+use Rattle.plain.specs.Unit.{Plain, File, held, entry, withFiles, fileEntry}
+use Rattle.plain.specs.Good.{Good}
+use Rattle.plain.proofs.TableLaws.{some≢none, weightAt, find-remove, find-remove-other, sorted-remove, total-remove, remove-some}
+use Rattle.plain.proofs.UnitLaws.{legal-positive, holds, occurrences-held, entry-other, not-system, mapSome}
+use Rattle.plain.proofs.TakingLaws.{places-remove}
+use Rattle.plain.proofs.KeepsAreas.{area-beside}
+use Rattle.refine.specs.OnDisc.{OnDisc}
+use Rattle.refine.specs.Writes.{emptyPlace, removedImage}
+use Rattle.refine.proofs.Ground.{Ground, ground, entry-named, part-file}
+use Rattle.refine.proofs.Writers.{long, write-zero, write-freed, forget-file}
+use Rattle.steps.proofs.WriteLaws.{counted-on, words-used, entry-beside}
+
+pub removed-good : (p : Plain) (n : ℕ) → Good p → tableFind n (p .areas) ≡ none → Good (withFiles p (tableRemove n (p .files)))
+removed-good p n g e = record {
+  limits = g .limits;
+  layered = g .layered;
+  sysCount = g .sysCount;
+  sysFirst = g .sysFirst;
+  sysFew = g .sysFew;
+  names = sorted-remove 0 n (p .files) (g .names);
+  chains = λ k. omega (arith, g .chains k, places-remove (p .H) k n (p .files));
+  files = λ k f h. g .files k f (remove-some k n 0 (p .files) f (g .names) h .1);
+  once = λ k.
+      omega (arith, g .once k, occurrences-held k (p .sys) (p .files), occurrences-held k (p .sys) (tableRemove n (p .files)), total-remove (holds k) n (p .files));
+  areaNames = g .areaNames;
+  eight = g .eight;
+  areas = λ k users h.
+      let d : k ≢ n = λ q. (let h₂ : tableFind n (p .areas) ≡ some users = rw q at h in some≢none (sym h₂ ∙ e)) in
+      let a = g .areas k users h in
+      area-beside a (a .file) (find-remove-other k n 0 (p .files) (g .names) d ∙ a .entered) (omega arith);
+}
+
+module _ {i : List ℕ} {p : Plain} (o : OnDisc i p) (n : ℕ) (f : File) (found : tableFind n (p .files) ≡ some f) (shut : tableFind n (p .areas) ≡ none)
+    (t : ℕ) (in₀ : t < placeCount (p .H) (p .layers)) (was : nameAt (placeWord i (p .F) (p .s) (p .sys) sysFrom) t ≡ n) where
+  abbrev left : Plain
+  left = withFiles p (tableRemove n (p .files))
+
+  gr : Ground p
+  gr = ground p (o .good)
+
+  good : Good left
+  good = removed-good p n (o .good) shut
+
+  stay : (m : ℕ) → m ≢ n → entry left m ≡ entry p m
+  stay m d = entry-beside p (tableRemove n (p .files)) (p .areas) m (find-remove-other m n 0 (p .files) (o .good .names) d)
+
+  gone : entry left n ≡ none
+  gone =
+      let d = not-system n (o .good .files n f found .ordinary) in
+      entry-other left n (d .0) (d .1) ∙ ap (mapSome (fileEntry (p .F) (p .s) n)) (find-remove n 0 (p .files) (o .good .names))
+
+  given : (x : ℕ) → occurrences x (held left) + occurrences x (f .slices) ≡ occurrences x (held p)
+  given x =
+      omega (
+        arith,
+        occurrences-held x (p .sys) (p .files),
+        occurrences-held x (p .sys) (tableRemove n (p .files)),
+        total-remove (holds x) n (p .files),
+        ap (weightAt (holds x) n) found,
+      )
+
+  pub remove-on : OnDisc (removedImage p i t f) left
+  unfolding removedImage
+  remove-on =
+      let nz : n ≢ 0 = λ e. (let q = legal-positive n (o .good .files n f found .name) in omega arith) in
+      let r₁ = write-zero gr (o .layout) t in₀ (entry left) n (entry-named p (o .good .names)) stay gone was nz in
+      let r₂ = write-freed gr r₁ (f .slices) (held left) (o .good .once) given in
+      let w₁ : Words (emptyPlace p i t) = words-store i _ (zeroWords 16) (o .words) (words-zeroWords 16) in
+      counted-on good (words-used p gr 1 (omega arith) (f .slices) (emptyPlace p i t) (part-file p gr n f found) (long gr r₁) w₁) (forget-file gr r₂ n)
