@@ -8,14 +8,16 @@ use Prim.Native.Nat.{ℕ, zero, suc, _+_, _*_, _-_, _/_, _%_, _≤_, _<_}
 use native.Mathlib.Omega.{arith}
 use native.Mathlib.Nat.{mul-le-mul-right, div-mul-le-self, div-add-mod'}
 use lib.ListN.{length, getD, length-append}
+use lib.Dec.{T}
 use Rattle.disc.specs.Numbers.{need, ceilDiv, sliceCount}
-use Rattle.disc.specs.Names.{SYS, MAP, pack, nameWords}
+use Rattle.disc.specs.Names.{SYS, MAP, pack, nameWords, legalName}
 use Rattle.disc.specs.Slices.{occurrences, InRangeOnce}
 use Rattle.disc.specs.Stretches.{sectorIn, sysFrom}
 use Rattle.disc.specs.Kit.{Limits}
 use Rattle.disc.specs.Entries.{placeCount, sysEntry, mapEntry, indexSector}
 use Rattle.disc.proofs.SliceLaws.{occurrences-append}
 use Rattle.disc.proofs.Geometry.{quot, in-range, data-sector, apart, within, need-cover, ceil-cover}
+use Rattle.disc.proofs.EntryLaws.{length-entry}
 use Rattle.plain.specs.Table.{Table, tableFind, SortedFrom, Every}
 use Rattle.plain.specs.Unit.{Plain, File, M, held, slicesOf, fileEntry, entry}
 use Rattle.plain.specs.Good.{Good, GoodFile}
@@ -56,6 +58,28 @@ entry-named p sorted = record {
     file : (n : ℕ) (e : List ℕ) (o : Option File) → mapSome (fileEntry (p .F) (p .s) n) o ≡ some e → nameIn e ≡ n
     file n e none h = absurd (some≢none (sym h))
     file n e (some f) h = ap nameIn (sym (some-inj h)) ∙ name-back n
+
+-- every name with an entry is legal, and every entry has 16 words
+module _ (p : Plain) (g : Good p) (n : ℕ) (e : List ℕ) (entered : entry p n ≡ some e) where
+  pub entry-legal : T (legalName n)
+  entry-legal = system-cases n (λ q. rw q tt) (λ q. rw q tt) (λ a b. go (tableFind n (p .files)) refl (sym (entry-other p n a b) ∙ entered))
+    where
+      go : (o : Option File) → tableFind n (p .files) ≡ o → mapSome (fileEntry (p .F) (p .s) n) o ≡ some e → T (legalName n)
+      go none q z = absurd (some≢none (sym z))
+      go (some f) q z = g .files n f q .name
+
+  pub entry-length : length e ≡ 16
+  entry-length = system-cases n
+      (λ q. ap length (some-inj (sym entered ∙ ap (entry p) q ∙ entry-sys p)))
+      (λ q. ap length (some-inj (sym entered ∙ ap (entry p) q ∙ entry-map p)))
+      (λ a b. go (tableFind n (p .files)) refl (sym (entry-other p n a b) ∙ entered))
+    where
+      go : (o : Option File) → tableFind n (p .files) ≡ o → mapSome (fileEntry (p .F) (p .s) n) o ≡ some e → length e ≡ 16
+      go none q z = absurd (some≢none (sym z))
+      go (some f) q z =
+          let fg = g .files n f q in
+          ap length (sym (some-inj z))
+          ∙ length-entry n (f .optional) (f .attributes) (f .booked) (indexSector (p .F) (p .s) (f .bookedSlices) (f .slices)) (p .s * f .bookedSlices) (f .tail) (fg .optional .count) (fg .tail .count)
 
 -- ---- the sectors of a unit's lists
 

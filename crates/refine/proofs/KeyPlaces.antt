@@ -43,16 +43,16 @@ sum-regroup a (suc b) f = rw (let e : a * suc b ≡ a * b + a = omega arith in e
 
 -- ---- a sum and one of its terms
 
-abbrev butBy : Ordering → ℕ → ℕ
+abbrev pub butBy : Ordering → ℕ → ℕ
 butBy Ordering·lt x = x
 butBy Ordering·eq x = 0
 butBy Ordering·gt x = x
 
 -- the terms with that at i left out
-abbrev but : ℕ → (ℕ → ℕ) → ℕ → ℕ
+abbrev pub but : ℕ → (ℕ → ℕ) → ℕ → ℕ
 but i f t = butBy (compare t i) (f t)
 
-but-other : (i : ℕ) (f : ℕ → ℕ) (t : ℕ) → t ≢ i → but i f t ≡ f t
+pub but-other : (i : ℕ) (f : ℕ → ℕ) (t : ℕ) → t ≢ i → but i f t ≡ f t
 but-other i f t d = go (compare t i) (tri t i)
   where
     go : (o : Ordering) → Tri t i o → butBy o (f t) ≡ f t
@@ -60,7 +60,7 @@ but-other i f t d = go (compare t i) (tri t i)
     go o (same e) = absurd (d e)
     go o (more h) = refl
 
-sum-but : (n i : ℕ) (f : ℕ → ℕ) → i < n → sumBelow n f ≡ sumBelow n (but i f) + f i
+pub sum-but : (n i : ℕ) (f : ℕ → ℕ) → i < n → sumBelow n f ≡ sumBelow n (but i f) + f i
 unfolding sumBelow
 sum-but zero i f h = absurd (omega arith)
 sum-but (suc n) i f h = same-or n i at (λ d. past d (sum-but n i f (omega arith)))
@@ -116,7 +116,7 @@ sum-some (suc n) f h = below-or (f n) 1
 abbrev pub isKey : ℕ → ℕ → ℕ
 isKey k x = oneIfSame (compare x k)
 
-is-most : (k x : ℕ) → isKey k x ≤ 1
+pub is-most : (k x : ℕ) → isKey k x ≤ 1
 is-most k x = go (compare x k)
   where
     go : (o : Ordering) → oneIfSame o ≤ 1
@@ -124,7 +124,7 @@ is-most k x = go (compare x k)
     go Ordering·eq = omega arith
     go Ordering·gt = omega arith
 
-is-same : (k x : ℕ) → 1 ≤ isKey k x → x ≡ k
+pub is-same : (k x : ℕ) → 1 ≤ isKey k x → x ≡ k
 is-same k x h = go (compare x k) (tri x k) h
   where
     go : (o : Ordering) → Tri x k o → 1 ≤ oneIfSame o → x ≡ k
@@ -156,4 +156,37 @@ places-of H L k =
           omega (arith, ap (λ (n : ℕ). isKey k (n % H)) (let e : (16 * q + j) / 16 ≡ q = omega arith in e)))),
       sum-times (H * L) 16 (λ q. isKey k (q % H)),
       sectors-of H L k,
+    )
+
+-- n terms of at least c each
+sum-least : (n c : ℕ) (f : ℕ → ℕ) → ((t : ℕ) → t < n → c ≤ f t) → n * c ≤ sumBelow n f
+unfolding sumBelow
+sum-least zero c f h = omega arith
+sum-least (suc n) c f h = omega (arith, sum-least n c f (λ t x. h t (omega arith)), h n (omega arith))
+
+-- every layer has a sector of the key, and sixteen places in it
+sectors-least : (H L k : ℕ) → k < H → L ≤ sumBelow (H * L) (λ q. isKey k (q % H))
+sectors-least H L k low =
+    omega (
+      arith,
+      sum-regroup H L (λ q. isKey k (q % H)),
+      sum-least L 1 (λ l. sumBelow H (λ j. isKey k ((H * l + j) % H))) (λ l x.
+          omega (
+            arith,
+            sum-but H k (λ j. isKey k ((H * l + j) % H)) low,
+            ap (isKey k) (mul-add-mod-self-left H l k ∙ mod-eq-of-lt low),
+            ap oneIfSame (tri-same k),
+          )),
+    )
+
+pub places-least : (H L k : ℕ) → k < H → 16 * L ≤ sumBelow (placeCount H L) (λ t. isKey k (t / 16 % H))
+places-least H L k low =
+    omega (
+      arith,
+      sum-regroup 16 (H * L) (λ t. isKey k (t / 16 % H)),
+      sum-le (H * L) (λ q. 16 * isKey k (q % H)) (λ q. sumBelow 16 (λ j. isKey k ((16 * q + j) / 16 % H))) (λ q x.
+          sum-least 16 (isKey k (q % H)) (λ j. isKey k ((16 * q + j) / 16 % H)) (λ j y.
+          omega (arith, ap (λ (n : ℕ). isKey k (n % H)) (let e : (16 * q + j) / 16 ≡ q = omega arith in e)))),
+      sum-times (H * L) 16 (λ q. isKey k (q % H)),
+      sectors-least H L k low,
     )

@@ -2,6 +2,7 @@ pub mod CatalogLaws
 pub mod Ground
 pub mod Unique
 pub mod UnitFiles
+pub mod PlaceFiles
 pub mod UnitSlices
 pub mod UnitSound
 pub mod Sectors

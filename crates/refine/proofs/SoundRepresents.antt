@@ -12,7 +12,8 @@ use Rattle.sound.specs.Sound.{SoundWith, SoundUnit}
 use Rattle.refine.specs.Represents.{Represents}
 use Rattle.refine.specs.Claims.{SoundRepresents}
 use Rattle.refine.proofs.Unique.{represents-unique}
-use Rattle.refine.proofs.UnitSound.{kit-ones, sys-read, sys-index, sys-entered, map-entered, sound-entries, sound-once, sound-map}
+use Rattle.refine.proofs.UnitFiles.{sys-read, sys-index}
+use Rattle.refine.proofs.UnitSound.{kit-ones, sys-entered, map-entered, sound-entries, sound-once, sound-map}
 use Rattle.refine.proofs.UnitAreas.{sound-areas}
 use Rattle.refine.proofs.Read.{sound-reads}
 
@@ -30,7 +31,7 @@ module _ {image : List ℕ} {state : State} {p : Plain} (g : Good p) (r : Repres
     sysEntered = sys-entered g r;
     mapEntered = map-entered g r;
     mapIndex = r .layout .mapIndex;
-    sysIndex = sys-index g r;
+    sysIndex = sys-index image p g (r .layout .sysIndex);
     sysCount = g .sysCount;
     sysFirst = g .sysFirst;
     entries = sound-entries g r;
@@ -43,7 +44,7 @@ module _ {image : List ℕ} {state : State} {p : Plain} (g : Good p) (r : Repres
   pub represents-sound : SoundUnit image state
   represents-sound =
       let kit = r .layout .kit in
-      let with-sys = subst (SoundWith image state (p .H) (p .s) (p .F) (p .N)) (sym (sys-read g r)) with-unit in
+      let with-sys = subst (SoundWith image state (p .H) (p .s) (p .F) (p .N)) (sym (sys-read image p g (r .layout .sysIndex))) with-unit in
       record { rules = rw (kit .keys, kit .slice, kit .first, kit .sectors) with-sys }
 
 pub sound-represents : SoundRepresents

@@ -18,7 +18,7 @@ use Rattle.disc.specs.Stretches.{sectorIn, sysFrom}
 use Rattle.disc.specs.Entries.{placeWord, placeCount, nameAt, entryWords, indexSector, sysEntry, mapEntry}
 use Rattle.disc.proofs.Compare.{below-or}
 use Rattle.disc.proofs.IndexUnique.{index-unique}
-use Rattle.disc.proofs.EntryLaws.{length-entry, sector-first, index-zero, index-none, no-slices}
+use Rattle.disc.proofs.EntryLaws.{sector-first, index-zero, index-none, no-slices}
 use Rattle.plain.specs.Table.{Table, tableFind}
 use Rattle.plain.specs.Unit.{Plain, File, AreaUser, M, held, fileEntry, entry, freeSectors, withTables, withFiles}
 use Rattle.plain.specs.Good.{Good, GoodFile}
@@ -28,7 +28,7 @@ use Rattle.sound.specs.Places.{Unused}
 use Rattle.sound.specs.State.{openArea}
 use Rattle.refine.specs.Represents.{PlaceOf, FileOnImage, Layout, LiveArea, areaOfState, areaOfUnit, SameAreas, Represents}
 use Rattle.refine.proofs.CatalogLaws.{At, at, Named, nameIn, name-zero, no-zero}
-use Rattle.refine.proofs.Ground.{Ground, ground, entry-named, positive, sys-slices, file-slices}
+use Rattle.refine.proofs.Ground.{Ground, ground, entry-named, entry-length, positive, sys-slices, file-slices}
 
 -- ---- entries
 
@@ -75,20 +75,6 @@ module _ {image : List ℕ} {p : Plain} (a : Is image p) where
 
   nm : Named (entry p)
   nm = entry-named p (a .good .names)
-
-  -- every entry has 16 words
-  entry-length : (n : ℕ) (e : List ℕ) → entry p n ≡ some e → length e ≡ 16
-  entry-length n e h = system-cases n
-      (λ q. ap length (some-inj (sym h ∙ ap (entry p) q ∙ entry-sys p)))
-      (λ q. ap length (some-inj (sym h ∙ ap (entry p) q ∙ entry-map p)))
-      (λ x y. go (tableFind n (p .files)) refl (sym (entry-other p n x y) ∙ h))
-    where
-      go : (o : Option File) → tableFind n (p .files) ≡ o → mapSome (fileEntry (p .F) (p .s) n) o ≡ some e → length e ≡ 16
-      go none q z = absurd (some≢none (sym z))
-      go (some f) q z =
-          let fg = a .good .files n f q in
-          ap length (sym (some-inj z))
-          ∙ length-entry n (f .optional) (f .attributes) (f .booked) (indexSector (p .F) (p .s) (f .bookedSlices) (f .slices)) (p .s * f .bookedSlices) (f .tail) (fg .optional .count) (fg .tail .count)
 
 -- SYS's slices
 module _ (image : List ℕ) (p : Plain) (L : ℕ) (y : List ℕ) (fs : Table File) (a : Is image p) (b : Is image (withTables p L y fs (p .areas))) where
@@ -137,8 +123,8 @@ module _ (image : List ℕ) (p : Plain) (fs : Table File) (a : Is image p) (b : 
       absurd (no-zero (a .layout .catalog) (nm a) n e h (sym (w .name) ∙ name-zero (placeWord image (p .F) (p .s) (p .sys) sysFrom) (w .place) z)))
       (λ (u : PlaceOf (placeWord image (p .F) (p .s) (p .sys) sysFrom) (p .H) (entry (withFiles p fs)) (w .place)).
       let k : entry (withFiles p fs) n ≡ some (u .words) = ap (entry (withFiles p fs)) (sym (w .name)) ∙ u .entered in
-      let la : length e ≡ 16 = entry-length a n e h in
-      let lb : length (u .words) ≡ 16 = entry-length b n (u .words) k in
+      let la : length e ≡ 16 = entry-length p (a .good) n e h in
+      let lb : length (u .words) ≡ 16 = entry-length (withFiles p fs) (b .good) n (u .words) k in
       let s : u .words ≡ e = ext-getD 0 (u .words) e (lb ∙ sym la) (λ j x. sym (u .holds j (omega arith)) ∙ w .holds j (omega arith)) in
       k ∙ ap some s)
       (b .layout .catalog .each (w .place) (w .inside))

@@ -16,6 +16,7 @@ use Rattle.disc.specs.Words.{word, Holds}
 use Rattle.disc.specs.Names.{SYS, MAP, isSystem, legalName}
 use Rattle.disc.specs.Slices.{occurrences, firstOf}
 use Rattle.disc.specs.Stretches.{sectorIn, indexWords, stretchCount, slicesAt, sysFrom}
+use Rattle.disc.specs.Kit.{sysIndexSector}
 use Rattle.disc.specs.Entries.{placeWord, placeCount, nameAt, indexSector}
 use Rattle.disc.proofs.Compare.{same-or, below-or}
 use Rattle.disc.proofs.SliceLaws.{sum-law}
@@ -32,7 +33,7 @@ use Rattle.sound.specs.Places.{Unused, Used, IndexBlock, OwnIndex, slicesFrom, 
 use Rattle.sound.specs.State.{openArea, liveIndex, liveLength}
 use Rattle.sound.specs.Sound.{indexOf, lengthOf, slicesOf, SoundFile, sysPlaces}
 use Rattle.refine.specs.Represents.{PlaceOf, FileOnImage, LiveArea, areaOfState, areaOfUnit, Represents}
-use Rattle.refine.proofs.Ground.{Ground, ground, positive, top, first-in, file-slices, part-file}
+use Rattle.refine.proofs.Ground.{Ground, ground, positive, sys-slices, file-slices}
 
 -- ---- one file's index block
 
@@ -43,6 +44,21 @@ index-block image F s q l pos above has few h =
     let read : slicesAt image F s q ≡ l = slices-read image F s q pos l above few h in
     let count : word image q 0 ≡ stretchCount l = h .at 0 (omega arith) (omega arith) in
     record { some = rw count (count-some l has); few = rw count few; pairs = rw read h }
+
+-- sector 6 describes SYS's slices
+module _ (image : List ℕ) (p : Plain) (g : Good p) (h : Holds image sysIndexSector (indexWords (p .F) (p .s) (p .sys))) where
+  sys-some : 0 < length (p .sys)
+  sys-some = go (p .sys) (g .sysFirst)
+    where
+      go : (l : List ℕ) → firstOf l ≡ 1 → 0 < length l
+      go [] e = absurd (omega arith)
+      go (x ∷ l) e = omega arith
+
+  pub sys-read : slicesAt image (p .F) (p .s) sysIndexSector ≡ p .sys
+  sys-read = slices-read image (p .F) (p .s) sysIndexSector (positive p (ground p g)) (p .sys) (sys-slices p (ground p g)) (g .sysFew) h
+
+  pub sys-index : IndexBlock image (p .F) (p .s) sysIndexSector
+  sys-index = index-block image (p .F) (p .s) sysIndexSector (p .sys) (positive p (ground p g)) (sys-slices p (ground p g)) sys-some (g .sysFew) h
 
 -- the slices read from a file's index sector are its own
 pub slices-from : (image : List ℕ) (F s : ℕ) (f : File) → 10 ≤ F → 0 < s → ((j : ℕ) → j < length (f .slices) → 1 ≤ getD (f .slices) j 0) → stretchCount (f .slices) ≤ 127

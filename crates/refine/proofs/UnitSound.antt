@@ -1,36 +1,27 @@
 -- What a good plain unit is represented by is sound: the image's part.
-use mathlib.Core.Path.{_≡_, refl, sym, ap, _∙_}
-use mathlib.Core.Bool.{Bool, not}
-use mathlib.Core.List.{List, [], _∷_, _++_}
-use mathlib.Core.Logic.{_≢_, _⊎_, inl, inr, ⊎-elim}
-use mathlib.Core.Option.{Option, none, some}
-use Prim.Native.Nat.{ℕ, zero, suc, _+_, _*_, _-_, _/_, _%_, _≤_, _<_}
+use mathlib.Core.Path.{_≡_, refl}
+use mathlib.Core.List.{List}
+use mathlib.Core.Logic.{⊎-elim}
+use mathlib.Core.Option.{some}
+use Prim.Native.Nat.{ℕ, _*_, _<_}
 use native.Mathlib.Omega.{arith}
-use lib.ListN.{length, getD}
-use lib.Dec.{T, not-T, T-not}
 use Rattle.types.specs.declared.State.{State}
-use Rattle.disc.specs.Numbers.{ceilDiv, sliceCount}
-use Rattle.disc.specs.Words.{word, Holds}
-use Rattle.disc.specs.Names.{SYS, MAP, isSystem, legalName, keyOf}
-use Rattle.disc.specs.Slices.{occurrences, InRangeOnce}
-use Rattle.disc.specs.Stretches.{slicesAt}
-use Rattle.disc.specs.Kit.{Kit, sysIndexSector}
-use Rattle.disc.specs.Map.{mapBit, onesInMap}
+use Rattle.disc.specs.Names.{SYS, MAP}
+use Rattle.disc.specs.Slices.{InRangeOnce}
+use Rattle.disc.specs.Kit.{Kit}
+use Rattle.disc.specs.Map.{onesInMap}
 use Rattle.disc.specs.Entries.{nameAt, sysEntry, mapEntry}
 use Rattle.disc.proofs.SliceLaws.{inUnit-in, inUnit-no}
-use Rattle.disc.proofs.IndexRead.{slices-read}
 use Rattle.map.proofs.CountLaws.{ones-free}
-use Rattle.plain.specs.Table.{Table, tableFind}
-use Rattle.plain.specs.Unit.{Plain, File, M, held, fileEntry, entry}
+use Rattle.plain.specs.Unit.{Plain, M, held, entry}
 use Rattle.plain.specs.Good.{Good}
-use Rattle.plain.proofs.TableLaws.{some≢none}
-use Rattle.plain.proofs.UnitLaws.{mapSome, entry-sys, entry-map, entry-other, system-cases, legal-positive}
-use Rattle.sound.specs.Places.{Unused, Used, Entered, LegalPlace, IndexBlock}
-use Rattle.sound.specs.Sound.{SoundEntries, SoundMap, SoundFile, allSlices}
+use Rattle.plain.proofs.UnitLaws.{entry-sys, entry-map, legal-positive}
+use Rattle.sound.specs.Places.{Unused, Used, Entered, LegalPlace}
+use Rattle.sound.specs.Sound.{SoundEntries, SoundMap, allSlices}
 use Rattle.refine.specs.Represents.{PlaceOf, Represents}
-use Rattle.refine.proofs.CatalogLaws.{At, at, Named}
-use Rattle.refine.proofs.Ground.{Ground, ground, entry-named, positive, sys-slices}
-use Rattle.refine.proofs.UnitFiles.{P, count, file-at, sound-file, index-block}
+use Rattle.refine.proofs.CatalogLaws.{at, Named}
+use Rattle.refine.proofs.Ground.{entry-named, entry-legal}
+use Rattle.refine.proofs.UnitFiles.{P, count, file-at, sound-file}
 use Rattle.refine.proofs.UnitSlices.{all-held}
 
 module _ {image : List ℕ} {state : State} {p : Plain} (g : Good p) (r : Represents image state p) where
@@ -39,9 +30,6 @@ module _ {image : List ℕ} {state : State} {p : Plain} (g : Good p) (r : Repres
 
   abbrev N : ℕ
   N = count g r
-
-  gr : Ground p
-  gr = ground p g
 
   nm : Named (entry p)
   nm = entry-named p (g .names)
@@ -54,20 +42,6 @@ module _ {image : List ℕ} {state : State} {p : Plain} (g : Good p) (r : Repres
       let ones : onesInMap image ≡ Rattle.plain.specs.Unit.freeSlices p = ones-free (M p) (held p) image (g .limits .slices-high) (r .layout .map) (r .words) in
       rw ones (r .layout .kit)
 
-  sys-some : 0 < length (p .sys)
-  sys-some = go (p .sys) (g .sysFirst)
-    where
-      go : (l : List ℕ) → Rattle.disc.specs.Slices.firstOf l ≡ 1 → 0 < length l
-      go [] e = absurd (omega arith)
-      go (x ∷ l) e = omega arith
-
-  -- sector 6 describes SYS's slices
-  pub sys-read : slicesAt image (p .F) (p .s) sysIndexSector ≡ p .sys
-  sys-read = slices-read image (p .F) (p .s) sysIndexSector (positive p gr) (p .sys) (sys-slices p gr) (g .sysFew) (r .layout .sysIndex)
-
-  pub sys-index : IndexBlock image (p .F) (p .s) sysIndexSector
-  sys-index = index-block image (p .F) (p .s) sysIndexSector (p .sys) (positive p gr) (sys-slices p gr) sys-some (g .sysFew) (r .layout .sysIndex)
-
   -- ---- entries
 
   entered : (n : ℕ) (e : List ℕ) → entry p n ≡ some e → Entered Q N e
@@ -79,21 +53,10 @@ module _ {image : List ℕ} {state : State} {p : Plain} (g : Good p) (r : Repres
   pub map-entered : Entered Q N mapEntry
   map-entered = entered MAP mapEntry (entry-map p)
 
-  -- every name with an entry is legal
-  entry-legal : (n : ℕ) (e : List ℕ) → entry p n ≡ some e → T (legalName n)
-  entry-legal n e h = system-cases n
-      (λ q. rw q tt)
-      (λ q. rw q tt)
-      (λ a b. go (tableFind n (p .files)) refl (sym (entry-other p n a b) ∙ h))
-    where
-      go : (o : Option File) → tableFind n (p .files) ≡ o → mapSome (fileEntry (p .F) (p .s) n) o ≡ some e → T (legalName n)
-      go none q z = absurd (some≢none (sym z))
-      go (some f) q z = g .files n f q .name
-
   pub legal-place : (t : ℕ) → t < N → Used Q t → LegalPlace Q (p .H) t
   legal-place t x used = ⊎-elim
       (λ (z : Unused Q t). absurd (used z))
-      (λ (u : PlaceOf Q (p .H) (entry p) t). record { name = entry-legal (nameAt Q t) (u .words) (u .entered); key = u .key })
+      (λ (u : PlaceOf Q (p .H) (entry p) t). record { name = entry-legal p g (nameAt Q t) (u .words) (u .entered); key = u .key })
       (r .layout .catalog .each t x)
 
   pub sound-entries : SoundEntries image state (p .H) (p .s) (p .F) Q N

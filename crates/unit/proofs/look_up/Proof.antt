@@ -1,0 +1,61 @@
+-- `unit::look_up` meets its contract. Assumes nothing.
+use native.Mathlib.Omega.{arith}
+use borrow.Author.Needs.{needs}
+use Rattle.unit.proofs.OpenLaws.{searchable}
+use Rattle.unit.proofs.FindLaws.{name-room}
+use Rattle.unit.proofs.LookUpLaws.{looks-none, looks-short, looks-done}
+use Rattle.unit.proofs.look_up.Statement.{statement}
+use Rattle.unit.proofs.look_up.Tie as tie
+
+fold-requires : tie.Need-fold-requires
+fold-requires c κs = search needs
+
+find-name-requires : tie.Need-find-name-requires
+find-name-requires c κs = searchable (c .before .before .before .pre)
+
+enum-known-place : tie.Need-enum-known-place
+enum-known-place c = search needs
+
+enum-told : tie.Need-enum-told
+enum-told c = search needs
+
+returns : tie.Need-returns
+returns c =
+    let f = c .before .before in
+    looks-none _ _ (f .before .fold .ensures .packed) (f .find-name .ensures) (c .enum-told .given .1)
+
+returns-2 : tie.Need-returns-2
+returns-2 c =
+    let place = c .before .before in
+    let f = place .before .before in
+    looks-short _ _ (f .before .fold .ensures .packed) (f .find-name .ensures) (place .place .given .1) (c .if1 .taken)
+
+read-entry-requires : tie.Need-read-entry-requires
+read-entry-requires c κs =
+    let place = c .before .before .before in
+    let f = place .before .before in
+    (omega (arith, c .before .if1 .left), name-room (searchable (f .before .before .before .before .pre)) (f .find-name .ensures) (place .place .given .1))
+
+same-length : tie.Need-same-length
+same-length c = search needs
+
+returns-3 : tie.Need-returns-3
+returns-3 c =
+    let e = c .before .before in
+    let place = e .before .before .before .before in
+    let f = place .before .before in
+    looks-done _ _ (f .before .fold .ensures .packed) (f .find-name .ensures) (place .place .given .1) (e .before .before .if1 .left) (e .read-entry .ensures)
+
+pub look-up-spec : {M : Type 1} → statement M
+look-up-spec =
+    tie.close
+    (tie.spec
+    fold-requires
+    find-name-requires
+    enum-known-place
+    enum-told
+    returns
+    returns-2
+    read-entry-requires
+    same-length
+    returns-3)

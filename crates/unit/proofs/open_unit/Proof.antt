@@ -1,0 +1,20 @@
+-- `unit::open_unit` meets its contract. Assumes nothing.
+use mathlib.Core.Path.{refl}
+use borrow.Author.Needs.{needs}
+use Rattle.unit.proofs.OpenLaws.{sys-of, numbers-of}
+use Rattle.unit.proofs.open_unit.Statement.{statement}
+use Rattle.unit.proofs.open_unit.Tie as tie
+
+geometry-of-requires : tie.Need-geometry-of-requires
+geometry-of-requires c κs = search needs
+
+find-layers-requires : tie.Need-find-layers-requires
+find-layers-requires c κs = sys-of (c .before .before .pre .on) (c .geometry-of .ensures)
+
+returns : tie.Need-returns
+returns c = record {
+  all = λ p on. numbers-of on (c .before .geometry-of .ensures) _ refl refl refl refl (c .find-layers .ensures);
+}
+
+pub open-unit-spec : {M : Type 1} → statement M
+open-unit-spec = tie.close (tie.spec geometry-of-requires find-layers-requires returns)

@@ -1,0 +1,58 @@
+-- What a search of SYS finds, said of the plain unit.
+use mathlib.Core.Path.{_≡_}
+use mathlib.Core.List.{List}
+use mathlib.Core.Option.{none, some}
+use Prim.Native.Nat.{ℕ, _*_, _/_, _%_, _≤_, _<_}
+use lib.ListN.{getD}
+use Rattle.disc.specs.Entries.{placeCount, nameAt}
+use Rattle.catalog.specs.declared.Place.{Place}
+use Rattle.catalog.specs.declared.Found.{Found}
+use Rattle.catalog.specs.declared.Found.the-variants.{At, Nothing}
+use Rattle.catalog.specs.Catalog.{entryWord}
+use Rattle.plain.specs.Unit.{Plain, entry}
+use Rattle.plain.specs.Taking.{placesTaken}
+use Rattle.sound.specs.Places.{Unused}
+use Rattle.refine.specs.Writes.{placeSector}
+use Rattle.unit.specs.declared.Opened.{Opened}
+use Rattle.unit.specs.Opened.{NumbersOf, CatalogOn, unitPlaces}
+
+-- A place of the code is SYS's place t.
+pub record PlaceIs (p : Plain) (t : ℕ) (place : Place) : Type 0 where
+  pub inside : t < placeCount (p .H) (p .layers)
+  pub sector : place .sector .0 ≡ placeSector p t
+  pub slot : place .slot ≡ t % 16
+
+-- The name n is entered, and its entry stands in the place.
+pub record NameAt (image : List ℕ) (p : Plain) (n : ℕ) (place : Place) : Type 0 where
+  pub number : ℕ
+  pub is : PlaceIs p number place
+  pub named : nameAt (unitPlaces image p) number ≡ n
+  pub words : List ℕ
+  pub entered : entry p n ≡ some words
+  pub holds : (w : ℕ) → w < 16 → entryWord image place w ≡ getD words w 0
+
+-- "3. Does the name stand in the catalog?"
+pub record NameFound (image : List ℕ) (p : Plain) (n : ℕ) (r : Found) : Type 0 where
+  pub at : (place : Place) → r ≡ At place → NameAt image p n place
+  pub nothing : r ≡ Nothing → entry p n ≡ none
+
+-- The same of every unit whose catalog is on the image.
+pub record FindsName (image : List ℕ) (o : Opened) (n : ℕ) (r : Found) : Type 0 where
+  pub all : (p : Plain) → CatalogOn image p → NumbersOf o p → NameFound image p n r
+
+-- The place is the first unused one of key k: the names of the key take fewer places than it has.
+pub record UnusedAt (image : List ℕ) (p : Plain) (k : ℕ) (place : Place) : Type 0 where
+  pub number : ℕ
+  pub is : PlaceIs p number place
+  pub key : number / 16 % p .H ≡ k
+  pub unused : Unused (unitPlaces image p) number
+  pub earlier : (t : ℕ) → t < number → t / 16 % p .H ≡ k → Unused (unitPlaces image p) t → ⊥
+  pub room : placesTaken (p .H) k (p .files) < 16 * p .layers
+
+-- "An entry takes the first unused place"; "with all 16 times L places taken by other names, SYS first grows".
+pub record UnusedFound (image : List ℕ) (p : Plain) (k : ℕ) (r : Found) : Type 0 where
+  pub at : (place : Place) → r ≡ At place → UnusedAt image p k place
+  pub nothing : r ≡ Nothing → 16 * p .layers ≤ placesTaken (p .H) k (p .files)
+
+pub record FindsUnused (image : List ℕ) (o : Opened) (k : ℕ) (r : Found) : Type 0 where
+  pub all : (p : Plain) → CatalogOn image p → NumbersOf o p → UnusedFound image p k r

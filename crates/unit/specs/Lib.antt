@@ -1,0 +1,3 @@
+pub mod Opened
+pub mod Find
+pub mod LookUp

@@ -1,0 +1,86 @@
+// What every catalog message begins with: the unit's numbers, a name's place in SYS, an unused place; and Look-up.
+
+ghost use mathlib.Core.Path.{_≡_};
+ghost use Prim.Native.Nat.{_<_};
+ghost use Rattle.disc.specs.Names.{pack};
+ghost use Rattle.catalog.specs.Catalog.{placeUnused};
+ghost use Rattle.refine.specs.OnDisc.{SomeOnDisc};
+ghost use Rattle.unit.specs.Opened.{NumbersIn, OpenedOn, Searchable, sysCatalog};
+ghost use Rattle.unit.specs.Find.{FindsName, FindsUnused};
+ghost use Rattle.unit.specs.LookUp.{LooksUp};
+use catalog::Catalog;
+use catalog::Found;
+use types::Name;
+use types::Sector;
+
+// The unit's numbers: H, s, F, M and L of document 01.
+pub struct Opened {
+    pub keys: u16,
+    pub slice: u16,
+    pub first: Sector,
+    pub slices: u16,
+    pub layers: u16,
+}
+
+// The numbers of the unit on the image.
+pub fn open_unit(image: &[u16]) -> Opened
+    requires { ⌜ SomeOnDisc (now image) ⌝ }
+    ensures { λ r. ⌜ NumbersIn (now (image .entry)) r ⌝ }
+{
+    let g = kit::geometry_of(image);
+    let layers = entries::find_layers(image, g);
+    Opened {
+        keys: g.keys,
+        slice: g.slice,
+        first: Sector(g.first),
+        slices: g.slices,
+        layers: layers,
+    }
+}
+
+// SYS as a catalog.
+pub fn sys_catalog(o: Opened) -> Catalog
+    ensures { λ r. ⌜ r ≡ sysCatalog o ⌝ }
+{
+    Catalog {
+        index: Sector(6),
+        from: 0,
+        keys: o.keys,
+        layers: o.layers,
+    }
+}
+
+// The place of a name, which is in capitals. Unused places have the name 0, and no entry has it.
+pub fn find_name(image: &[u16], o: Opened, name: Name) -> Found
+    requires { ⌜ Searchable (now image) o ⌝ }
+    ensures { λ r. ⌜ FindsName (now (image .entry)) o (pack (name .0) (name .1) (name .2)) r ⌝ }
+{
+    if names::packed(name) == 0 {
+        return Found::Nothing;
+    }
+    catalog::find(image, sys_catalog(o), name)
+}
+
+// The first unused place of a key.
+pub fn find_unused(image: &[u16], o: Opened, key: u16) -> Found
+    requires { ⌜ Searchable (now image) o × (key < o .keys) ⌝ }
+    ensures first { λ r. ⌜ r ≡ placeUnused (now (image .entry)) (sysCatalog o) key ⌝ }
+    ensures found { λ r. ⌜ FindsUnused (now (image .entry)) o key r ⌝ }
+{
+    catalog::first_unused(image, sys_catalog(o), key)
+}
+
+// Look-up from question 3 on: the result word, and the entry in the first 16 lent words.
+pub fn look_up(image: &[u16], o: Opened, name: Name, lent: &mut [u16]) -> u16
+    requires { ⌜ OpenedOn (now image) o ⌝ }
+    ensures { λ r. ⌜ LooksUp (now (image .entry)) o name (now (lent .entry)) r (now (lent .exit)) ⌝ }
+{
+    let Found::At(place) = find_name(image, o, names::fold(name)) else {
+        return 0x5000;
+    };
+    if lent.len() < 16 {
+        return 0x1200;
+    }
+    catalog::read_entry(image, place, lent);
+    0
+}
