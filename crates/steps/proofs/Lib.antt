@@ -4,3 +4,4 @@ pub mod RemoveStep
 pub mod GrowStep
 pub mod PlaceLaws
 pub mod CreateStep
+pub mod NewFileStep
