@@ -5,3 +5,4 @@ pub mod GrowStep
 pub mod PlaceLaws
 pub mod CreateStep
 pub mod NewFileStep
+pub mod BookStep
