@@ -39,7 +39,7 @@ abbrev pub grownUnit : Plain → Plain
 grownUnit p = withTables p (suc (p .layers)) (p .sys ++ layerSlices p) (p .files) (p .areas)
 
 -- SYS's entry alone is another
-entry-but-sys : (p : Plain) (m : ℕ) → m ≢ SYS → entry (grownUnit p) m ≡ entry p m
+pub entry-but-sys : (p : Plain) (m : ℕ) → m ≢ SYS → entry (grownUnit p) m ≡ entry p m
 entry-but-sys p m d = system-cases m
     (λ q. absurd (d q))
     (λ q. ap (entry (grownUnit p)) q ∙ entry-map (grownUnit p) ∙ sym (entry-map p) ∙ ap (entry p) (sym q))

@@ -4,3 +4,5 @@ pub mod RemoveStep
 pub mod GrowStep
 pub mod PlaceLaws
 pub mod CreateStep
+pub mod NewFileStep
+pub mod BookStep
