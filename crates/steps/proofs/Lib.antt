@@ -1,3 +1,4 @@
 pub mod Whole
 pub mod WriteLaws
 pub mod RemoveStep
+pub mod ResizeLaws
