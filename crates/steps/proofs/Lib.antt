@@ -2,3 +2,4 @@ pub mod Whole
 pub mod WriteLaws
 pub mod RemoveStep
 pub mod ResizeLaws
+pub mod ChangeStep

@@ -1,20 +1,19 @@
 -- A file's slices and blocks cut or lengthened: what cutImage and resizedImage write, what they leave, and that words stay words.
 use mathlib.Core.Path.{_≡_, refl, sym, ap, _∙_, subst}
-use mathlib.Core.Bool.{true, false, cond}
 use mathlib.Core.List.{List, [], _∷_, _++_, append-nil}
 use mathlib.Core.Logic.{_≢_}
 use mathlib.Core.Option.{Option, none, some}
 use Prim.Native.Nat.{ℕ, zero, suc, _+_, _*_, _-_, _/_, _%_, _≤_, _<_}
 use native.Mathlib.Omega.{arith}
-use lib.Dec.{leb}
 use lib.ListN.{length, getD, take, drop, replicate, length-append, length-take, length-drop, take-append-drop, drop-of-length-le, getD-replicate, List·getD-append}
-use lib.Seq.{getD-take, getD-append-add, take-all, take-take, take-at, length-take-le}
+use lib.Seq.{getD-take, getD-append-add, take-all, take-at, length-take-le}
 use borrow.Author.Tests.{le-leb, lt-leb}
 use Rattle.disc.specs.Numbers.{sliceStart}
 use Rattle.disc.specs.Words.{word, Words, Holds}
 use Rattle.disc.specs.Slices.{occurrences}
-use Rattle.disc.specs.Stretches.{sectorIn, indexWords, stretchCount, fileFrom}
+use Rattle.disc.specs.Stretches.{sectorIn, indexWords, stretchCount, sysFrom, fileFrom}
 use Rattle.disc.specs.Kit.{mapSector}
+use Rattle.disc.specs.Entries.{placeWord, placeCount}
 use Rattle.disc.proofs.Compare.{same-or, below-or}
 use Rattle.disc.proofs.SliceLaws.{occurrences-append}
 use Rattle.words.specs.Store.{store}
@@ -24,19 +23,19 @@ use Rattle.map.proofs.MarkLaws.{length-all-marked}
 use Rattle.index.specs.Block.{wholeIndex}
 use Rattle.index.proofs.BlockLaws.{length-wholeIndex, holds-stored}
 use Rattle.plain.specs.Table.{tableFind, tablePut, tableRemove}
-use Rattle.plain.specs.Unit.{Plain, File, M, held, withFiles}
+use Rattle.plain.specs.Unit.{Plain, File, held, withFiles}
 use Rattle.plain.specs.Taking.{zeroSectors}
 use Rattle.plain.specs.Catalog.{resized}
 use Rattle.plain.specs.Good.{WordsOf}
 use Rattle.plain.proofs.TableLaws.{weightAt, find-put, sorted-remove, total-put, total-remove, remove-some}
 use Rattle.plain.proofs.UnitLaws.{holds, occurrences-held}
 use Rattle.plain.proofs.WordLaws.{EachOf, each-take, each-append, length-zeroSectors, zeroSectors-words}
-use Rattle.refine.specs.Represents.{FileOnImage, Layout}
+use Rattle.refine.specs.Represents.{Layout}
 use Rattle.refine.specs.Writes.{zeroedSectors, takenImage, cutBlock, cutImage, resizedImage}
 use Rattle.refine.proofs.Sectors.{Same, same-refl, same-trans, holds-kept, sector-outside, marked-outside-map}
-use Rattle.refine.proofs.Ground.{Ground, part-file, first-in, block-in, file-data, in-file}
-use Rattle.refine.proofs.Writers.{Off, long, write-freed, write-used, forget-file, write-file}
-use Rattle.steps.proofs.WriteLaws.{Part, part-in-map, words-index-part, words-used, zeroed-size, zeroed-keep, zeroed-zero, words-zeroed, taken-none}
+use Rattle.refine.proofs.Ground.{Ground, part-file, first-in, block-in, sys-data, file-data, sys-file, in-file}
+use Rattle.refine.proofs.Writers.{place-same, long, write-freed, write-used, forget-file, write-file}
+use Rattle.steps.proofs.WriteLaws.{part-in-map, words-index-part, words-used, zeroed-size, zeroed-keep, zeroed-zero, words-zeroed, taken-none}
 
 -- ---- one slice list begins with the other: slices are given back from the end, or taken at the end, or neither
 
@@ -63,6 +62,9 @@ resizes-taken l l′ new count len e = below-or (length l) count
 -- the length that comes of it
 pub length-after : (l l′ new : List ℕ) (count : ℕ) → length new ≡ count - length l → l′ ≡ take count l ++ new → length l′ ≡ count
 length-after l l′ new count len e = omega (arith, ap length e, length-append (take count l) new, length-take count l)
+
+pub occurrences-take : (k c : ℕ) (l : List ℕ) → occurrences k (take c l) ≤ occurrences k l
+occurrences-take k c l = omega (arith, ap (occurrences k) (take-append-drop c l), occurrences-append k (take c l) (drop c l))
 
 module _ {l l′ : List ℕ} (r : Resizes l l′) where
   -- given back or kept
@@ -429,3 +431,12 @@ module _ {i : List ℕ} {p : Plain} {v : ℕ} {E : ℕ → Option (List ℕ)} (g
             (λ y. rw (at b ∙ resized-old size b (f .sectors) (omega arith) y) (resized-kept b y x))
             (λ y. rw (at b ∙ resized-joined size b (f .sectors) (omega arith) y) (resized-zero b y x));
       })
+
+  -- the places of SYS keep their words
+  pub resized-places : (t w : ℕ) → t < placeCount (p .H) (p .layers) → w < 16
+      → placeWord (resizedImage p i f f′) (p .F) (p .s) (p .sys) sysFrom t w ≡ placeWord i (p .F) (p .s) (p .sys) sysFrom t w
+  resized-places =
+      place-same p g i (resizedImage p i f f′) (λ x y.
+      let d = sys-data p g x y in
+      resized-keep (sectorIn (p .F) (p .s) (p .sys) x) (omega (arith, d .0)) (λ has e. sys-file after g′ m f′ here 0 x (zero-in has) y (sym e))
+      (λ b lo hi e. sys-file after g′ m f′ here b x (joined-in b lo hi) y (sym e)))
