@@ -3,3 +3,4 @@ pub mod WriteLaws
 pub mod RemoveStep
 pub mod ResizeLaws
 pub mod ChangeStep
+pub mod RenameStep
