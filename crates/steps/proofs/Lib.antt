@@ -6,3 +6,6 @@ pub mod PlaceLaws
 pub mod CreateStep
 pub mod NewFileStep
 pub mod BookStep
+pub mod ResizeLaws
+pub mod ChangeStep
+pub mod RenameStep
