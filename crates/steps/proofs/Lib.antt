@@ -6,3 +6,4 @@ pub mod PlaceLaws
 pub mod CreateStep
 pub mod NewFileStep
 pub mod BookStep
+pub mod AreaSteps
