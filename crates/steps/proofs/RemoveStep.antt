@@ -73,7 +73,7 @@ module _ {i : List ℕ} {p : Plain} (o : OnDisc i p) (n : ℕ) (f : File) (found
         ap (weightAt (holds x) n) found,
       )
 
-  pub remove-on : OnDisc (removedImage p i t f) left
+  pub remove-on : OnDisc (removedImage p i t f) (withFiles p (tableRemove n (p .files)))
   unfolding removedImage
   remove-on =
       let nz : n ≢ 0 = λ e. (let q = legal-positive n (o .good .files n f found .name) in omega arith) in
