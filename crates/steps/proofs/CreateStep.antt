@@ -11,7 +11,7 @@ use lib.Dec.{T, not-T, leb, leb→le, nleb→lt}
 use lib.ListN.{length, getD, replicate, getD-replicate}
 use Rattle.disc.specs.Numbers.{need}
 use Rattle.disc.specs.Words.{word, Words, Holds}
-use Rattle.disc.specs.Names.{legalName, isSystem, keyOf}
+use Rattle.disc.specs.Names.{SYS, MAP, legalName, isSystem, keyOf}
 use Rattle.disc.specs.Attributes.{legalAttributes, legalWith}
 use Rattle.disc.specs.Slices.{occurrences, taken}
 use Rattle.disc.specs.Stretches.{sectorIn, stretchCount, blockSector, sysFrom, fileFrom}
@@ -38,7 +38,7 @@ use Rattle.refine.proofs.ReadCatalog as read
 use Rattle.refine.proofs.CatalogLaws.{absent, name-zero}
 use Rattle.refine.proofs.Ground.{Ground, ground, entry-named, first-in, block-in, file-data, in-file, sys-file, sys-data, part-file}
 use Rattle.refine.proofs.Writers.{Off, place-same, long, write-used, write-file, write-entry}
-use Rattle.steps.proofs.WriteLaws.{counted-on, zeroed-size, zeroed-keep, zeroed-zero, words-zeroed, taken-size, taken-keep, taken-holds, words-taken, part-in-map, words-index-part, words-used, words-file-entry, entry-beside, entry-of}
+use Rattle.steps.proofs.WriteLaws.{counted-on, zeroed-size, zeroed-keep, zeroed-zero, words-zeroed, taken-size, taken-keep, taken-holds, words-taken, part-in-map, words-index-part, words-marks, words-file-entry, entry-beside, entry-of}
 use Rattle.steps.proofs.PlaceLaws.{unused-room}
 
 -- What Create and Set ask of a file f with the new name n: "need(size) slices, size zero sectors, all booked".
@@ -76,7 +76,7 @@ layers-grow p n others le = go (leb (16 * p .layers) (placesTaken (p .H) (keyOf 
 -- ---- the unit with the file is good
 
 module _ {p : Plain} {n : ℕ} {f : File} (g : Good p) (new : NewFile p n f) where
-  none-there : (tableFind n (p .files) ≡ none) × (n ≢ Rattle.disc.specs.Names.SYS) × (n ≢ Rattle.disc.specs.Names.MAP)
+  none-there : (tableFind n (p .files) ≡ none) × (n ≢ SYS) × (n ≢ MAP)
   none-there = entry-none p n (rw (new .fresh) tt)
 
   ordinary : T (not (isSystem n))
@@ -220,7 +220,7 @@ module _ {i : List ℕ} {p : Plain} (o : OnDisc i p) {n : ℕ} {f : File} (new :
   words₃ =
       let part = part-file p′ gr′ n f here in
       words-zeroed i₂ (p .F) (p .s) (f .slices) fileFrom (length (f .sectors))
-      (words-taken i q₀ (p .F) (p .s) [] (f .slices) (words-used p′ gr′ 0 (omega arith) (f .slices) i part (long gr (o .layout)) (o .words))
+      (words-taken i q₀ (p .F) (p .s) [] (f .slices) (words-marks p′ gr′ 0 (omega arith) (f .slices) i part (long gr (o .layout)) (o .words))
       (words-index-part p′ gr′ (f .slices) part))
 
   -- the places keep their words until then

@@ -29,7 +29,7 @@ use Rattle.refine.proofs.Sectors.{Same, marked-outside-map, same-trans, holds-k
 use Rattle.refine.proofs.CatalogLaws.{name-cong}
 use Rattle.refine.proofs.Ground.{Ground, ground, entry-named, sys-in, sys-data, part-sys, place-in}
 use Rattle.refine.proofs.Writers.{place-off, place-same, long, write-used, write-layer, layer-old, layer-new, grown-sector}
-use Rattle.steps.proofs.WriteLaws.{counted-on, counted-keep, zeroed-size, zeroed-keep, zeroed-zero, words-zeroed, taken-size, taken-keep, taken-index, words-taken, part-in-map, words-index-part, words-used, words-sys-entry, write-own}
+use Rattle.steps.proofs.WriteLaws.{counted-on, counted-keep, zeroed-size, zeroed-keep, zeroed-zero, words-zeroed, taken-size, taken-keep, taken-index, words-taken, part-in-map, words-index-part, words-marks, words-sys-entry, write-own}
 
 -- the slices that SYS takes for one layer more
 abbrev pub layerSlices : Plain → List ℕ
@@ -131,7 +131,7 @@ module _ {i : List ℕ} {p : Plain} (o : OnDisc i p) (room : ceilDiv (p .H * suc
   words₃ : Words i₃
   words₃ =
       words-zeroed i₂ (p .F) (p .s) all (p .H * p .layers + sysFrom) (p .H)
-      (words-taken i sysIndexSector (p .F) (p .s) (p .sys) new (words-used grown gr′ 0 (omega arith) new i part (long gr (o .layout)) (o .words))
+      (words-taken i sysIndexSector (p .F) (p .s) (p .sys) new (words-marks grown gr′ 0 (omega arith) new i part (long gr (o .layout)) (o .words))
       (words-index-part grown gr′ all (part-sys grown gr′)))
 
   -- the old places keep their words

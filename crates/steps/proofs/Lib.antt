@@ -9,3 +9,4 @@ pub mod BookStep
 pub mod ResizeLaws
 pub mod ChangeStep
 pub mod RenameStep
+pub mod AreaSteps

@@ -22,7 +22,7 @@ use Rattle.refine.specs.OnDisc.{OnDisc}
 use Rattle.refine.specs.Writes.{emptyPlace, removedImage}
 use Rattle.refine.proofs.Ground.{Ground, ground, entry-named, part-file}
 use Rattle.refine.proofs.Writers.{long, write-zero, write-freed, forget-file}
-use Rattle.steps.proofs.WriteLaws.{counted-on, words-used, entry-beside}
+use Rattle.steps.proofs.WriteLaws.{counted-on, words-marks, entry-beside}
 
 pub removed-good : (p : Plain) (n : ℕ) → Good p → tableFind n (p .areas) ≡ none → Good (withFiles p (tableRemove n (p .files)))
 removed-good p n g e = record {
@@ -73,11 +73,11 @@ module _ {i : List ℕ} {p : Plain} (o : OnDisc i p) (n : ℕ) (f : File) (found
         ap (weightAt (holds x) n) found,
       )
 
-  pub remove-on : OnDisc (removedImage p i t f) left
+  pub remove-on : OnDisc (removedImage p i t f) (withFiles p (tableRemove n (p .files)))
   unfolding removedImage
   remove-on =
       let nz : n ≢ 0 = λ e. (let q = legal-positive n (o .good .files n f found .name) in omega arith) in
       let r₁ = write-zero gr (o .layout) t in₀ (entry left) n (entry-named p (o .good .names)) stay gone was nz in
       let r₂ = write-freed gr r₁ (f .slices) (held left) (o .good .once) given in
       let w₁ : Words (emptyPlace p i t) = words-store i _ (zeroWords 16) (o .words) (words-zeroWords 16) in
-      counted-on good (words-used p gr 1 (omega arith) (f .slices) (emptyPlace p i t) (part-file p gr n f found) (long gr r₁) w₁) (forget-file gr r₂ n)
+      counted-on good (words-marks p gr 1 (omega arith) (f .slices) (emptyPlace p i t) (part-file p gr n f found) (long gr r₁) w₁) (forget-file gr r₂ n)

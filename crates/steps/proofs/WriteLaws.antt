@@ -179,8 +179,8 @@ module _ (p : Plain) (g : Ground p) where
       words-wholeIndex (p .F) (p .s) (M p) l (positive p g) (omega (arith, top p g, g .limits .sectors)) (omega (arith, part-sectors l q))
       (λ j x. in-range (p .F) (p .s) (M p) (held p) (positive p g) (g .once) l j q x .1)
 
-  pub words-used : (v : ℕ) → v ≤ 1 → (l image : List ℕ) → Part l → 2560 ≤ length image → Words image → Words (allMarked v image l)
-  words-used v bit l image q far w = words-all-marked v bit l image (part-in-map l q) far w
+  pub words-marks : (v : ℕ) → v ≤ 1 → (l image : List ℕ) → Part l → 2560 ≤ length image → Words image → Words (allMarked v image l)
+  words-marks v bit l image q far w = words-all-marked v bit l image (part-in-map l q) far w
 
 -- ---- the words of an entry
 
