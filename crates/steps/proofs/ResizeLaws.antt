@@ -35,7 +35,7 @@ use Rattle.refine.specs.Writes.{zeroedSectors, takenImage, cutBlock, cutImage, 
 use Rattle.refine.proofs.Sectors.{Same, same-refl, same-trans, holds-kept, sector-outside, marked-outside-map}
 use Rattle.refine.proofs.Ground.{Ground, part-file, first-in, block-in, sys-data, file-data, sys-file, in-file}
 use Rattle.refine.proofs.Writers.{place-same, long, write-freed, write-used, forget-file, write-file}
-use Rattle.steps.proofs.WriteLaws.{part-in-map, words-index-part, words-used, zeroed-size, zeroed-keep, zeroed-zero, words-zeroed, taken-none}
+use Rattle.steps.proofs.WriteLaws.{part-in-map, words-index-part, words-marks, zeroed-size, zeroed-keep, zeroed-zero, words-zeroed, taken-none}
 
 -- ---- one slice list begins with the other: slices are given back from the end, or taken at the end, or neither
 
@@ -372,8 +372,8 @@ module _ {i : List ℕ} {p : Plain} {v : ℕ} {E : ℕ → Option (List ℕ)} (g
   unfolding resizedImage
   words-resized w =
       let size = length-all-marked 1 (drop (length l′) l) i in
-      let w₁ = words-used p g 1 (omega arith) (drop (length l′) l) i part-given far w in
-      let w₂ = words-used after g′ 0 (omega arith) (drop (length l) l′) (allFree i (drop (length l′) l)) part-taken (omega (arith, far)) w₁ in
+      let w₁ = words-marks p g 1 (omega arith) (drop (length l′) l) i part-given far w in
+      let w₂ = words-marks after g′ 0 (omega arith) (drop (length l) l′) (allFree i (drop (length l′) l)) part-taken (omega (arith, far)) w₁ in
       words-zeroed longer (p .F) (p .s) l′ from more
       (words-resliced i q (p .F) (p .s) re w₂ (words-index-part after g′ l′ (part-file after g′ m f′ here)))
 
