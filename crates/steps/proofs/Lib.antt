@@ -4,3 +4,4 @@ pub mod RemoveStep
 pub mod ResizeLaws
 pub mod ChangeStep
 pub mod RenameStep
+pub mod ChangeUnit
