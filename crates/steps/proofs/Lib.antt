@@ -5,3 +5,5 @@ pub mod ResizeLaws
 pub mod ChangeStep
 pub mod RenameStep
 pub mod ChangeUnit
+pub mod ChangeAreas
+pub mod ChangeMessage
