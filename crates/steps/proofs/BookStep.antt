@@ -6,7 +6,7 @@ use mathlib.Core.Option.{Option, some}
 use Prim.Native.Nat.{ℕ, zero, suc, _*_, _<_}
 use native.Mathlib.Omega.{arith}
 use lib.ListN.{length}
-use Rattle.disc.specs.Slices.{occurrences, oneIfNone, freeCount}
+use Rattle.disc.specs.Slices.{occurrences}
 use Rattle.disc.specs.Stretches.{sysFrom}
 use Rattle.disc.specs.Entries.{placeWord, placeCount, nameAt, indexSector}
 use Rattle.disc.proofs.Compare.{same-or}
@@ -24,6 +24,7 @@ use Rattle.refine.specs.OnDisc.{OnDisc}
 use Rattle.refine.specs.Writes.{storePlace, bookedImage}
 use Rattle.refine.proofs.Ground.{ground, entry-named}
 use Rattle.refine.proofs.Writers.{relabel}
+use Rattle.steps.proofs.TakenLaws.{free-same}
 use Rattle.steps.proofs.WriteLaws.{words-file-entry, entry-beside, entry-of, write-own}
 
 -- ---- the unit
@@ -62,11 +63,6 @@ booked-good p n f g h =
         area-beside a (a .file) (find-put-other k n (bookLive f) (p .files) (r .0) ∙ a .entered) (omega arith)
 
 -- ---- the same slices and sectors under another entry
-
--- the free slices, by what is held
-pub free-same : (m : ℕ) (h l : List ℕ) → ((x : ℕ) → occurrences x h ≡ occurrences x l) → freeCount m h ≡ freeCount m l
-free-same zero h l e = refl
-free-same (suc m) h l e = omega (arith, ap oneIfNone (e (suc m)), free-same m h l e)
 
 -- another file with the same slices and sectors: nothing is written
 pub refile : {i : List ℕ} {p : Plain} {v : ℕ} {h : List ℕ} {E : ℕ → Option (List ℕ)} (n : ℕ) (f f′ : File) (areas : Table (Table AreaUser)) → Layout i p v h E

@@ -36,8 +36,8 @@ use Rattle.refine.proofs.Ground.{Ground, ground, entry-named}
 use Rattle.steps.proofs.WriteLaws.{counted-on, words-file-entry, entry-beside, entry-of, write-own}
 use Rattle.steps.proofs.ResizeLaws.{Resizes, resizes-taken, length-after, occurrences-take, length-resized, resized-words, words-resized, write-resized, resized-places}
 
--- File f becomes f′, of `size` sectors in `count` slices: "gives back from the end or takes until need is met; sectors that join
--- are zero"; what the questions have made sure of.
+-- File f becomes f′, of `size` sectors in `count` slices: "gives back from the end or takes until need is met; sectors
+-- that join are zero"; with what the questions have made sure of.
 pub record Changes (p : Plain) (f f′ : File) (size count : ℕ) : Type 0 where
   pub slices : f′ .slices ≡ take count (f .slices) ++ taken (M p) (held p) (lastOf (f .slices)) (count - length (f .slices))
   pub sectors : f′ .sectors ≡ resized size (f .sectors)

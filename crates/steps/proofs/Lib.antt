@@ -1,4 +1,5 @@
 pub mod Whole
+pub mod TakenLaws
 pub mod WriteLaws
 pub mod RemoveStep
 pub mod GrowStep
@@ -6,7 +7,10 @@ pub mod PlaceLaws
 pub mod CreateStep
 pub mod NewFileStep
 pub mod BookStep
+pub mod AreaSteps
 pub mod ResizeLaws
 pub mod ChangeStep
 pub mod RenameStep
-pub mod AreaSteps
+pub mod ChangeUnit
+pub mod ChangeAreas
+pub mod ChangeMessage

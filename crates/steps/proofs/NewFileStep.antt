@@ -10,7 +10,7 @@ use lib.ListN.{length-append}
 use Rattle.disc.specs.Numbers.{need, negative}
 use Rattle.disc.specs.Names.{SYS, legalName, keyOf}
 use Rattle.disc.specs.Attributes.{legalAttributes, legalWith}
-use Rattle.disc.specs.Slices.{occurrences, inUnit, oneIfNone, firstIf, lowestFrom, nextOr, choose, taken, lastOf}
+use Rattle.disc.specs.Slices.{occurrences, taken, lastOf}
 use Rattle.disc.specs.Stretches.{stretchCount, sysFrom}
 use Rattle.disc.specs.Entries.{placeWord, placeCount, nameAt}
 use Rattle.disc.proofs.SliceLaws.{occurrences-append, length-taken, sum-law}
@@ -26,26 +26,10 @@ use Rattle.plain.proofs.TakingLaws.{sysExtra, sysTaken}
 use Rattle.sound.specs.Places.{Unused}
 use Rattle.refine.specs.OnDisc.{OnDisc}
 use Rattle.refine.specs.Writes.{grownImage, createdImage}
+use Rattle.steps.proofs.TakenLaws.{taken-same}
 use Rattle.steps.proofs.GrowStep.{layerSlices, grownUnit, entry-but-sys, grown-good, grow-on}
 use Rattle.steps.proofs.CreateStep.{NewFile, layers-stay, layers-grow, create-on}
 use Rattle.steps.proofs.PlaceLaws.{unused-room, full-key}
-
--- ---- slices are taken by what is held, in whatever order
-
-lowest-same : (n k : ℕ) (h l : List ℕ) → ((x : ℕ) → occurrences x h ≡ occurrences x l) → lowestFrom n k h ≡ lowestFrom n k l
-lowest-same zero k h l e = refl
-lowest-same (suc n) k h l e = ap₂ (λ (a r : ℕ). firstIf (oneIfNone a) k r) (e k) (lowest-same n (suc k) h l e)
-
-choose-same : (m last : ℕ) (h l : List ℕ) → ((x : ℕ) → occurrences x h ≡ occurrences x l) → choose m h last ≡ choose m l last
-choose-same m last h l e = ap₂ (λ (a r : ℕ). nextOr (inUnit m (suc last)) a (suc last) r) (e (suc last)) (lowest-same m 1 h l e)
-
-pub taken-same : (m : ℕ) (h l : List ℕ) (last n : ℕ) → ((x : ℕ) → occurrences x h ≡ occurrences x l) → taken m h last n ≡ taken m l last n
-taken-same m h l last zero e = refl
-taken-same m h l last (suc n) e =
-    let a : ℕ = choose m h last in
-    let b : ℕ = choose m l last in
-    let q : a ≡ b = choose-same m last h l e in
-    ap (λ (k : ℕ). k ∷ taken m (k ∷ h) k n) q ∙ ap (λ (r : List ℕ). b ∷ r) (taken-same m (b ∷ h) (b ∷ l) b n (λ x. omega (arith, e x)))
 
 -- ---- the new file
 
