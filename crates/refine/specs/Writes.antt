@@ -94,3 +94,14 @@ renamedImage p image t u m f f′ =
 -- Remove area: "length and slices are booked".
 unfoldable pub bookedImage : Plain → List ℕ → ℕ → ℕ → File → List ℕ
 bookedImage p image t n f = storePlace p image t (fileEntry (p .F) (p .s) n (bookLive f))
+
+-- Output below the live length: block b of file f is replaced by 256 words.
+unfoldable pub replacedImage : Plain → List ℕ → File → ℕ → List ℕ → List ℕ
+replacedImage p image f b words = store image (blockSector (p .F) (p .s) (f .slices) fileFrom b * 256) words
+
+-- Output at the live length: the slices `new` are taken, and the block after the last is stored.
+unfoldable pub appendedImage : Plain → List ℕ → File → List ℕ → List ℕ → List ℕ
+appendedImage p image f new words =
+    let slices : List ℕ = f .slices ++ new in
+    let longer : List ℕ = takenImage image (sectorIn (p .F) (p .s) slices 0) (p .F) (p .s) (f .slices) new in
+    countedFree (store longer (blockSector (p .F) (p .s) slices fileFrom (length (f .sectors)) * 256) words) (p .s)
