@@ -11,6 +11,7 @@ use Rattle.disc.specs.Names.{legalName}
 use Rattle.disc.specs.Entries.{nameAt}
 use Rattle.kit.specs.declared.Geometry.{Geometry}
 use Rattle.marks.specs.Marked.{Marked}
+use Rattle.entries.specs.Sys.{sysSlices, placesIn}
 use Rattle.sound.specs.Places.{Unused, slicesFrom}
 use Rattle.sound.specs.State.{openArea}
 use Rattle.sound.specs.Sound.{slicesOf, heldBy, slicesBelow}
@@ -18,7 +19,7 @@ use Rattle.sound.specs.Parts.{Marking}
 use Rattle.files.specs.declared.Live.{Live}
 use Rattle.files.specs.Live.{liveOf, indexBy, liveIn, FlatOf}
 use Rattle.files.specs.Rules.{entryOf, FileRules}
-use Rattle.files.specs.Walk.{placeSlices, joined, PlaceRules, PlacesMarking, sysSlices, placesIn, NamesKnown, SoundFiles}
+use Rattle.files.specs.Walk.{placeSlices, joined, PlaceRules, PlacesMarking, NamesKnown, SoundFiles}
 use Rattle.files.proofs.LiveLaws.{live-state, index-of}
 use Rattle.files.proofs.FileLaws.{rules-sound, sound-rules}
 use Rattle.files.proofs.SequenceLaws.{marking-map}

@@ -2,14 +2,12 @@
 // stretches, and the slices that the files have are marked.
 
 ghost use mathlib.Core.Path.{_≡_};
-ghost use Prim.Native.Nat.{_+_, _*_, _≤_, min};
+ghost use Prim.Native.Nat.{_+_, _*_, _≤_};
 ghost use lib.ListN.{length};
 ghost use Rattle.disc.specs.Decide.{Decides};
 ghost use Rattle.disc.specs.Numbers.{need};
 ghost use Rattle.disc.specs.Attributes.{legalAttributes, legalWith, entryOnly};
 ghost use Rattle.disc.specs.Names.{isSystem};
-ghost use Rattle.disc.specs.Kit.{sysIndexSector};
-ghost use Rattle.disc.specs.Pairs.{pairLength, pairStart};
 ghost use Rattle.disc.specs.Entries.{placeCount};
 ghost use Rattle.sound.specs.Places.{Booked};
 ghost use Rattle.sound.specs.Sound.{slicesBelow};
@@ -17,15 +15,13 @@ ghost use Rattle.sound.specs.Parts.{Marking};
 ghost use Rattle.files.specs.Live.{indexBy, lengthBy, liveIn, openName, FlatOf};
 ghost use Rattle.kit.specs.Geometry.{UnitOf};
 ghost use Rattle.marks.specs.Marked.{SomeMarked};
-ghost use Rattle.files.specs.Walk.{nameBy, placesFrom, placesIn, sysSlices, PlaceMarking, PlacesMarking, SysKnown, NamesKnown, SoundFiles};
+ghost use Rattle.entries.specs.Sys.{sysSlices, placesIn};
+ghost use Rattle.files.specs.Walk.{nameBy, placesFrom, PlaceMarking, PlacesMarking, SysKnown, NamesKnown, SoundFiles};
 ghost use Rattle.files.specs.Rules.{wordsAt, entryAt, FileNumbers, OwnMarking, FileMarking};
 use kit::Geometry;
 use marks::Indexed;
 use types::Area;
 use types::State;
-
-// The image's index of the first word of SYS's index block.
-const SYS_INDEX: usize = 6 * 256;
 
 // What is known of a file's area process: whether it is open, and then its index sector and length.
 pub struct Live {
@@ -312,32 +308,6 @@ fn run_sound(
     true
 }
 
-// The length in sectors of pair j of SYS's index block.
-fn pair_length(image: &[u16], j: usize) -> u16
-    requires { ⌜ (j ≤ 126) × (2560 ≤ length (now image)) ⌝ }
-    ensures { λ r. ⌜ r ≡ pairLength (now (image .entry)) sysIndexSector j ⌝ }
-{
-    image[SYS_INDEX + (2 * j + 1)]
-}
-
-// The first sector of pair j of SYS's index block.
-fn pair_start(image: &[u16], j: usize) -> u16
-    requires { ⌜ (j ≤ 126) × (2560 ≤ length (now image)) ⌝ }
-    ensures { λ r. ⌜ r ≡ pairStart (now (image .entry)) sysIndexSector j ⌝ }
-{
-    image[SYS_INDEX + (2 * j + 2)]
-}
-
-// The lesser of two numbers.
-fn lesser(a: u16, b: u16) -> u16
-    ensures { λ r. ⌜ r ≡ min a b ⌝ }
-{
-    if a < b {
-        return a;
-    }
-    b
-}
-
 // Judges the places of the first `size` blocks of SYS, stretch by stretch.
 fn stretches_sound(
     image: &[u16],
@@ -354,11 +324,11 @@ fn stretches_sound(
     let mut b: u16 = 0;
     let mut j: usize = 0;
     while b < size {
-        let n = lesser(pair_length(image, j), size - b);
-        let start = pair_start(image, j);
+        let n = entries::lesser(entries::pair_length(image, j), size - b);
+        let start = entries::pair_start(image, j);
         if !run_sound(
             image,
-            start as usize * 256,
+            start.0 as usize * 256,
             16 * n as usize,
             names,
             indexes,

@@ -2,7 +2,8 @@
 use Prim.Native.Nat.{_*_}
 use native.Mathlib.Omega.{arith}
 use Rattle.state.proofs.ShapeLaws.{areas-length}
-use Rattle.files.proofs.SysLaws.{sys-small}
+use Rattle.entries.proofs.SysLaws.{sys-small}
+use Rattle.files.proofs.SysLaws.{known-sys}
 use Rattle.files.proofs.SoundLaws.{files-marked}
 use borrow.Author.Needs.{needs}
 use Rattle.files.proofs.files_sound.Statement.{statement}
@@ -15,7 +16,7 @@ mul-stretches-sound : tie.Need-mul-stretches-sound
 mul-stretches-sound c =
     let start = c .before .before .before .before .before .before in
     let known = start .pre .0 in
-    omega (arith, known .room, sys-small known, known .unit .limits .sectors)
+    omega (arith, known .room, sys-small (known-sys known), known .unit .limits .sectors)
 
 stretches-sound-requires : tie.Need-stretches-sound-requires
 stretches-sound-requires c κs = search needs
