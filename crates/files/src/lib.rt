@@ -12,7 +12,7 @@ ghost use Rattle.disc.specs.Entries.{placeCount};
 ghost use Rattle.sound.specs.Places.{Booked};
 ghost use Rattle.sound.specs.Sound.{slicesBelow};
 ghost use Rattle.sound.specs.Parts.{Marking};
-ghost use Rattle.files.specs.Live.{indexBy, lengthBy, liveIn, openName, FlatOf};
+ghost use Rattle.files.specs.Live.{indexBy, lengthBy, liveIn, openName, FlatOf, OpenUpto};
 ghost use Rattle.kit.specs.Geometry.{UnitOf};
 ghost use Rattle.marks.specs.Marked.{SomeMarked};
 ghost use Rattle.entries.specs.Sys.{sysSlices, placesIn};
@@ -108,12 +108,33 @@ pub fn flatten(state: State, names: &mut [u64; 8], indexes: &mut [u16; 8], lengt
     }
 }
 
-// What the lists say of a name.
-pub fn live_of(names: &[u64; 8], indexes: &[u16; 8], lengths: &[u16; 8], name: u64) -> Live
-    ensures { λ r. ⌜ r ≡ liveIn (now (names .entry)) (now (indexes .entry)) (now (lengths .entry)) name ⌝ }
+// How many names have to be compared: no descriptor from there on is open.
+fn open_upto(names: &[u64; 8]) -> usize
+    ensures { λ r. ⌜ OpenUpto (now (names .entry)) r ⌝ }
+{
+    let mut n: usize = 8;
+    while 0 < n {
+        if names[n - 1] != 0 {
+            return n;
+        }
+        n -= 1;
+    }
+    n
+}
+
+// What the first `upto` numbers of the lists say of a name.
+pub fn live_of(
+    names: &[u64; 8],
+    indexes: &[u16; 8],
+    lengths: &[u16; 8],
+    upto: usize,
+    name: u64,
+) -> Live
+    requires { ⌜ upto ≤ 8 ⌝ }
+    ensures { λ r. ⌜ r ≡ liveIn (now (names .entry)) (now (indexes .entry)) (now (lengths .entry)) upto name ⌝ }
 {
     let mut j: usize = 0;
-    while j < 8 {
+    while j < upto {
         if names[j] == name {
             return Live {
                 opened: true,
@@ -267,11 +288,12 @@ fn place_sound(
     names: &[u64; 8],
     indexes: &[u16; 8],
     lengths: &[u16; 8],
+    upto: usize,
     g: Geometry,
     marks: &mut [u8; 4096],
 ) -> bool
-    requires { ⌜ UnitOf (now image) g × SomeMarked (g .slices) (now marks) × (at + 16 ≤ length (now image)) ⌝ }
-    ensures { λ r. ⌜ PlaceMarking (now (image .entry)) g (liveIn (now (names .entry)) (now (indexes .entry)) (now (lengths .entry))) (wordsAt (now (image .entry)) at) (now (marks .entry)) (now (marks .exit)) r ⌝ }
+    requires { ⌜ UnitOf (now image) g × SomeMarked (g .slices) (now marks) × (at + 16 ≤ length (now image)) × (upto ≤ 8) ⌝ }
+    ensures { λ r. ⌜ PlaceMarking (now (image .entry)) g (liveIn (now (names .entry)) (now (indexes .entry)) (now (lengths .entry)) upto) (wordsAt (now (image .entry)) at) (now (marks .entry)) (now (marks .exit)) r ⌝ }
 {
     let name = name_at(image, at);
     if name == 0 {
@@ -280,7 +302,7 @@ fn place_sound(
     if is_system(name) {
         return true;
     }
-    let live = live_of(names, indexes, lengths, name);
+    let live = live_of(names, indexes, lengths, upto, name);
     file_sound(image, at, live, g, marks)
 }
 
@@ -292,15 +314,16 @@ fn run_sound(
     names: &[u64; 8],
     indexes: &[u16; 8],
     lengths: &[u16; 8],
+    upto: usize,
     g: Geometry,
     marks: &mut [u8; 4096],
 ) -> bool
-    requires { ⌜ UnitOf (now image) g × SomeMarked (g .slices) (now marks) × (at + 16 * count ≤ length (now image)) ⌝ }
-    ensures { λ r. ⌜ PlacesMarking (now (image .entry)) g (liveIn (now (names .entry)) (now (indexes .entry)) (now (lengths .entry))) (placesFrom (now (image .entry)) at) count (now (marks .entry)) (now (marks .exit)) r ⌝ }
+    requires { ⌜ UnitOf (now image) g × SomeMarked (g .slices) (now marks) × (at + 16 * count ≤ length (now image)) × (upto ≤ 8) ⌝ }
+    ensures { λ r. ⌜ PlacesMarking (now (image .entry)) g (liveIn (now (names .entry)) (now (indexes .entry)) (now (lengths .entry)) upto) (placesFrom (now (image .entry)) at) count (now (marks .entry)) (now (marks .exit)) r ⌝ }
 {
     let mut i: usize = 0;
     while i < count {
-        if !place_sound(image, at + 16 * i, names, indexes, lengths, g, marks) {
+        if !place_sound(image, at + 16 * i, names, indexes, lengths, upto, g, marks) {
             return false;
         }
         i += 1;
@@ -315,11 +338,12 @@ fn stretches_sound(
     names: &[u64; 8],
     indexes: &[u16; 8],
     lengths: &[u16; 8],
+    upto: usize,
     g: Geometry,
     marks: &mut [u8; 4096],
 ) -> bool
-    requires { ⌜ SysKnown (now image) g (now marks) size ⌝ }
-    ensures { λ r. ⌜ PlacesMarking (now (image .entry)) g (liveIn (now (names .entry)) (now (indexes .entry)) (now (lengths .entry))) (placesIn (now (image .entry)) g) (16 * size) (now (marks .entry)) (now (marks .exit)) r ⌝ }
+    requires { ⌜ SysKnown (now image) g (now marks) size × (upto ≤ 8) ⌝ }
+    ensures { λ r. ⌜ PlacesMarking (now (image .entry)) g (liveIn (now (names .entry)) (now (indexes .entry)) (now (lengths .entry)) upto) (placesIn (now (image .entry)) g) (16 * size) (now (marks .entry)) (now (marks .exit)) r ⌝ }
 {
     let mut b: u16 = 0;
     let mut j: usize = 0;
@@ -333,6 +357,7 @@ fn stretches_sound(
             names,
             indexes,
             lengths,
+            upto,
             g,
             marks,
         ) {
@@ -359,5 +384,15 @@ pub fn files_sound(
     let mut indexes: [u16; 8] = [0; 8];
     let mut lengths: [u16; 8] = [0; 8];
     flatten(state, &mut names, &mut indexes, &mut lengths);
-    stretches_sound(image, g.keys * layers, &names, &indexes, &lengths, g, marks)
+    let upto = open_upto(&names);
+    stretches_sound(
+        image,
+        g.keys * layers,
+        &names,
+        &indexes,
+        &lengths,
+        upto,
+        g,
+        marks,
+    )
 }

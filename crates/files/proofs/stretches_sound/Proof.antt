@@ -17,22 +17,22 @@ use Rattle.files.proofs.stretches_sound.Statement.{statement}
 use Rattle.files.proofs.stretches_sound.Tie as tie
 
 abbrev Inv-loop : tie.InvT-loop
-Inv-loop image size names indexes lengths g marks₀ b₀ j₀ marks b j =
-    (j ≤ word image 6 0) × (b ≤ size) × (b < size → b ≡ sectorsBefore image 6 j) × PlacesPassed image g (liveIn names indexes lengths) (placesIn image g) marks₀ marks (16 * b)
+Inv-loop image size names indexes lengths upto g marks₀ b₀ j₀ marks b j =
+    (j ≤ word image 6 0) × (b ≤ size) × (b < size → b ≡ sectorsBefore image 6 j) × PlacesPassed image g (liveIn names indexes lengths upto) (placesIn image g) marks₀ marks (16 * b)
 
 abbrev μ-loop : tie.MeasureT-loop
-μ-loop image size names indexes lengths g marks₀ b₀ j₀ marks b j = word image 6 0 - j
+μ-loop image size names indexes lengths upto g marks₀ b₀ j₀ marks b j = word image 6 0 - j
 
 -- what is known of the area processes
 abbrev lives : tie.At-loop Inv-loop μ-loop → ℕ → Live
-lives at = let a = at .before .before .args in liveIn (a .names .now) (a .indexes .now) (a .lengths .now)
+lives at = let a = at .before .before .args in liveIn (a .names .now) (a .indexes .now) (a .lengths .now) (a .upto)
 
 -- the turn, known once its numbers are read
 turn-of : (c : tie.After-pair-start Inv-loop μ-loop) → let at = c .before .before .before .before in let a = at .before .before .args in
     Turn (a .image .now) (a .g) (a .size) (at .loop .j) (at .loop .b) (c .before .lesser .result) (c .pair-start .result .0)
 turn-of c =
     let at = c .before .before .before .before in
-    let known = at .before .before .pre in
+    let known = at .before .before .pre .0 in
     turn (known-sys known) (at .loop .j) (known .room) (at .loop .inv .0) (at .loop .inv .2) (c .before .before .before .loop-test .taken) (c .before .before .pair-length .ensures) (c .before .lesser .ensures) (c .pair-start .ensures)
 
 loop-holds : tie.Need-loop-holds Inv-loop μ-loop
@@ -66,8 +66,9 @@ run-sound-requires : tie.Need-run-sound-requires Inv-loop μ-loop
 run-sound-requires c κs =
     let read = c .before .before in
     let at = read .before .before .before .before in
-    let known = at .before .before .pre in
-    (known .unit, places-some _ _ _ _ _ (at .loop .inv .3) (some-sys known), omega (arith, turn-of read .fits))
+    let pre = at .before .before .pre in
+    let known = pre .0 in
+    (known .unit, places-some _ _ _ _ _ (at .loop .inv .3) (some-sys known), omega (arith, turn-of read .fits), pre .1)
 
 returns : tie.Need-returns Inv-loop μ-loop
 returns c =
@@ -100,14 +101,14 @@ loop-again c =
       t .next,
       subst (PlacesPassed (a .image .now) (a .g) (lives at) (placesIn (a .image .now) (a .g)) _ _) e
           (places-more (a .image .now) (a .g) (lives at) (placesIn (a .image .now) (a .g)) (16 * at .loop .b) (at .loop .inv .3) _ _ (turn-places t) (c .before .run-sound .ensures)
-          (some-sys (at .before .before .pre)) (not-false _ (c .if1 .left))),
+          (some-sys (at .before .before .pre .0)) (not-false _ (c .if1 .left))),
     )
 
 returns-2 : tie.Need-returns-2 Inv-loop μ-loop
 returns-2 c =
     let at = c .before in
     let a = at .before .before .args in
-    places-all (a .image .now) (a .g) (lives at) (placesIn (a .image .now) (a .g)) (16 * at .loop .b) (at .loop .inv .3) (16 * a .size) (omega arith) (some-sys (at .before .before .pre))
+    places-all (a .image .now) (a .g) (lives at) (placesIn (a .image .now) (a .g)) (16 * at .loop .b) (at .loop .inv .3) (16 * a .size) (omega arith) (some-sys (at .before .before .pre .0))
 
 pub stretches-sound-spec : {M : Type 1} → statement M
 stretches-sound-spec =
