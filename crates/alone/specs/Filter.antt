@@ -19,7 +19,7 @@ pub record Has (filter : List ℕ) (n : ℕ) : Type 0 where
   pub first : bitAt filter (mixed n / 1048576 % 262144) ≡ 1
   pub second : bitAt filter (mixed n / 128 % 262144) ≡ 1
 
--- Bit p is set, and no bit is taken away; the answer is true exactly if it was set already.
+-- Bit p is set now, and so is every bit that was; where the answer is false, p was not.
 pub record BitNoted (answer : Bool) (filter after : List ℕ) (p : ℕ) : Type 0 where
   pub new : answer ≡ false → bitAt filter p ≡ 1 → ⊥
   pub set : bitAt after p ≡ 1

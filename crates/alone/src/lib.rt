@@ -16,6 +16,7 @@ ghost use Rattle.alone.specs.Filter.{mixed, BitNoted, Noted};
 use entries::Catalog;
 use entries::Found;
 use kit::Geometry;
+use types::Block;
 use types::Name;
 use types::Sector;
 
@@ -57,20 +58,27 @@ fn note(filter: &mut [u16], name: Name) -> bool
 }
 
 // Whether no place before place i of block b, which has the name, has it too.
-fn is_first(image: &[u16], g: Geometry, name: Name, b: u16, i: usize) -> bool
-    requires { ⌜ SysOf (now image) g × (b + 1 ≤ g .slice * length (sysSlices (now image) g)) × (i < 16) × Stands (placesIn (now image) g) (g .keys) (pack (name .0) (name .1) (name .2)) (16 * b + i) ⌝ }
-    ensures { λ r. ⌜ Decides r (NoneAt (placesIn (now (image .entry)) g) (g .keys) (pack (name .0) (name .1) (name .2)) (16 * b + i)) ⌝ }
+fn is_first(image: &[u16], g: Geometry, name: Name, b: Block, i: usize) -> bool
+    requires { ⌜ SysOf (now image) g × (b .0 + 1 ≤ g .slice * length (sysSlices (now image) g)) × (i < 16) × Stands (placesIn (now image) g) (g .keys) (pack (name .0) (name .1) (name .2)) (16 * b .0 + i) ⌝ }
+    ensures { λ r. ⌜ Decides r (NoneAt (placesIn (now (image .entry)) g) (g .keys) (pack (name .0) (name .1) (name .2)) (16 * b .0 + i)) ⌝ }
 {
-    let Found::At(t) = entries::find(image, g, name, b + 1) else {
+    let Found::At(t) = entries::find(image, g, name, b.0 + 1) else {
         return false;
     };
-    t == 16 * b as u32 + i as u32
+    t == 16 * b.0 as u32 + i as u32
 }
 
 // Whether no place before place i of block b, which is sector q, has its name; the name is put in the filter.
-fn place_alone(image: &[u16], g: Geometry, q: Sector, b: u16, i: usize, filter: &mut [u16]) -> bool
-    requires { ⌜ LegalSys (now image) g (b + 1) × (q .0 ≡ sectorIn (g .first) (g .slice) (sysSlices (now image) g) b) × (i < 16) × (length (now filter) ≡ 16384) × Passed (placesIn (now image) g) (now filter) (16 * b + i) ⌝ }
-    ensures { λ r. ⌜ Scanned r (placesIn (now (image .entry)) g) (now (filter .exit)) (16 * b + i + 1) ⌝ }
+fn place_alone(
+    image: &[u16],
+    g: Geometry,
+    q: Sector,
+    b: Block,
+    i: usize,
+    filter: &mut [u16],
+) -> bool
+    requires { ⌜ LegalSys (now image) g (b .0 + 1) × (q .0 ≡ sectorIn (g .first) (g .slice) (sysSlices (now image) g) (b .0)) × (i < 16) × (length (now filter) ≡ 16384) × Passed (placesIn (now image) g) (now filter) (16 * b .0 + i) ⌝ }
+    ensures { λ r. ⌜ Scanned r (placesIn (now (image .entry)) g) (now (filter .exit)) (16 * b .0 + i + 1) ⌝ }
 {
     let name = entries::place_name(image, q, i);
     if name.0 == 0 {
@@ -83,9 +91,9 @@ fn place_alone(image: &[u16], g: Geometry, q: Sector, b: u16, i: usize, filter: 
 }
 
 // Whether the names in block b, which is sector q, are alone, with those before it.
-fn sector_alone(image: &[u16], g: Geometry, q: Sector, b: u16, filter: &mut [u16]) -> bool
-    requires { ⌜ LegalSys (now image) g (b + 1) × (q .0 ≡ sectorIn (g .first) (g .slice) (sysSlices (now image) g) b) × (length (now filter) ≡ 16384) × Passed (placesIn (now image) g) (now filter) (16 * b) ⌝ }
-    ensures { λ r. ⌜ Scanned r (placesIn (now (image .entry)) g) (now (filter .exit)) (16 * (b + 1)) ⌝ }
+fn sector_alone(image: &[u16], g: Geometry, q: Sector, b: Block, filter: &mut [u16]) -> bool
+    requires { ⌜ LegalSys (now image) g (b .0 + 1) × (q .0 ≡ sectorIn (g .first) (g .slice) (sysSlices (now image) g) (b .0)) × (length (now filter) ≡ 16384) × Passed (placesIn (now image) g) (now filter) (16 * b .0) ⌝ }
+    ensures { λ r. ⌜ Scanned r (placesIn (now (image .entry)) g) (now (filter .exit)) (16 * (b .0 + 1)) ⌝ }
 {
     let mut i = 0;
     while i < 16 {
@@ -98,14 +106,22 @@ fn sector_alone(image: &[u16], g: Geometry, q: Sector, b: u16, filter: &mut [u16
 }
 
 // Whether the names in the n blocks from block b on, which are the sectors from sector q on, are alone, with those before them.
-fn stretch_alone(image: &[u16], g: Geometry, q: Sector, n: u16, b: u16, filter: &mut [u16]) -> bool
-    requires { ⌜ LegalSys (now image) g (b + n) × ((c : ℕ) → c < n → sectorIn (g .first) (g .slice) (sysSlices (now image) g) (b + c) ≡ q .0 + c) × (q .0 + n < 65536) × (length (now filter) ≡ 16384) × Passed (placesIn (now image) g) (now filter) (16 * b) ⌝ }
-    ensures { λ r. ⌜ Scanned r (placesIn (now (image .entry)) g) (now (filter .exit)) (16 * (b + n)) ⌝ }
+fn stretch_alone(
+    image: &[u16],
+    g: Geometry,
+    q: Sector,
+    n: u16,
+    b: Block,
+    filter: &mut [u16],
+) -> bool
+    requires { ⌜ LegalSys (now image) g (b .0 + n) × ((c : ℕ) → c < n → sectorIn (g .first) (g .slice) (sysSlices (now image) g) (b .0 + c) ≡ q .0 + c) × (q .0 + n < 65536) × (length (now filter) ≡ 16384) × Passed (placesIn (now image) g) (now filter) (16 * b .0) ⌝ }
+    ensures { λ r. ⌜ Scanned r (placesIn (now (image .entry)) g) (now (filter .exit)) (16 * (b .0 + n)) ⌝ }
 {
     let first = q.0;
+    let block = b.0;
     let mut c = 0;
     while c < n {
-        if !sector_alone(image, g, Sector(first + c), b + c, filter) {
+        if !sector_alone(image, g, Sector(first + c), Block(block + c), filter) {
             return false;
         }
         c += 1;
@@ -122,7 +138,7 @@ fn all_alone(image: &[u16], g: Geometry, size: u16, filter: &mut [u16]) -> bool
     let mut j = 0;
     while b < size {
         let n = entries::lesser(entries::pair_length(image, j), size - b);
-        if !stretch_alone(image, g, entries::pair_start(image, j), n, b, filter) {
+        if !stretch_alone(image, g, entries::pair_start(image, j), n, Block(b), filter) {
             return false;
         }
         b += n;

@@ -1,6 +1,5 @@
 -- Where a name stands among the places of SYS.
 use mathlib.Core.Path.{_≡_}
-use mathlib.Core.List.{List}
 use Prim.Native.Nat.{ℕ, _/_, _%_, _≤_, _<_}
 use Rattle.disc.specs.Names.{keyOf}
 use Rattle.disc.specs.Entries.{nameAt}

@@ -10,10 +10,11 @@ ghost use Rattle.disc.specs.Kit.{sysIndexSector};
 ghost use Rattle.disc.specs.Stretches.{sectorIn};
 ghost use Rattle.disc.specs.Pairs.{pairLength, pairStart};
 ghost use Rattle.disc.specs.Entries.{systemEntry};
+ghost use Rattle.names.specs.Classes.{ClassesOf};
 ghost use Rattle.sound.specs.Places.{Unused};
 ghost use Rattle.entries.specs.Legal.{sectorPlaces, NameIn, HoldsEntry, ownEntry, SystemLegal, PlaceLegal, SectorLegal, StretchLegal, PlacesLegal};
 ghost use Rattle.entries.specs.Found.{FoundIs, SlotIs};
-ghost use Rattle.entries.specs.Names.{NamesLegal, NamesAlone, LayersOf};
+ghost use Rattle.entries.specs.Names.{NamesLegal, LayersOf};
 ghost use Rattle.entries.specs.Sys.{sysSlices, placesIn, SysOf};
 use kit::Geometry;
 use types::Block;
@@ -171,15 +172,22 @@ fn system_legal(image: &[u16], q: Sector, i: usize, name: Name, catalog: Catalog
 }
 
 // Whether place i of sector q, a sector of the key, is unused or has a legal name of that key; SYS and MAP have their entries.
-fn place_legal(image: &[u16], q: Sector, i: usize, key: u16, catalog: Catalog) -> bool
-    requires { ⌜ (q .0 * 256 + 256 ≤ length (now image)) × (i < 16) × (1 ≤ catalog .keys) ⌝ }
+fn place_legal(
+    image: &[u16],
+    q: Sector,
+    i: usize,
+    key: u16,
+    catalog: Catalog,
+    classes: &[u8; 256],
+) -> bool
+    requires { ⌜ (q .0 * 256 + 256 ≤ length (now image)) × (i < 16) × (1 ≤ catalog .keys) × ClassesOf (now classes) ⌝ }
     ensures { λ r. ⌜ Decides r (PlaceLegal (sectorPlaces (now (image .entry)) (q .0)) (catalog .keys) key (ownEntry catalog) i) ⌝ }
 {
     let name = place_name(image, q, i);
     if name.0 == 0 {
         return is_unused(image, q, i);
     }
-    if !names::legal(name) {
+    if !names::legal_by(name, classes) {
         return false;
     }
     if numbers::key(name, catalog.keys) != key {
@@ -189,13 +197,13 @@ fn place_legal(image: &[u16], q: Sector, i: usize, key: u16, catalog: Catalog) -
 }
 
 // Whether the sixteen places of sector q, a sector of the key, are legal.
-fn sector_legal(image: &[u16], q: Sector, key: u16, catalog: Catalog) -> bool
-    requires { ⌜ (q .0 * 256 + 256 ≤ length (now image)) × (1 ≤ catalog .keys) ⌝ }
+fn sector_legal(image: &[u16], q: Sector, key: u16, catalog: Catalog, classes: &[u8; 256]) -> bool
+    requires { ⌜ (q .0 * 256 + 256 ≤ length (now image)) × (1 ≤ catalog .keys) × ClassesOf (now classes) ⌝ }
     ensures { λ r. ⌜ Decides r (SectorLegal (now (image .entry)) (q .0) (catalog .keys) key (ownEntry catalog)) ⌝ }
 {
     let mut i = 0;
     while i < 16 {
-        if !place_legal(image, q, i, key, catalog) {
+        if !place_legal(image, q, i, key, catalog, classes) {
             return false;
         }
         i += 1;
@@ -215,8 +223,15 @@ fn next_key(key: u16, keys: u16) -> u16
 }
 
 // Whether the places of n sectors from sector q on are legal, the first of them a sector of the key.
-fn stretch_legal(image: &[u16], q: Sector, n: u16, key: u16, catalog: Catalog) -> bool
-    requires { ⌜ (256 * (q .0 + n) ≤ length (now image)) × (q .0 + n < 65536) × (key < catalog .keys) ⌝ }
+fn stretch_legal(
+    image: &[u16],
+    q: Sector,
+    n: u16,
+    key: u16,
+    catalog: Catalog,
+    classes: &[u8; 256],
+) -> bool
+    requires { ⌜ (256 * (q .0 + n) ≤ length (now image)) × (q .0 + n < 65536) × (key < catalog .keys) × ClassesOf (now classes) ⌝ }
     ensures { λ r. ⌜ Decides r (StretchLegal (now (image .entry)) (q .0) n (catalog .keys) key (ownEntry catalog)) ⌝ }
 {
     let first = q.0;
@@ -224,7 +239,7 @@ fn stretch_legal(image: &[u16], q: Sector, n: u16, key: u16, catalog: Catalog) -
     let mut k = key;
     let mut c = 0;
     while c < n {
-        if !sector_legal(image, Sector(first + c), k, catalog) {
+        if !sector_legal(image, Sector(first + c), k, catalog, classes) {
             return false;
         }
         k = next_key(k, keys);
@@ -244,8 +259,8 @@ pub fn lesser(a: u16, b: u16) -> u16
 }
 
 // Whether all places of SYS are legal, stretch by stretch.
-fn all_legal(image: &[u16], g: Geometry, catalog: Catalog) -> bool
-    requires { ⌜ SysOf (now image) g × (catalog .keys ≡ g .keys) × (catalog .size ≤ g .slice * length (sysSlices (now image) g)) ⌝ }
+fn all_legal(image: &[u16], g: Geometry, catalog: Catalog, classes: &[u8; 256]) -> bool
+    requires { ⌜ SysOf (now image) g × (catalog .keys ≡ g .keys) × (catalog .size ≤ g .slice * length (sysSlices (now image) g)) × ClassesOf (now classes) ⌝ }
     ensures { λ r. ⌜ Decides r (PlacesLegal (placesIn (now (image .entry)) g) (g .keys) (ownEntry catalog) (16 * catalog .size)) ⌝ }
 {
     let size = catalog.size;
@@ -253,7 +268,7 @@ fn all_legal(image: &[u16], g: Geometry, catalog: Catalog) -> bool
     let mut j = 0;
     while b < size {
         let n = lesser(pair_length(image, j), size - b);
-        if !stretch_legal(image, pair_start(image, j), n, b % g.keys, catalog) {
+        if !stretch_legal(image, pair_start(image, j), n, b % g.keys, catalog, classes) {
             return false;
         }
         b += n;
@@ -299,7 +314,8 @@ pub fn names_legal(image: &[u16], g: Geometry, catalog: Catalog) -> bool
     requires { ⌜ SysOf (now image) g × (catalog .keys ≡ g .keys) × (catalog .size ≤ g .slice * length (sysSlices (now image) g)) ⌝ }
     ensures { λ r. ⌜ Decides r (NamesLegal (placesIn (now (image .entry)) g) (g .keys) (ownEntry catalog) (16 * catalog .size)) ⌝ }
 {
-    if !all_legal(image, g, catalog) {
+    let classes = names::classes();
+    if !all_legal(image, g, catalog, &classes) {
         return false;
     }
     let Found::At(_) = find(image, g, names::sys_name(), catalog.size) else {

@@ -32,12 +32,6 @@ use Rattle.files.specs.declared.Entry.{Entry}
 use Rattle.files.specs.Live.{liveOf, indexBy, lengthBy}
 use Rattle.files.specs.Rules.{FileNumbers, FileRules, OwnMarking, FileMarking}
 
-pub T-of : {b : Bool} → b ≡ true → T b
-T-of e = subst T (sym e) tt
-
-pub T-not : {b : Bool} → b ≡ false → T b → ⊥
-T-not e t = subst T e t
-
 -- ---- the numbers of an entry beside an open area process
 
 pub index-some : (n q : ℕ) → (n ≡ 0 → ⊥) → indexIf n q ≡ q

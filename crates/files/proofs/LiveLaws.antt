@@ -3,7 +3,7 @@ use mathlib.Core.Path.{_≡_, refl, sym, ap, ap₂, _∙_}
 use mathlib.Core.Bool.{Bool, true, false, cond, _&&_}
 use mathlib.Core.List.{List, [], _∷_}
 use mathlib.Core.Option.{Option, none, some}
-use Prim.Native.Nat.{ℕ, suc, _+_, _-_, _≤_, _<_}
+use Prim.Native.Nat.{ℕ, zero, suc, _+_, _-_, _≤_, _<_}
 use native.Mathlib.Nat.{add-zero}
 use native.Mathlib.Numerals.{add-one}
 use native.Mathlib.Omega.{arith}
@@ -17,32 +17,55 @@ use Rattle.types.specs.State.{pastArea}
 use Rattle.disc.proofs.Compare.{same-or}
 use Rattle.sound.specs.State.{areaName, firstOpen, openArea, liveIndex, liveLength}
 use Rattle.files.specs.declared.Live.{Live}
-use Rattle.files.specs.Live.{closedFile, liveOf, indexBy, lengthBy, liveFrom, liveIn, openName, FlatOf}
+use Rattle.files.specs.Live.{closedFile, liveOf, indexBy, lengthBy, liveFrom, liveIn, openName, FlatOf, OpenUpto}
 
 module _ (names indexes lengths : List ℕ) (name : ℕ) where
   abbrev From : ℕ → ℕ → Live
   From = liveFrom names indexes lengths name
 
-  pub live-start : liveIn names indexes lengths name ≡ From 0 (8 - 0)
-  unfolding liveIn
-  live-start = refl
+  -- the start of the search among n names, a turn of it, and its end
+  module _ (n : ℕ) where
+    pub live-start : liveIn names indexes lengths n name ≡ From 0 (n - 0)
+    unfolding liveIn
+    live-start = let e : n ≡ n - 0 = omega arith in ap (From 0) e
 
-  -- a turn of the search, and its end
-  pub live-hit : (j : ℕ) → j < 8 → getD names j 0 ≡ name → From j (8 - j) ≡ record { opened = true; index = getD indexes j 0; length = getD lengths j 0 }
-  unfolding liveFrom
-  live-hit j h e =
-      let n : 8 - j ≡ suc (7 - j) = omega arith in
-      rw (n, eq-eqb (getD names j 0) name e)
+    pub live-hit : (j : ℕ) → j < n → getD names j 0 ≡ name → From j (n - j) ≡ record { opened = true; index = getD indexes j 0; length = getD lengths j 0 }
+    unfolding liveFrom
+    live-hit j h e =
+        let m : n - j ≡ suc (n - (j + 1)) = omega arith in
+        rw (m, eq-eqb (getD names j 0) name e)
 
-  pub live-miss : (j : ℕ) → j < 8 → (getD names j 0 ≡ name → ⊥) → From j (8 - j) ≡ From (j + 1) (8 - (j + 1))
-  unfolding liveFrom
-  live-miss j h d =
-      let n : 8 - j ≡ suc (8 - (j + 1)) = omega arith in
-      rw (n, ne-eqb (getD names j 0) name d, add-one)
+    pub live-miss : (j : ℕ) → j < n → (getD names j 0 ≡ name → ⊥) → From j (n - j) ≡ From (j + 1) (n - (j + 1))
+    unfolding liveFrom
+    live-miss j h d =
+        let m : n - j ≡ suc (n - (j + 1)) = omega arith in
+        rw (m, ne-eqb (getD names j 0) name d, add-one)
 
-  pub live-end : (j : ℕ) → 8 ≤ j → From j (8 - j) ≡ closedFile
-  unfolding liveFrom
-  live-end j h = let n : 8 - j ≡ 0 = omega arith in rw n
+    pub live-end : (j : ℕ) → n ≤ j → From j (n - j) ≡ closedFile
+    unfolding liveFrom
+    live-end j h = let m : n - j ≡ 0 = omega arith in rw m
+
+  -- names past n that are all 0 add nothing
+  module _ (named : name ≡ 0 → ⊥) where
+    live-none : (j d : ℕ) → ((i : ℕ) → i < d → getD names (j + i) 0 ≡ 0) → From j d ≡ closedFile
+    unfolding liveFrom
+    live-none j zero z = refl
+    live-none j (suc d) z =
+        let e : getD names j 0 ≡ 0 = ap (λ (n : ℕ). getD names n 0) (sym (add-zero j)) ∙ z 0 (omega arith) in
+        rw (ne-eqb (getD names j 0) name (λ s. named (sym s ∙ e)))
+        (live-none (suc j) d (λ i h. ap (λ (n : ℕ). getD names n 0) (let f : suc j + i ≡ j + suc i = omega arith in f) ∙ z (suc i) (omega arith)))
+
+    live-more : (j n m : ℕ) → n ≤ m → ((i : ℕ) → n ≤ i → i < m → getD names (j + i) 0 ≡ 0) → From j n ≡ From j m
+    unfolding liveFrom
+    live-more j zero m l z = sym (live-none j m (λ i h. z i (omega arith) h))
+    live-more j (suc n) zero l z = absurd (omega arith)
+    live-more j (suc n) (suc m) l z =
+        ap (cond (eqb (getD names j 0) name) (record { opened = true; index = getD indexes j 0; length = getD lengths j 0 }))
+        (live-more (suc j) n m (omega arith) (λ i k h. ap (λ (n : ℕ). getD names n 0) (let f : suc j + i ≡ j + suc i = omega arith in f) ∙ z (suc i) (omega arith) (omega arith)))
+
+    pub live-all : {n : ℕ} → OpenUpto names n → liveIn names indexes lengths n name ≡ From 0 8
+    unfolding liveIn
+    live-all {n} u = live-more 0 n 8 (u .eight) (λ i k h. ap (λ (n : ℕ). getD names n 0) (let f : 0 + i ≡ i = omega arith in f) ∙ u .none i k h)
 
 -- ---- the state's area process
 
@@ -90,10 +113,11 @@ module _ (names indexes lengths : List ℕ) (name : ℕ) (named : name ≡ 0 →
           let f : getD names j 0 ≡ 0 = first ∙ ap (λ (b : Bool). cond b (areaName a) 0) e in
           pass rest (ne-eqb (getD names j 0) name (λ s. named (sym s ∙ f))) (ap (λ (b : Bool). b && eqb (areaName a) name) e)
 
-  pub live-state : (state : State) → length (state .areas) ≡ 8 → FlatOf state names indexes lengths → liveIn names indexes lengths name ≡ liveOf (openArea state name)
-  unfolding liveIn
-  live-state state eight flat =
-      ap (liveFrom names indexes lengths name 0) (sym eight)
+  pub live-state : {n : ℕ} (state : State) → length (state .areas) ≡ 8 → FlatOf state names indexes lengths → OpenUpto names n
+      → liveIn names indexes lengths n name ≡ liveOf (openArea state name)
+  live-state state eight flat upto =
+      live-all names indexes lengths name named upto
+      ∙ ap (liveFrom names indexes lengths name 0) (sym eight)
       ∙ live-list (state .areas) 0
       (λ i h. ap (λ (n : ℕ). getD names n 0) (zero-plus i) ∙ flat .name i (omega arith))
       (λ i h. ap (λ (n : ℕ). getD indexes n 0) (zero-plus i) ∙ flat .index i (omega arith))

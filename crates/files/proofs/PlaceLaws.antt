@@ -8,10 +8,10 @@ use Rattle.kit.specs.declared.Geometry.{Geometry}
 use Rattle.marks.specs.Marked.{Marked}
 use Rattle.marks.proofs.MarkLaws.{marks}
 use Rattle.sound.specs.Sound.{heldBy}
+use Rattle.entries.proofs.PlaceLaws.{T-of, T-not}
 use Rattle.files.specs.declared.Live.{Live}
 use Rattle.files.specs.Rules.{entryOf, FileRules, fileSlices, FileMarking}
 use Rattle.files.specs.Walk.{nameBy, placeSlices, PlaceRules, PlaceMarking}
-use Rattle.files.proofs.FileLaws.{T-of, T-not}
 use Rattle.files.proofs.SequenceLaws.{marking-map}
 
 pub held-zero : (n : ℕ) (l : List ℕ) → n ≡ 0 → heldBy n l ≡ []

@@ -11,14 +11,15 @@ use Rattle.disc.specs.Names.{legalName}
 use Rattle.disc.specs.Entries.{nameAt}
 use Rattle.kit.specs.declared.Geometry.{Geometry}
 use Rattle.marks.specs.Marked.{Marked}
+use Rattle.entries.specs.Sys.{sysSlices, placesIn}
 use Rattle.sound.specs.Places.{Unused, slicesFrom}
 use Rattle.sound.specs.State.{openArea}
 use Rattle.sound.specs.Sound.{slicesOf, heldBy, slicesBelow}
 use Rattle.sound.specs.Parts.{Marking}
 use Rattle.files.specs.declared.Live.{Live}
-use Rattle.files.specs.Live.{liveOf, indexBy, liveIn, FlatOf}
+use Rattle.files.specs.Live.{liveOf, indexBy, liveIn, FlatOf, OpenUpto}
 use Rattle.files.specs.Rules.{entryOf, FileRules}
-use Rattle.files.specs.Walk.{placeSlices, joined, PlaceRules, PlacesMarking, sysSlices, placesIn, NamesKnown, SoundFiles}
+use Rattle.files.specs.Walk.{placeSlices, joined, PlaceRules, PlacesMarking, NamesKnown, SoundFiles}
 use Rattle.files.proofs.LiveLaws.{live-state, index-of}
 use Rattle.files.proofs.FileLaws.{rules-sound, sound-rules}
 use Rattle.files.proofs.SequenceLaws.{marking-map}
@@ -34,15 +35,15 @@ held-same : (n : ℕ) {a b : List ℕ} → ((n ≡ 0 → ⊥) → a ≡ b) → h
 held-same zero e = refl
 held-same (suc n) e = ap (heldBy (suc n)) (e (λ z. omega arith))
 
-module _ (image : List ℕ) (state : State) (g : Geometry) (names indexes lengths : List ℕ) (eight : length (state .areas) ≡ 8) (flat : FlatOf state names indexes lengths) where
+module _ (image : List ℕ) (state : State) (g : Geometry) (names indexes lengths : List ℕ) {upto : ℕ} (eight : length (state .areas) ≡ 8) (flat : FlatOf state names indexes lengths) (none : OpenUpto names upto) where
   abbrev P : ℕ → ℕ → ℕ
   P = placesIn image g
 
   abbrev lives : ℕ → Live
-  lives = liveIn names indexes lengths
+  lives = liveIn names indexes lengths upto
 
   live-at : (t : ℕ) → (nameAt P t ≡ 0 → ⊥) → lives (nameAt P t) ≡ liveOf (openArea state (nameAt P t))
-  live-at t d = live-state names indexes lengths (nameAt P t) d state eight flat
+  live-at t d = live-state names indexes lengths (nameAt P t) d state eight flat none
 
   slices-same : (t : ℕ) → placeSlices image g lives (P t) ≡ heldBy (nameAt P t) (slicesOf image state (g .first) (g .slice) P t)
   unfolding placeSlices

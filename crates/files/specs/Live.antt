@@ -3,7 +3,7 @@ use mathlib.Core.Path.{_≡_}
 use mathlib.Core.Bool.{true, false, cond}
 use mathlib.Core.List.{List}
 use mathlib.Core.Option.{Option, none, some}
-use Prim.Native.Nat.{ℕ, zero, suc, _<_}
+use Prim.Native.Nat.{ℕ, zero, suc, _≤_, _<_}
 use lib.ListN.{getD}
 use lib.Dec.{eqb}
 use Rattle.types.specs.declared.Area.{Area}
@@ -34,16 +34,21 @@ liveFrom names indexes lengths name j zero = closedFile
 liveFrom names indexes lengths name j (suc n) =
     cond (eqb (getD names j 0) name) (record { opened = true; index = getD indexes j 0; length = getD lengths j 0 }) (liveFrom names indexes lengths name (suc j) n)
 
--- "Eight area processes".
-unfoldable pub liveIn : List ℕ → List ℕ → List ℕ → ℕ → Live
-liveIn names indexes lengths name = liveFrom names indexes lengths name 0 8
+-- The same among the first `upto` names.
+unfoldable pub liveIn : List ℕ → List ℕ → List ℕ → ℕ → ℕ → Live
+liveIn names indexes lengths upto name = liveFrom names indexes lengths name 0 upto
 
 -- The name of an open descriptor, else 0.
 abbrev pub openName : Area → ℕ
 openName a = cond (a .live) (areaName a) 0
 
--- The lists hold what the state's descriptors say.
+-- "Eight area processes": the lists hold what the state's descriptors say.
 pub record FlatOf (state : State) (names indexes lengths : List ℕ) : Type 0 where
   pub name : (j : ℕ) → j < 8 → getD names j 0 ≡ openName (areaAt state j)
   pub index : (j : ℕ) → j < 8 → getD indexes j 0 ≡ areaAt state j .index .0
   pub length : (j : ℕ) → j < 8 → getD lengths j 0 ≡ areaAt state j .length
+
+-- No descriptor from descriptor n on is open.
+pub record OpenUpto (names : List ℕ) (n : ℕ) : Type 0 where
+  pub eight : n ≤ 8
+  pub none : (j : ℕ) → n ≤ j → j < 8 → getD names j 0 ≡ 0

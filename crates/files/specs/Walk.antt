@@ -8,14 +8,14 @@ use lib.Dec.{T}
 use Rattle.types.specs.declared.State.{State}
 use Rattle.disc.specs.Names.{pack, legalName, isSystem}
 use Rattle.disc.specs.Kit.{sysIndexSector}
-use Rattle.disc.specs.Stretches.{slicesAt}
 use Rattle.disc.specs.Entries.{nameAt}
 use Rattle.sound.specs.Places.{Used, IndexBlock}
-use Rattle.sound.specs.Sound.{heldBy, sysPlaces, SoundFile}
+use Rattle.sound.specs.Sound.{heldBy, SoundFile}
 use Rattle.sound.specs.Parts.{Marking}
 use Rattle.kit.specs.declared.Geometry.{Geometry}
 use Rattle.kit.specs.Geometry.{UnitOf}
 use Rattle.marks.specs.Marked.{Marked}
+use Rattle.entries.specs.Sys.{sysSlices, placesIn}
 use Rattle.files.specs.declared.Live.{Live}
 use Rattle.files.specs.Rules.{entryOf, wordsAt, fileSlices, FileRules}
 
@@ -48,13 +48,6 @@ pub record PlacesMarking (image : List ℕ) (g : Geometry) (lives : ℕ → Live
 -- The places that stand one after the other from an index of the image on: "Entry, 16 words".
 abbrev pub placesFrom : List ℕ → ℕ → ℕ → ℕ → ℕ
 placesFrom image at i = wordsAt image (at + 16 * i)
-
--- The slices that SYS's index block in sector 6 describes, and the places in them.
-abbrev pub sysSlices : List ℕ → Geometry → List ℕ
-sysSlices image g = slicesAt image (g .first) (g .slice) sysIndexSector
-
-abbrev pub placesIn : List ℕ → Geometry → ℕ → ℕ → ℕ
-placesIn image g = sysPlaces image (g .first) (g .slice) (sysSlices image g)
 
 -- What is known of SYS by then: its index block is legal, its slices are marked, and its slices have room for the blocks.
 pub record SysKnown (image : List ℕ) (g : Geometry) (marks : List ℕ) (blocks : ℕ) : Type 0 where

@@ -2,30 +2,26 @@
 // stretches, and the slices that the files have are marked.
 
 ghost use mathlib.Core.Path.{_≡_};
-ghost use Prim.Native.Nat.{_+_, _*_, _≤_, min};
+ghost use Prim.Native.Nat.{_+_, _*_, _≤_};
 ghost use lib.ListN.{length};
 ghost use Rattle.disc.specs.Decide.{Decides};
 ghost use Rattle.disc.specs.Numbers.{need};
 ghost use Rattle.disc.specs.Attributes.{legalAttributes, legalWith, entryOnly};
 ghost use Rattle.disc.specs.Names.{isSystem};
-ghost use Rattle.disc.specs.Kit.{sysIndexSector};
-ghost use Rattle.disc.specs.Pairs.{pairLength, pairStart};
 ghost use Rattle.disc.specs.Entries.{placeCount};
 ghost use Rattle.sound.specs.Places.{Booked};
 ghost use Rattle.sound.specs.Sound.{slicesBelow};
 ghost use Rattle.sound.specs.Parts.{Marking};
-ghost use Rattle.files.specs.Live.{indexBy, lengthBy, liveIn, openName, FlatOf};
+ghost use Rattle.files.specs.Live.{indexBy, lengthBy, liveIn, openName, FlatOf, OpenUpto};
 ghost use Rattle.kit.specs.Geometry.{UnitOf};
 ghost use Rattle.marks.specs.Marked.{SomeMarked};
-ghost use Rattle.files.specs.Walk.{nameBy, placesFrom, placesIn, sysSlices, PlaceMarking, PlacesMarking, SysKnown, NamesKnown, SoundFiles};
+ghost use Rattle.entries.specs.Sys.{sysSlices, placesIn};
+ghost use Rattle.files.specs.Walk.{nameBy, placesFrom, PlaceMarking, PlacesMarking, SysKnown, NamesKnown, SoundFiles};
 ghost use Rattle.files.specs.Rules.{wordsAt, entryAt, FileNumbers, OwnMarking, FileMarking};
 use kit::Geometry;
 use marks::Indexed;
 use types::Area;
 use types::State;
-
-// The image's index of the first word of SYS's index block.
-const SYS_INDEX: usize = 6 * 256;
 
 // What is known of a file's area process: whether it is open, and then its index sector and length.
 pub struct Live {
@@ -112,12 +108,33 @@ pub fn flatten(state: State, names: &mut [u64; 8], indexes: &mut [u16; 8], lengt
     }
 }
 
-// What the lists say of a name.
-pub fn live_of(names: &[u64; 8], indexes: &[u16; 8], lengths: &[u16; 8], name: u64) -> Live
-    ensures { λ r. ⌜ r ≡ liveIn (now (names .entry)) (now (indexes .entry)) (now (lengths .entry)) name ⌝ }
+// How many names have to be compared: no descriptor from there on is open.
+fn open_upto(names: &[u64; 8]) -> usize
+    ensures { λ r. ⌜ OpenUpto (now (names .entry)) r ⌝ }
+{
+    let mut n: usize = 8;
+    while 0 < n {
+        if names[n - 1] != 0 {
+            return n;
+        }
+        n -= 1;
+    }
+    n
+}
+
+// What the first `upto` numbers of the lists say of a name.
+pub fn live_of(
+    names: &[u64; 8],
+    indexes: &[u16; 8],
+    lengths: &[u16; 8],
+    upto: usize,
+    name: u64,
+) -> Live
+    requires { ⌜ upto ≤ 8 ⌝ }
+    ensures { λ r. ⌜ r ≡ liveIn (now (names .entry)) (now (indexes .entry)) (now (lengths .entry)) upto name ⌝ }
 {
     let mut j: usize = 0;
-    while j < 8 {
+    while j < upto {
         if names[j] == name {
             return Live {
                 opened: true,
@@ -271,11 +288,12 @@ fn place_sound(
     names: &[u64; 8],
     indexes: &[u16; 8],
     lengths: &[u16; 8],
+    upto: usize,
     g: Geometry,
     marks: &mut [u8; 4096],
 ) -> bool
-    requires { ⌜ UnitOf (now image) g × SomeMarked (g .slices) (now marks) × (at + 16 ≤ length (now image)) ⌝ }
-    ensures { λ r. ⌜ PlaceMarking (now (image .entry)) g (liveIn (now (names .entry)) (now (indexes .entry)) (now (lengths .entry))) (wordsAt (now (image .entry)) at) (now (marks .entry)) (now (marks .exit)) r ⌝ }
+    requires { ⌜ UnitOf (now image) g × SomeMarked (g .slices) (now marks) × (at + 16 ≤ length (now image)) × (upto ≤ 8) ⌝ }
+    ensures { λ r. ⌜ PlaceMarking (now (image .entry)) g (liveIn (now (names .entry)) (now (indexes .entry)) (now (lengths .entry)) upto) (wordsAt (now (image .entry)) at) (now (marks .entry)) (now (marks .exit)) r ⌝ }
 {
     let name = name_at(image, at);
     if name == 0 {
@@ -284,7 +302,7 @@ fn place_sound(
     if is_system(name) {
         return true;
     }
-    let live = live_of(names, indexes, lengths, name);
+    let live = live_of(names, indexes, lengths, upto, name);
     file_sound(image, at, live, g, marks)
 }
 
@@ -296,46 +314,21 @@ fn run_sound(
     names: &[u64; 8],
     indexes: &[u16; 8],
     lengths: &[u16; 8],
+    upto: usize,
     g: Geometry,
     marks: &mut [u8; 4096],
 ) -> bool
-    requires { ⌜ UnitOf (now image) g × SomeMarked (g .slices) (now marks) × (at + 16 * count ≤ length (now image)) ⌝ }
-    ensures { λ r. ⌜ PlacesMarking (now (image .entry)) g (liveIn (now (names .entry)) (now (indexes .entry)) (now (lengths .entry))) (placesFrom (now (image .entry)) at) count (now (marks .entry)) (now (marks .exit)) r ⌝ }
+    requires { ⌜ UnitOf (now image) g × SomeMarked (g .slices) (now marks) × (at + 16 * count ≤ length (now image)) × (upto ≤ 8) ⌝ }
+    ensures { λ r. ⌜ PlacesMarking (now (image .entry)) g (liveIn (now (names .entry)) (now (indexes .entry)) (now (lengths .entry)) upto) (placesFrom (now (image .entry)) at) count (now (marks .entry)) (now (marks .exit)) r ⌝ }
 {
     let mut i: usize = 0;
     while i < count {
-        if !place_sound(image, at + 16 * i, names, indexes, lengths, g, marks) {
+        if !place_sound(image, at + 16 * i, names, indexes, lengths, upto, g, marks) {
             return false;
         }
         i += 1;
     }
     true
-}
-
-// The length in sectors of pair j of SYS's index block.
-fn pair_length(image: &[u16], j: usize) -> u16
-    requires { ⌜ (j ≤ 126) × (2560 ≤ length (now image)) ⌝ }
-    ensures { λ r. ⌜ r ≡ pairLength (now (image .entry)) sysIndexSector j ⌝ }
-{
-    image[SYS_INDEX + (2 * j + 1)]
-}
-
-// The first sector of pair j of SYS's index block.
-fn pair_start(image: &[u16], j: usize) -> u16
-    requires { ⌜ (j ≤ 126) × (2560 ≤ length (now image)) ⌝ }
-    ensures { λ r. ⌜ r ≡ pairStart (now (image .entry)) sysIndexSector j ⌝ }
-{
-    image[SYS_INDEX + (2 * j + 2)]
-}
-
-// The lesser of two numbers.
-fn lesser(a: u16, b: u16) -> u16
-    ensures { λ r. ⌜ r ≡ min a b ⌝ }
-{
-    if a < b {
-        return a;
-    }
-    b
 }
 
 // Judges the places of the first `size` blocks of SYS, stretch by stretch.
@@ -345,24 +338,26 @@ fn stretches_sound(
     names: &[u64; 8],
     indexes: &[u16; 8],
     lengths: &[u16; 8],
+    upto: usize,
     g: Geometry,
     marks: &mut [u8; 4096],
 ) -> bool
-    requires { ⌜ SysKnown (now image) g (now marks) size ⌝ }
-    ensures { λ r. ⌜ PlacesMarking (now (image .entry)) g (liveIn (now (names .entry)) (now (indexes .entry)) (now (lengths .entry))) (placesIn (now (image .entry)) g) (16 * size) (now (marks .entry)) (now (marks .exit)) r ⌝ }
+    requires { ⌜ SysKnown (now image) g (now marks) size × (upto ≤ 8) ⌝ }
+    ensures { λ r. ⌜ PlacesMarking (now (image .entry)) g (liveIn (now (names .entry)) (now (indexes .entry)) (now (lengths .entry)) upto) (placesIn (now (image .entry)) g) (16 * size) (now (marks .entry)) (now (marks .exit)) r ⌝ }
 {
     let mut b: u16 = 0;
     let mut j: usize = 0;
     while b < size {
-        let n = lesser(pair_length(image, j), size - b);
-        let start = pair_start(image, j);
+        let n = entries::lesser(entries::pair_length(image, j), size - b);
+        let start = entries::pair_start(image, j);
         if !run_sound(
             image,
-            start as usize * 256,
+            start.0 as usize * 256,
             16 * n as usize,
             names,
             indexes,
             lengths,
+            upto,
             g,
             marks,
         ) {
@@ -389,5 +384,15 @@ pub fn files_sound(
     let mut indexes: [u16; 8] = [0; 8];
     let mut lengths: [u16; 8] = [0; 8];
     flatten(state, &mut names, &mut indexes, &mut lengths);
-    stretches_sound(image, g.keys * layers, &names, &indexes, &lengths, g, marks)
+    let upto = open_upto(&names);
+    stretches_sound(
+        image,
+        g.keys * layers,
+        &names,
+        &indexes,
+        &lengths,
+        upto,
+        g,
+        marks,
+    )
 }

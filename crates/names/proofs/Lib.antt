@@ -1,2 +1,3 @@
 mod LegalLaws
+mod ClassLaws
 pub mod NameIsLaws

@@ -1,1 +1,2 @@
 pub mod NameIs
+pub mod Classes

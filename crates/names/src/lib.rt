@@ -5,6 +5,7 @@ ghost use mathlib.Core.Bool.{_||_};
 ghost use lib.Dec.{eqb};
 ghost use Rattle.disc.specs.Names.{pack, letter, digit, legalName, capital, capitals, named, unitIn, SYS, MAP, isSystem};
 ghost use Rattle.names.specs.NameIs.{NameIs};
+ghost use Rattle.names.specs.Classes.{classOf, ClassesOf};
 use types::Name;
 
 // 'SYS' and 'MAP' as numbers.
@@ -133,4 +134,58 @@ pub fn legal(name: Name) -> bool
         return n % 65536 == 0;
     }
     n % 256 == 0
+}
+
+// What a character is in a name: 0 for the character 0, 1 for a capital letter or a digit, 2 for any other.
+fn class_of(c: u16) -> u8
+    ensures { λ r. ⌜ r ≡ classOf c ⌝ }
+{
+    if c == 0 {
+        return 0;
+    }
+    if is_letter_or_digit(c) {
+        return 1;
+    }
+    2
+}
+
+// The classes of all characters, to be filled once and lent while many names are judged.
+pub fn classes() -> [u8; 256]
+    ensures { λ r. ⌜ ClassesOf r ⌝ }
+{
+    let mut table = [0u8; 256];
+    let mut c = 0;
+    while c < 256 {
+        table[c] = class_of(c as u16);
+        c += 1;
+    }
+    table
+}
+
+// As `legal`, by the classes of the characters: no class is above the one before it. No test goes another way in one legal name
+// than in the next, so that a processor guesses each of them rightly.
+pub fn legal_by(name: Name, table: &[u8; 256]) -> bool
+    requires { ⌜ ClassesOf (now table) ⌝ }
+    ensures { λ r. ⌜ r ≡ legalName (pack (name .0) (name .1) (name .2)) ⌝ }
+{
+    if !is_letter(name.0 / 256) {
+        return false;
+    }
+    let second = table[(name.0 % 256) as usize];
+    let third = table[(name.1 / 256) as usize];
+    let fourth = table[(name.1 % 256) as usize];
+    let fifth = table[(name.2 / 256) as usize];
+    if 1 < second {
+        return false;
+    }
+    if second < third {
+        return false;
+    }
+    if third < fourth {
+        return false;
+    }
+    if fourth < fifth {
+        return false;
+    }
+    name.2 % 256 == 0
 }

@@ -13,17 +13,17 @@ use Rattle.alone.proofs.place_alone.Statement.{statement}
 use Rattle.alone.proofs.place_alone.Tie as tie
 
 -- the name, in the place of SYS
-name-of : (c : tie.After-place-name) → let a = c .before .before .before .args in NameIn (placesIn (a .image .now) (a .g)) (16 * a .b + a .i) (c .place-name .result)
+name-of : (c : tie.After-place-name) → let a = c .before .before .before .args in NameIn (placesIn (a .image .now) (a .g)) (16 * a .b .0 + a .i) (c .place-name .result)
 name-of c =
     let start = c .before .before .before in
     let a = start .args in
-    name-block (a .image .now) (a .g .first) (a .g .slice) (sysSlices (a .image .now) (a .g)) (a .b) (a .i) (a .q .0) (start .pre .2) (start .pre .1) (c .place-name .ensures)
+    name-block (a .image .now) (a .g .first) (a .g .slice) (sysSlices (a .image .now) (a .g)) (a .b .0) (a .i) (a .q .0) (start .pre .2) (start .pre .1) (c .place-name .ensures)
 
 place-name-requires : tie.Need-place-name-requires
 place-name-requires c κs =
     let start = c .before .before in
     let sys = start .pre .0 .sys in
-    (omega (arith, start .pre .1, sys-inside sys (start .args .b) (omega (arith, start .pre .0 .room)), sys .unit .size), start .pre .2)
+    (omega (arith, start .pre .1, sys-inside sys (start .args .b .0) (omega (arith, start .pre .0 .room)), sys .unit .size), start .pre .2)
 
 returns : tie.Need-returns
 returns c =

@@ -11,7 +11,7 @@ use Rattle.alone.proofs.sector_alone.Statement.{statement}
 use Rattle.alone.proofs.sector_alone.Tie as tie
 
 abbrev Inv-loop : tie.InvT-loop
-Inv-loop image g q b filter₀ i₀ filter i = (i ≤ 16) × (length filter ≡ 16384) × Passed (placesIn image g) filter (16 * b + i)
+Inv-loop image g q b filter₀ i₀ filter i = (i ≤ 16) × (length filter ≡ 16384) × Passed (placesIn image g) filter (16 * b .0 + i)
 
 abbrev μ-loop : tie.MeasureT-loop
 μ-loop image g q b filter₀ i₀ filter i = 16 - i

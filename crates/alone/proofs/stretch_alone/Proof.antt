@@ -12,10 +12,10 @@ use Rattle.alone.proofs.stretch_alone.Statement.{statement}
 use Rattle.alone.proofs.stretch_alone.Tie as tie
 
 abbrev Inv-loop : tie.InvT-loop
-Inv-loop image g n b filter₀ first c₀ filter c = (c ≤ n) × (length filter ≡ 16384) × Passed (placesIn image g) filter (16 * (b + c))
+Inv-loop image g n filter₀ first block c₀ filter c = (c ≤ n) × (length filter ≡ 16384) × Passed (placesIn image g) filter (16 * (block + c))
 
 abbrev μ-loop : tie.MeasureT-loop
-μ-loop image g n b filter₀ first c₀ filter c = n - c
+μ-loop image g n filter₀ first block c₀ filter c = n - c
 
 -- the filter keeps its length
 kept : (c : tie.After-sector-alone Inv-loop μ-loop) → length (c .sector-alone .last .1 .1 .1 .1 .0) ≡ 16384
@@ -24,11 +24,11 @@ kept c = c .sector-alone .kept .1 .1 .1 .1 .0 ∙ c .before .before .before .loo
 loop-holds : tie.Need-loop-holds Inv-loop μ-loop
 loop-holds c = let pre = c .before .before .pre in (omega arith, pre .3, passed-at (omega arith) (pre .4))
 
-add-t10 : tie.Need-add-t10 Inv-loop μ-loop
-add-t10 c = search needs
+add-t11 : tie.Need-add-t11 Inv-loop μ-loop
+add-t11 c = search needs
 
-add-sector-alone : tie.Need-add-sector-alone Inv-loop μ-loop
-add-sector-alone c =
+add-t13 : tie.Need-add-t13 Inv-loop μ-loop
+add-t13 c =
     let l = c .before .before .before .before .pre .0 in
     omega (arith, l .room, sys-small (l .sys), l .sys .unit .limits .sectors)
 
@@ -66,8 +66,8 @@ stretch-alone-spec =
     Inv-loop
     μ-loop
     loop-holds
-    add-t10
-    add-sector-alone
+    add-t11
+    add-t13
     sector-alone-requires
     same-length
     returns

@@ -16,12 +16,12 @@ use Rattle.entries.proofs.all_legal.Statement.{statement}
 use Rattle.entries.proofs.all_legal.Tie as tie
 
 abbrev Inv-loop : tie.InvT-loop
-Inv-loop image g catalog size b₀ j₀ b j =
+Inv-loop image g catalog classes size b₀ j₀ b j =
     (j ≤ word image 6 0) × (b ≤ catalog .size) × (b < catalog .size → b ≡ sectorsBefore image 6 j)
     × BlocksLegal image (g .first) (g .slice) (sysSlices image g) (g .keys) (ownEntry catalog) b
 
 abbrev μ-loop : tie.MeasureT-loop
-μ-loop image g catalog size b₀ j₀ b j = word image 6 0 - j
+μ-loop image g catalog classes size b₀ j₀ b j = word image 6 0 - j
 
 loop-holds : tie.Need-loop-holds Inv-loop μ-loop
 loop-holds c = (omega arith, omega arith, λ h. refl, blocks-none _ _ _ _)
@@ -55,7 +55,7 @@ stretch-legal-requires c κs =
     let at = c .before .before .before .before .before in
     let a = at .before .before .args in
     let pre = at .before .before .pre in
-    (t .fits, t .small, omega (arith, pre .1, mod-lt (at .loop .b) {m = a .g .keys} (omega (arith, pre .0 .unit .limits .keys-low))))
+    (t .fits, t .small, omega (arith, pre .1, mod-lt (at .loop .b) {m = a .g .keys} (omega (arith, pre .0 .unit .limits .keys-low))), pre .3)
 
 returns : tie.Need-returns Inv-loop μ-loop
 returns c =

@@ -1,11 +1,14 @@
 -- `entries::names_legal` meets its contract. Assumes nothing.
 use lib.Dec.{lit<}
 use borrow.Author.Needs.{needs}
-use Rattle.disc.proofs.DecideLaws.{holds, fails, refutes, grants}
+use Rattle.disc.proofs.DecideLaws.{fails, refutes}
 use Rattle.entries.proofs.FindLaws.{found-at, found-none}
-use Rattle.entries.proofs.NamesLaws.{met, not-met}
+use Rattle.entries.proofs.NamesLaws.{met, not-met, all-met}
 use Rattle.entries.proofs.names_legal.Statement.{statement}
 use Rattle.entries.proofs.names_legal.Tie as tie
+
+classes-requires : tie.Need-classes-requires
+classes-requires c κs = search needs
 
 all-legal-requires : tie.Need-all-legal-requires
 all-legal-requires c κs = search needs
@@ -52,16 +55,15 @@ returns-4 c =
     let map = c .before .before in
     let told = map .before .before in
     let sys = told .before .before in
-    holds (record {
-      places = grants _ (sys .before .before .before .all-legal .ensures) (sys .before .before .if1 .left);
-      sysMet = met (sys .before .sys-name .ensures .packed) (found-at (told .enum-told .given .1) (sys .find .ensures));
-      mapMet = met (map .before .map-name .ensures .packed) (found-at (c .enum-told3 .given .1) (map .find2 .ensures));
-    })
+    all-met (sys .before .before .before .all-legal .ensures) (sys .before .before .if1 .left)
+    (met (sys .before .sys-name .ensures .packed) (found-at (told .enum-told .given .1) (sys .find .ensures)))
+    (met (map .before .map-name .ensures .packed) (found-at (c .enum-told3 .given .1) (map .find2 .ensures)))
 
 pub names-legal-spec : {M : Type 1} → statement M
 names-legal-spec =
     tie.close
     (tie.spec
+    classes-requires
     all-legal-requires
     returns
     sys-name-requires

@@ -14,14 +14,14 @@ is-unused-requires c κs = search needs
 returns : tie.Need-returns
 returns c = judged-unused (c .before .before .before .place-name .ensures) (c .before .if1 .taken) (c .is-unused .ensures)
 
-legal-requires : tie.Need-legal-requires
-legal-requires c κs = search needs
+legal-by-requires : tie.Need-legal-by-requires
+legal-by-requires c κs = search needs
 
 returns-2 : tie.Need-returns-2
 returns-2 c =
     let first = c .before .before in
     let n = first .before .before .place-name .ensures in
-    fails (judged-name n (first-used n (first .if1 .left)) (c .before .legal .ensures) (c .if2 .taken))
+    fails (judged-name n (first-used n (first .if1 .left)) (c .before .legal-by .ensures) (c .if2 .taken))
 
 key-requires : tie.Need-key-requires
 key-requires c κs = search needs
@@ -41,7 +41,7 @@ returns-4 c =
     let legal = key .before .before in
     let first = legal .before in
     let n = first .before .before .place-name .ensures in
-    judged-rest n (first-used n (first .if1 .left)) (legal .legal .ensures) (key .before .if2 .left) (key .key .ensures) (c .before .if3 .left) (c .system-legal .ensures)
+    judged-rest n (first-used n (first .if1 .left)) (legal .legal-by .ensures) (key .before .if2 .left) (key .key .ensures) (c .before .if3 .left) (c .system-legal .ensures)
 
 pub place-legal-spec : {M : Type 1} → statement M
 place-legal-spec =
@@ -50,7 +50,7 @@ place-legal-spec =
     place-name-requires
     is-unused-requires
     returns
-    legal-requires
+    legal-by-requires
     returns-2
     key-requires
     returns-3

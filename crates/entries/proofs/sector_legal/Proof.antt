@@ -9,10 +9,10 @@ use Rattle.entries.proofs.sector_legal.Statement.{statement}
 use Rattle.entries.proofs.sector_legal.Tie as tie
 
 abbrev Inv-loop : tie.InvT-loop
-Inv-loop image q key catalog i₀ i = (i ≤ 16) × ((k : ℕ) → k < i → PlaceLegal (sectorPlaces image (q .0)) (catalog .keys) key (ownEntry catalog) k)
+Inv-loop image q key catalog classes i₀ i = (i ≤ 16) × ((k : ℕ) → k < i → PlaceLegal (sectorPlaces image (q .0)) (catalog .keys) key (ownEntry catalog) k)
 
 abbrev μ-loop : tie.MeasureT-loop
-μ-loop image q key catalog i₀ i = 16 - i
+μ-loop image q key catalog classes i₀ i = 16 - i
 
 loop-holds : tie.Need-loop-holds Inv-loop μ-loop
 loop-holds c = (omega arith, λ k h. absurd (omega arith))

@@ -12,19 +12,19 @@ use Rattle.entries.proofs.stretch_legal.Statement.{statement}
 use Rattle.entries.proofs.stretch_legal.Tie as tie
 
 abbrev Inv-loop : tie.InvT-loop
-Inv-loop image n key catalog first keys k₀ c₀ k c =
+Inv-loop image n key catalog classes first keys k₀ c₀ k c =
     (c ≤ n) × (k ≡ (key + c) % catalog .keys) × ((i : ℕ) → i < c → SectorLegal image (first + i) (catalog .keys) ((key + i) % catalog .keys) (ownEntry catalog))
 
 abbrev μ-loop : tie.MeasureT-loop
-μ-loop image n key catalog first keys k₀ c₀ k c = n - c
+μ-loop image n key catalog classes first keys k₀ c₀ k c = n - c
 
 loop-holds : tie.Need-loop-holds Inv-loop μ-loop
 loop-holds c =
     let a = c .before .args in
     (omega arith, sym (ap (λ (x : ℕ). x % a .catalog .keys) (add-zero (a .key)) ∙ mod-eq-of-lt (c .before .pre .2)), λ i h. absurd (omega arith))
 
-add-t11 : tie.Need-add-t11 Inv-loop μ-loop
-add-t11 c = search needs
+add-t12 : tie.Need-add-t12 Inv-loop μ-loop
+add-t12 c = search needs
 
 sector-legal-requires : tie.Need-sector-legal-requires Inv-loop μ-loop
 sector-legal-requires c κs = search needs
@@ -66,7 +66,7 @@ stretch-legal-spec =
     Inv-loop
     μ-loop
     loop-holds
-    add-t11
+    add-t12
     sector-legal-requires
     returns
     next-key-requires

@@ -2,7 +2,8 @@
 use Prim.Native.Nat.{_*_}
 use native.Mathlib.Omega.{arith}
 use Rattle.state.proofs.ShapeLaws.{areas-length}
-use Rattle.files.proofs.SysLaws.{sys-small}
+use Rattle.entries.proofs.SysLaws.{sys-small}
+use Rattle.files.proofs.SysLaws.{known-sys}
 use Rattle.files.proofs.SoundLaws.{files-marked}
 use borrow.Author.Needs.{needs}
 use Rattle.files.proofs.files_sound.Statement.{statement}
@@ -11,22 +12,29 @@ use Rattle.files.proofs.files_sound.Tie as tie
 flatten-requires : tie.Need-flatten-requires
 flatten-requires c κs = search needs
 
+open-upto-requires : tie.Need-open-upto-requires
+open-upto-requires c κs = search needs
+
 mul-stretches-sound : tie.Need-mul-stretches-sound
 mul-stretches-sound c =
-    let start = c .before .before .before .before .before .before in
-    let known = start .pre .0 in
-    omega (arith, known .room, sys-small known, known .unit .limits .sectors)
+    let flat = c .before .before .before in
+    let known = flat .before .before .before .before .before .pre .0 in
+    omega (arith, known .room, sys-small (known-sys known), known .unit .limits .sectors)
 
 stretches-sound-requires : tie.Need-stretches-sound-requires
-stretches-sound-requires c κs = search needs
+stretches-sound-requires c κs =
+    let upto = c .before .before .before .before .before in
+    let flat = upto .before .before in
+    (flat .before .before .before .before .before .pre .0, upto .open-upto .ensures .eight)
 
 returns : tie.Need-returns
 returns c =
-    let flat = c .before .before .before .before .before .before in
+    let upto = c .before .before .before .before .before .before in
+    let flat = upto .before .before in
     let start = flat .before .before .before .before .before in
     let a = start .args in
-    files-marked (a .image .now) (a .state) (a .g) _ _ _ (areas-length (a .state) _ (start .good .1 .0)) (flat .flatten .ensures) (16 * (a .g .keys * a .layers)) (start .pre .1) (c .stretches-sound .ensures) (start .pre .0 .marked)
+    files-marked (a .image .now) (a .state) (a .g) _ _ _ (areas-length (a .state) _ (start .good .1 .0)) (flat .flatten .ensures) (upto .open-upto .ensures) (16 * (a .g .keys * a .layers)) (start .pre .1) (c .stretches-sound .ensures) (start .pre .0 .marked)
 
 pub files-sound-spec : {M : Type 1} → statement M
 files-sound-spec =
-    tie.close (tie.spec flatten-requires mul-stretches-sound stretches-sound-requires returns)
+    tie.close (tie.spec flatten-requires open-upto-requires mul-stretches-sound stretches-sound-requires returns)

@@ -6,7 +6,8 @@ use native.Mathlib.Omega.{arith}
 use borrow.Author.Tests.{not-true, not-false}
 use Rattle.disc.specs.Numbers.{need}
 use Rattle.disc.proofs.DecideLaws.{fails, refutes, grants}
-use Rattle.files.proofs.FileLaws.{T-of, T-not, numbers-open, numbers-closed}
+use Rattle.entries.proofs.PlaceLaws.{T-of, T-not}
+use Rattle.files.proofs.FileLaws.{numbers-open, numbers-closed}
 use borrow.Author.Needs.{needs}
 use Rattle.files.proofs.numbers_legal.Statement.{statement}
 use Rattle.files.proofs.numbers_legal.Tie as tie

@@ -11,15 +11,15 @@ use Rattle.files.proofs.run_sound.Statement.{statement}
 use Rattle.files.proofs.run_sound.Tie as tie
 
 abbrev Inv-loop : tie.InvT-loop
-Inv-loop image at count names indexes lengths g marks₀ i₀ marks i =
-    (i ≤ count) × PlacesPassed image g (liveIn names indexes lengths) (placesFrom image at) marks₀ marks i
+Inv-loop image at count names indexes lengths upto g marks₀ i₀ marks i =
+    (i ≤ count) × PlacesPassed image g (liveIn names indexes lengths upto) (placesFrom image at) marks₀ marks i
 
 abbrev μ-loop : tie.MeasureT-loop
-μ-loop image at count names indexes lengths g marks₀ i₀ marks i = count - i
+μ-loop image at count names indexes lengths upto g marks₀ i₀ marks i = count - i
 
 -- what is known of the area processes
 abbrev lives : tie.At-loop Inv-loop μ-loop → ℕ → Live
-lives at = let a = at .before .before .args in liveIn (a .names .now) (a .indexes .now) (a .lengths .now)
+lives at = let a = at .before .before .args in liveIn (a .names .now) (a .indexes .now) (a .lengths .now) (a .upto)
 
 loop-holds : tie.Need-loop-holds Inv-loop μ-loop
 loop-holds c = (omega arith, places-none _ _ _ _ _)
@@ -34,7 +34,7 @@ place-sound-requires : tie.Need-place-sound-requires Inv-loop μ-loop
 place-sound-requires c κs =
     let at = c .before .before in
     let start = at .before .before in
-    (start .pre .0, places-some _ _ _ _ (at .loop .i) (at .loop .inv .1) (start .pre .1), omega arith)
+    (start .pre .0, places-some _ _ _ _ (at .loop .i) (at .loop .inv .1) (start .pre .1), omega arith, start .pre .3)
 
 returns : tie.Need-returns Inv-loop μ-loop
 returns c =

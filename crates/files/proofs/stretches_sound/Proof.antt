@@ -7,42 +7,39 @@ use borrow.Author.Needs.{needs}
 use borrow.Author.Tests.{not-true, not-false}
 use Rattle.disc.specs.Words.{word}
 use Rattle.disc.proofs.WalkLaws.{sectorsBefore}
-use Rattle.kit.proofs.KitLaws.{unit-long}
+use Rattle.entries.specs.Sys.{placesIn}
+use Rattle.entries.proofs.SysLaws.{Turn, turn}
 use Rattle.files.specs.declared.Live.{Live}
 use Rattle.files.specs.Live.{liveIn}
-use Rattle.files.specs.Walk.{placesIn}
 use Rattle.files.proofs.WalkLaws.{PlacesPassed, places-none, places-some, places-more, places-stop, places-all}
-use Rattle.files.proofs.SysLaws.{Turn, turn, turn-pair, turn-places, some-sys}
+use Rattle.files.proofs.SysLaws.{known-sys, some-sys, turn-places}
 use Rattle.files.proofs.stretches_sound.Statement.{statement}
 use Rattle.files.proofs.stretches_sound.Tie as tie
 
 abbrev Inv-loop : tie.InvT-loop
-Inv-loop image size names indexes lengths g marks₀ b₀ j₀ marks b j =
-    (j ≤ word image 6 0) × (b ≤ size) × (b < size → b ≡ sectorsBefore image 6 j) × PlacesPassed image g (liveIn names indexes lengths) (placesIn image g) marks₀ marks (16 * b)
+Inv-loop image size names indexes lengths upto g marks₀ b₀ j₀ marks b j =
+    (j ≤ word image 6 0) × (b ≤ size) × (b < size → b ≡ sectorsBefore image 6 j) × PlacesPassed image g (liveIn names indexes lengths upto) (placesIn image g) marks₀ marks (16 * b)
 
 abbrev μ-loop : tie.MeasureT-loop
-μ-loop image size names indexes lengths g marks₀ b₀ j₀ marks b j = word image 6 0 - j
+μ-loop image size names indexes lengths upto g marks₀ b₀ j₀ marks b j = word image 6 0 - j
 
 -- what is known of the area processes
 abbrev lives : tie.At-loop Inv-loop μ-loop → ℕ → Live
-lives at = let a = at .before .before .args in liveIn (a .names .now) (a .indexes .now) (a .lengths .now)
+lives at = let a = at .before .before .args in liveIn (a .names .now) (a .indexes .now) (a .lengths .now) (a .upto)
 
 -- the turn, known once its numbers are read
 turn-of : (c : tie.After-pair-start Inv-loop μ-loop) → let at = c .before .before .before .before in let a = at .before .before .args in
-    Turn (a .image .now) (a .g) (a .size) (at .loop .j) (at .loop .b) (c .before .lesser .result) (c .pair-start .result)
+    Turn (a .image .now) (a .g) (a .size) (at .loop .j) (at .loop .b) (c .before .lesser .result) (c .pair-start .result .0)
 turn-of c =
     let at = c .before .before .before .before in
-    turn (at .before .before .pre) (at .loop .j) (at .loop .inv .0) (at .loop .inv .2) (c .before .before .before .loop-test .taken) (c .before .before .pair-length .ensures) (c .before .lesser .ensures) (c .pair-start .ensures)
+    let known = at .before .before .pre .0 in
+    turn (known-sys known) (at .loop .j) (known .room) (at .loop .inv .0) (at .loop .inv .2) (c .before .before .before .loop-test .taken) (c .before .before .pair-length .ensures) (c .before .lesser .ensures) (c .pair-start .ensures)
 
 loop-holds : tie.Need-loop-holds Inv-loop μ-loop
 loop-holds c = (omega arith, omega arith, λ h. refl, places-none _ _ _ _ _)
 
 pair-length-requires : tie.Need-pair-length-requires Inv-loop μ-loop
-pair-length-requires c κs =
-    let at = c .before in
-    let known = at .before .before .pre in
-    let h = turn-pair known (at .loop .j) (at .loop .inv .0) (at .loop .inv .2) (c .loop-test .taken) in
-    (omega arith, unit-long (known .unit))
+pair-length-requires c κs = search needs
 
 sub-lesser : tie.Need-sub-lesser Inv-loop μ-loop
 sub-lesser c = search needs
@@ -51,11 +48,7 @@ lesser-requires : tie.Need-lesser-requires Inv-loop μ-loop
 lesser-requires c κs = search needs
 
 pair-start-requires : tie.Need-pair-start-requires Inv-loop μ-loop
-pair-start-requires c κs =
-    let at = c .before .before .before in
-    let known = at .before .before .pre in
-    let h = turn-pair known (at .loop .j) (at .loop .inv .0) (at .loop .inv .2) (c .before .before .loop-test .taken) in
-    (omega arith, unit-long (known .unit))
+pair-start-requires c κs = search needs
 
 cast-run-sound : tie.Need-cast-run-sound Inv-loop μ-loop
 cast-run-sound c = search needs
@@ -71,48 +64,51 @@ mul-run-sound-2 c = search needs
 
 run-sound-requires : tie.Need-run-sound-requires Inv-loop μ-loop
 run-sound-requires c κs =
-    let t = turn-of (c .before) in
-    let at = c .before .before .before .before .before in
-    let known = at .before .before .pre in
-    (known .unit, places-some _ _ _ _ _ (at .loop .inv .3) (some-sys known), omega (arith, t .fits))
+    let read = c .before .before in
+    let at = read .before .before .before .before in
+    let pre = at .before .before .pre in
+    let known = pre .0 in
+    (known .unit, places-some _ _ _ _ _ (at .loop .inv .3) (some-sys known), omega (arith, turn-of read .fits), pre .1)
 
 returns : tie.Need-returns Inv-loop μ-loop
 returns c =
-    let t = turn-of (c .before .before .before) in
-    let at = c .before .before .before .before .before .before .before in
+    let read = c .before .before .before .before in
+    let t = turn-of read in
+    let at = read .before .before .before .before in
     let a = at .before .before .args in
     places-stop (a .image .now) (a .g) (lives at) (placesIn (a .image .now) (a .g)) (16 * at .loop .b) (at .loop .inv .3) _ _ (turn-places t) (c .before .run-sound .ensures)
     (16 * a .size) (omega (arith, t .high)) (not-true _ (c .if1 .taken))
 
 add-b : tie.Need-add-b Inv-loop μ-loop
-add-b c = omega (arith, turn-of (c .before .before .before) .high)
+add-b c = search needs
 
 add-j : tie.Need-add-j Inv-loop μ-loop
-add-j c = let at = c .before .before .before .before .before .before .before in omega (arith, turn-of (c .before .before .before) .more, at .before .before .pre .index .few)
+add-j c = search needs
 
 loop-less : tie.Need-loop-less Inv-loop μ-loop
-loop-less c = omega (arith, turn-of (c .before .before .before) .more)
+loop-less c = omega (arith, turn-of (c .before .before .before .before) .more)
 
 loop-again : tie.Need-loop-again Inv-loop μ-loop
 loop-again c =
-    let t = turn-of (c .before .before .before) in
-    let at = c .before .before .before .before .before .before .before in
+    let read = c .before .before .before .before in
+    let t = turn-of read in
+    let at = read .before .before .before .before in
     let a = at .before .before .args in
-    let n = c .before .before .before .before .lesser .result in
+    let n = read .before .lesser .result in
     let e : 16 * at .loop .b + 16 * n ≡ 16 * (at .loop .b + n) = omega arith in (
       omega (arith, t .more),
       t .high,
       t .next,
       subst (PlacesPassed (a .image .now) (a .g) (lives at) (placesIn (a .image .now) (a .g)) _ _) e
           (places-more (a .image .now) (a .g) (lives at) (placesIn (a .image .now) (a .g)) (16 * at .loop .b) (at .loop .inv .3) _ _ (turn-places t) (c .before .run-sound .ensures)
-          (some-sys (at .before .before .pre)) (not-false _ (c .if1 .left))),
+          (some-sys (at .before .before .pre .0)) (not-false _ (c .if1 .left))),
     )
 
 returns-2 : tie.Need-returns-2 Inv-loop μ-loop
 returns-2 c =
     let at = c .before in
     let a = at .before .before .args in
-    places-all (a .image .now) (a .g) (lives at) (placesIn (a .image .now) (a .g)) (16 * at .loop .b) (at .loop .inv .3) (16 * a .size) (omega arith) (some-sys (at .before .before .pre))
+    places-all (a .image .now) (a .g) (lives at) (placesIn (a .image .now) (a .g)) (16 * at .loop .b) (at .loop .inv .3) (16 * a .size) (omega arith) (some-sys (at .before .before .pre .0))
 
 pub stretches-sound-spec : {M : Type 1} → statement M
 stretches-sound-spec =
