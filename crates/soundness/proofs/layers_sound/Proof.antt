@@ -2,7 +2,8 @@
 use native.Mathlib.Omega.{arith}
 use borrow.Author.Needs.{needs}
 use Rattle.disc.proofs.DecideLaws.{fails, refutes, grants}
-use Rattle.files.proofs.SysLaws.{sys-small}
+use Rattle.entries.proofs.SysLaws.{sys-small}
+use Rattle.files.proofs.SysLaws.{known-sys}
 use Rattle.soundness.proofs.LayerLaws.{names-legal, names-known, files-refused, map-decides}
 use Rattle.soundness.proofs.layers_sound.Statement.{statement}
 use Rattle.soundness.proofs.layers_sound.Tie as tie
@@ -16,7 +17,7 @@ returns c = fails (λ s. refutes _ (c .before .names-sound .ensures) (c .if1 .ta
 mul-areas-entered : tie.Need-mul-areas-entered
 mul-areas-entered c =
     let known = c .before .before .before .before .pre in
-    omega (arith, known .room, sys-small known, known .unit .limits .sectors)
+    omega (arith, known .room, sys-small (known-sys known), known .unit .limits .sectors)
 
 areas-entered-requires : tie.Need-areas-entered-requires
 areas-entered-requires c κs =
