@@ -19,6 +19,7 @@ use Rattle.catalog.proofs.PlaceLaws.{LiesIn, FirstWith, found-word, named-at, n
 use Rattle.plain.specs.Unit.{Plain, M, held, entry}
 use Rattle.sound.specs.Places.{Unused}
 use Rattle.refine.specs.Represents.{PlaceOf}
+use Rattle.refine.specs.Writes.{placeSector}
 use Rattle.refine.proofs.CatalogLaws.{at, name-zero}
 use Rattle.refine.proofs.Ground.{positive, sys-data, sys-slices, place-in}
 use Rattle.unit.specs.declared.Opened.{Opened}
@@ -29,6 +30,10 @@ use Rattle.unit.proofs.OpenLaws.{unit-ground, unit-named}
 -- a unit has a key
 pub some-key : {image : List ℕ} {o : Opened} → Searchable image o → 1 ≤ o .keys
 some-key h = omega (arith, h .on .good .limits .keys-low, h .numbers .keys)
+
+-- where a place of SYS begins
+pub place-start : {p : Plain} {t : ℕ} {place : Place} → PlaceIs p t place → placeStart place ≡ placeSector p t * 256 + t % 16 * 16
+place-start is = rw (is .sector, is .slot) refl
 
 module _ {image : List ℕ} {p : Plain} (on : CatalogOn image p) where
   abbrev P : ℕ → ℕ → ℕ

@@ -17,19 +17,22 @@ use Rattle.sound.specs.Parts.{SoundNames}
 use Rattle.entries.specs.Names.{LayersOf}
 use Rattle.entries.specs.Sys.{SysOf, sysSlices, placesIn}
 use Rattle.refine.specs.Represents.{PlaceOf}
-use Rattle.refine.specs.OnDisc.{OnDisc}
+use Rattle.refine.specs.OnDisc.{OnDisc, SomeOnDisc}
 use Rattle.refine.proofs.CatalogLaws.{Named, at}
 use Rattle.refine.proofs.Ground.{Ground, ground, entry-named, entry-legal, part-sys}
 use Rattle.refine.proofs.UnitFiles.{sys-read, sys-index}
 use Rattle.unit.specs.declared.Opened.{Opened}
-use Rattle.unit.specs.Opened.{NumbersOf, CatalogOn, Searchable, OpenedOn, unitPlaces}
+use Rattle.unit.specs.Opened.{NumbersOf, NumbersIn, CatalogOn, Searchable, OpenedOn, unitPlaces}
 
 -- the catalog of a unit on the image
 pub on-catalog : {image : List ℕ} {p : Plain} → OnDisc image p → CatalogOn image p
 on-catalog on = record { good = on .good; size = on .layout .size; sysIndex = on .layout .sysIndex; catalog = on .layout .catalog }
 
+pub opened : {image : List ℕ} {o : Opened} → SomeOnDisc image → NumbersIn image o → OpenedOn image o
+opened h n = record { unit = h .unit; on = h .on; numbers = n .all (h .unit) (h .on) }
+
 pub searchable : {image : List ℕ} {o : Opened} → OpenedOn image o → Searchable image o
-searchable opened = record { unit = opened .unit; on = on-catalog (opened .on); numbers = opened .numbers }
+searchable h = record { unit = h .unit; on = on-catalog (h .on); numbers = h .numbers }
 
 module _ {image : List ℕ} {p : Plain} (on : CatalogOn image p) where
   abbrev P : ℕ → ℕ → ℕ
