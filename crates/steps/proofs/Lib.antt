@@ -14,3 +14,9 @@ pub mod RenameStep
 pub mod ChangeUnit
 pub mod ChangeAreas
 pub mod ChangeMessage
+pub mod OutputStep
+pub mod AreaMessages
+pub mod AskLaws
+pub mod OutputUnit
+pub mod OutputMessage
+pub mod AreaUnit

@@ -11,13 +11,15 @@ use Rattle.disc.specs.Stretches.{sysFrom}
 use Rattle.disc.specs.Entries.{placeWord, placeCount, nameAt}
 use Rattle.words.specs.Store.{zeroWords}
 use Rattle.words.proofs.StoreLaws.{words-store, words-zeroWords}
+use Rattle.map.specs.Marks.{allFree}
 use Rattle.plain.specs.Table.{tableFind, tableRemove}
-use Rattle.plain.specs.Unit.{Plain, File, held, entry, withFiles, fileEntry}
+use Rattle.plain.specs.Unit.{Plain, File, held, freeSectors, entry, withFiles, fileEntry}
 use Rattle.plain.specs.Good.{Good}
 use Rattle.plain.proofs.TableLaws.{some≢none, weightAt, find-remove, find-remove-other, sorted-remove, total-remove, remove-some}
 use Rattle.plain.proofs.UnitLaws.{legal-positive, holds, occurrences-held, entry-other, not-system, mapSome}
 use Rattle.plain.proofs.TakingLaws.{places-remove}
 use Rattle.plain.proofs.KeepsAreas.{area-beside}
+use Rattle.refine.specs.Represents.{Layout}
 use Rattle.refine.specs.OnDisc.{OnDisc}
 use Rattle.refine.specs.Writes.{emptyPlace, removedImage}
 use Rattle.refine.proofs.Ground.{Ground, ground, entry-named, part-file}
@@ -73,11 +75,20 @@ module _ {i : List ℕ} {p : Plain} (o : OnDisc i p) (n : ℕ) (f : File) (found
         ap (weightAt (holds x) n) found,
       )
 
+  -- the place emptied, and the slices given back
+  emptied : Layout (emptyPlace p i t) p (freeSectors p) (held p) (entry left)
+  emptied =
+      let nz : n ≢ 0 = λ e. (let q = legal-positive n (o .good .files n f found .name) in omega arith) in
+      write-zero gr (o .layout) t in₀ (entry left) n (entry-named p (o .good .names)) stay gone was nz
+
+  pub freed-layout : Layout (allFree (emptyPlace p i t) (f .slices)) p (freeSectors p) (held left) (entry left)
+  freed-layout = write-freed gr emptied (f .slices) (held left) (o .good .once) given
+
+  pub freed-words : Words (allFree (emptyPlace p i t) (f .slices))
+  freed-words =
+      let w : Words (emptyPlace p i t) = words-store i _ (zeroWords 16) (o .words) (words-zeroWords 16) in
+      words-marks p gr 1 (omega arith) (f .slices) (emptyPlace p i t) (part-file p gr n f found) (long gr emptied) w
+
   pub remove-on : OnDisc (removedImage p i t f) (withFiles p (tableRemove n (p .files)))
   unfolding removedImage
-  remove-on =
-      let nz : n ≢ 0 = λ e. (let q = legal-positive n (o .good .files n f found .name) in omega arith) in
-      let r₁ = write-zero gr (o .layout) t in₀ (entry left) n (entry-named p (o .good .names)) stay gone was nz in
-      let r₂ = write-freed gr r₁ (f .slices) (held left) (o .good .once) given in
-      let w₁ : Words (emptyPlace p i t) = words-store i _ (zeroWords 16) (o .words) (words-zeroWords 16) in
-      counted-on good (words-marks p gr 1 (omega arith) (f .slices) (emptyPlace p i t) (part-file p gr n f found) (long gr r₁) w₁) (forget-file gr r₂ n)
+  remove-on = counted-on good freed-words (forget-file gr freed-layout n)

@@ -4,3 +4,4 @@ pub mod CountLaws
 pub mod UnusedLaws
 pub mod AskLaws
 pub mod LookUpLaws
+pub mod FileLaws

@@ -1,3 +1,5 @@
 pub mod Opened
 pub mod Find
+pub mod Files
 pub mod LookUp
+pub mod Stepped

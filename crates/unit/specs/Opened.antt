@@ -3,6 +3,7 @@ use mathlib.Core.Path.{_≡_}
 use mathlib.Core.List.{List}
 use Prim.Native.Nat.{ℕ, _*_}
 use lib.ListN.{length}
+use Rattle.types.specs.declared.State.{State}
 use Rattle.disc.specs.Words.{Holds}
 use Rattle.disc.specs.Stretches.{indexWords}
 use Rattle.disc.specs.Kit.{sysIndexSector}
@@ -11,7 +12,7 @@ use Rattle.catalog.specs.declared.Catalog.{Catalog}
 use Rattle.plain.specs.Unit.{Plain, M, entry}
 use Rattle.plain.specs.Good.{Good}
 use Rattle.sound.specs.Sound.{sysPlaces}
-use Rattle.refine.specs.Represents.{CatalogOf}
+use Rattle.refine.specs.Represents.{CatalogOf, Represents}
 use Rattle.refine.specs.OnDisc.{OnDisc}
 use Rattle.unit.specs.declared.Opened.{Opened}
 
@@ -31,6 +32,13 @@ pub record NumbersIn (image : List ℕ) (o : Opened) : Type 0 where
 pub record OpenedOn (image : List ℕ) (o : Opened) : Type 0 where
   pub unit : Plain
   pub on : OnDisc image unit
+  pub numbers : NumbersOf o unit
+
+-- The same with the state: what every message that asks about open areas starts from.
+pub record Represented (image : List ℕ) (state : State) (o : Opened) : Type 0 where
+  pub unit : Plain
+  pub good : Good unit
+  pub represents : Represents image state unit
   pub numbers : NumbersOf o unit
 
 -- The places of a unit's SYS.

@@ -1,4 +1,5 @@
-// What every catalog message begins with: the unit's numbers, a name's place in SYS, an unused place; and Look-up.
+// What every catalog message begins with: the unit's numbers, a name's place in SYS, an unused place, a file's index block, whether
+// a name is open; and Look-up.
 
 ghost use mathlib.Core.Path.{_≡_};
 ghost use Prim.Native.Nat.{_<_};
@@ -7,11 +8,14 @@ ghost use Rattle.catalog.specs.Catalog.{placeUnused};
 ghost use Rattle.refine.specs.OnDisc.{SomeOnDisc};
 ghost use Rattle.unit.specs.Opened.{NumbersIn, OpenedOn, Searchable, sysCatalog};
 ghost use Rattle.unit.specs.Find.{FindsName, FindsUnused};
+ghost use Rattle.unit.specs.Files.{BlockOf, nameOpen};
 ghost use Rattle.unit.specs.LookUp.{LooksUp};
 use catalog::Catalog;
 use catalog::Found;
+use index::IndexBlock;
 use types::Name;
 use types::Sector;
+use types::State;
 
 // The unit's numbers: H, s, F, M and L of document 01.
 pub struct Opened {
@@ -68,6 +72,26 @@ pub fn find_unused(image: &[u16], o: Opened, key: u16) -> Found
     ensures found { λ r. ⌜ FindsUnused (now (image .entry)) o key r ⌝ }
 {
     catalog::first_unused(image, sys_catalog(o), key)
+}
+
+// The index block of the ordinary file with the index sector given; that of a file with no slice, whose index sector is 0.
+pub fn file_block(image: &[u16], index: Sector) -> IndexBlock
+    ensures { λ r. ⌜ BlockOf (now (image .entry)) (index .0) (r .words) ⌝ }
+{
+    if index.0 == 0 {
+        return index::empty_block();
+    }
+    index::read_block(image, index)
+}
+
+// Whether a name, which is in capitals, has an area process.
+pub fn is_open(state: State, name: Name) -> bool
+    ensures { λ r. ⌜ r ≡ nameOpen (pack (name .0) (name .1) (name .2)) state ⌝ }
+{
+    match state::find_area(state, name) {
+        state::Found::At(_) => true,
+        state::Found::Absent => false,
+    }
 }
 
 // Look-up from question 3 on: the result word, and the entry in the first 16 lent words.

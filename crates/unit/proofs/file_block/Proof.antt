@@ -1,0 +1,20 @@
+-- `unit::file_block` meets its contract. Assumes nothing.
+use borrow.Author.Needs.{needs}
+use Rattle.unit.proofs.FileLaws.{block-none, block-some}
+use Rattle.unit.proofs.file_block.Statement.{statement}
+use Rattle.unit.proofs.file_block.Tie as tie
+
+empty-block-requires : tie.Need-empty-block-requires
+empty-block-requires c κs = search needs
+
+returns : tie.Need-returns
+returns c = block-none _ _ (c .before .if1 .taken) (c .empty-block .ensures)
+
+read-block-requires : tie.Need-read-block-requires
+read-block-requires c κs = search needs
+
+returns-2 : tie.Need-returns-2
+returns-2 c = block-some _ _ (c .before .if1 .left) (c .read-block .ensures)
+
+pub file-block-spec : {M : Type 1} → statement M
+file-block-spec = tie.close (tie.spec empty-block-requires returns read-block-requires returns-2)

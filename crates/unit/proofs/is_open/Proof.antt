@@ -1,0 +1,24 @@
+-- `unit::is_open` meets its contract. Assumes nothing.
+use mathlib.Core.Path.{sym, ap, _∙_}
+use borrow.Author.Needs.{needs}
+use Rattle.unit.specs.Files.{isFound}
+use Rattle.unit.proofs.is_open.Statement.{statement}
+use Rattle.unit.proofs.is_open.Tie as tie
+
+find-area-requires : tie.Need-find-area-requires
+find-area-requires c κs = search needs
+
+enum-told : tie.Need-enum-told
+enum-told c = search needs
+
+enum-told-2 : tie.Need-enum-told-2
+enum-told-2 c = search needs
+
+returns : tie.Need-returns
+returns c = sym (ap isFound (sym (c .before .before .find-area .ensures) ∙ c .enum-told .given .1))
+
+returns-2 : tie.Need-returns-2
+returns-2 c = sym (ap isFound (sym (c .before .before .find-area .ensures) ∙ c .enum-told2 .given .1))
+
+pub is-open-spec : {M : Type 1} → statement M
+is-open-spec = tie.close (tie.spec find-area-requires enum-told enum-told-2 returns returns-2)

@@ -1,0 +1,30 @@
+-- A file's index block, and whether it has an area process.
+use mathlib.Core.Path.{_≡_}
+use mathlib.Core.Bool.{Bool, true, false}
+use mathlib.Core.List.{List}
+use mathlib.Core.Option.{some}
+use Prim.Native.Nat.{ℕ}
+use lib.ListN.{length}
+use Rattle.types.specs.declared.State.{State}
+use Rattle.disc.specs.Entries.{indexSector}
+use Rattle.index.specs.Block.{wholeIndex}
+use Rattle.state.specs.declared.Found.{Found}
+use Rattle.state.specs.declared.Found.the-variants.{At, Absent}
+use Rattle.state.specs.Areas.{areaNamed}
+use Rattle.plain.specs.Table.{tableFind}
+use Rattle.plain.specs.Unit.{Plain, File}
+use Rattle.refine.specs.OnDisc.{OnDisc}
+
+-- "8 index sector (0 if none)": the words are the index block of every file, of every unit on the image, that has this index
+-- sector; those of a file with no slice are 0.
+pub record BlockOf (image : List ℕ) (index : ℕ) (words : List ℕ) : Type 0 where
+  pub all : (p : Plain) → OnDisc image p → (n : ℕ) (f : File) → tableFind n (p .files) ≡ some f
+      → index ≡ indexSector (p .F) (p .s) (length (f .slices)) (f .slices) → words ≡ wholeIndex (p .F) (p .s) (f .slices)
+
+-- "No area process": whether a search of the state found one, and whether name n has one.
+abbrev pub isFound : Found → Bool
+isFound (At j) = true
+isFound Absent = false
+
+abbrev pub nameOpen : ℕ → State → Bool
+nameOpen n state = isFound (areaNamed n state)
