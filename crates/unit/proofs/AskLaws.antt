@@ -5,6 +5,12 @@ use mathlib.Core.Option.{Option, none, some}
 use lib.Dec.{T}
 use Rattle.plain.specs.Questions.{Outcome, asks, given}
 
+pub true-yes : {b : Bool} → b ≡ true → T b
+true-yes e = rw e tt
+
+pub false-no : {b : Bool} → b ≡ false → T (not b)
+false-no e = rw e tt
+
 pub asks-yes : (b : Bool) (refusal next : Outcome) → T b → asks b refusal next ≡ next
 unfolding asks
 asks-yes true refusal next t = refl

@@ -1,10 +1,10 @@
 -- A file's index block by its index sector, a file by the place of its name, and whether a name is open in the state and in the unit.
-use mathlib.Core.Path.{_≡_, refl, sym, ap, _∙_}
+use mathlib.Core.Path.{_≡_, refl, sym, ap, ap₂, _∙_}
 use mathlib.Core.List.{List, []}
 use mathlib.Core.Logic.{_≢_}
-use mathlib.Core.Bool.{not}
+use mathlib.Core.Bool.{false, not}
 use mathlib.Core.Option.{Option, none, some}
-use Prim.Native.Nat.{ℕ, _*_, _<_}
+use Prim.Native.Nat.{ℕ, _*_, _≤_, _<_}
 use native.Mathlib.Omega.{arith}
 use lib.Dec.{T, T-not}
 use lib.ListN.{length, getD}
@@ -12,11 +12,12 @@ use Rattle.types.specs.declared.State.{State}
 use Rattle.disc.specs.Names.{isSystem}
 use Rattle.disc.specs.Entries.{indexSector}
 use Rattle.disc.proofs.Compare.{below-or}
+use Rattle.disc.proofs.DecideLaws.{true≢false}
 use Rattle.disc.proofs.EntryLaws.{sector-first, index-none, index-zero, entry-attributes, entry-size, entry-index}
 use Rattle.words.specs.Store.{zeroWords}
-use Rattle.index.specs.Block.{wholeIndex, blockAt}
-use Rattle.index.proofs.BlockLaws.{wholeIndex-none}
-use Rattle.index.proofs.ReadLaws.{read-block}
+use Rattle.index.specs.Block.{wholeIndex, blockAt, sliceTotal}
+use Rattle.index.proofs.BlockLaws.{wholeIndex-none, holds-wholeIndex}
+use Rattle.index.proofs.ReadLaws.{read-block, read-total}
 use Rattle.catalog.specs.declared.Place.{Place}
 use Rattle.catalog.specs.Catalog.{entryWord}
 use Rattle.state.specs.declared.Found.{Found}
@@ -27,14 +28,17 @@ use Rattle.plain.specs.Unit.{Plain, File, fileEntry}
 use Rattle.plain.specs.Good.{Good}
 use Rattle.plain.proofs.TableLaws.{some-inj}
 use Rattle.plain.proofs.UnitLaws.{entry-file}
+use Rattle.plain.proofs.QuestionLaws.{not-some}
 use Rattle.refine.specs.Represents.{SameAreas}
 use Rattle.refine.specs.OnDisc.{OnDisc, SomeOnDisc}
+use Rattle.refine.proofs.Ground.{ground, part-file}
 use Rattle.refine.proofs.StateLaws.{same-found, same-absent}
-use Rattle.steps.proofs.WriteLaws.{entry-of}
+use Rattle.steps.proofs.WriteLaws.{entry-of, part-few}
 use Rattle.unit.specs.declared.Opened.{Opened}
-use Rattle.unit.specs.Opened.{OpenedOn, Represented}
+use Rattle.unit.specs.Opened.{NumbersOf, OpenedOn, Represented}
 use Rattle.unit.specs.Find.{NameAt}
 use Rattle.unit.specs.Files.{BlockOf, isFound, nameOpen}
+use Rattle.unit.proofs.AskLaws.{false-no}
 
 -- ---- a represented unit is on its image
 
@@ -63,30 +67,57 @@ block-some image index d e = record {
       (λ none. absurd (d (at ∙ index-none (p .F) (p .s) (f .slices) none)));
 }
 
+-- the block of a file of the unit, and its number of slices
+module _ {image : List ℕ} {o : Opened} {p : Plain} {index : ℕ} {block : List ℕ} (on : OnDisc image p) (num : NumbersOf o p) (n : ℕ) (f : File)
+    (found : tableFind n (p .files) ≡ some f) (of : BlockOf image index block) (at : index ≡ indexSector (p .F) (p .s) (length (f .slices)) (f .slices)) where
+  pub block-is : block ≡ wholeIndex (p .F) (p .s) (f .slices)
+  block-is = of .all p on n f found at
+
+  pub block-total : sliceTotal (o .slice) block 0 ≡ length (f .slices)
+  block-total =
+      ap₂ (λ (s : ℕ) (w : List ℕ). sliceTotal s w 0) (num .slice) block-is
+      ∙ read-total (wholeIndex (p .F) (p .s) (f .slices)) (p .F) (p .s) 0 (f .slices) (on .good .files n f found .few)
+      (holds-wholeIndex (p .F) (p .s) (f .slices)) (omega (arith, on .good .limits .slice-low))
+
+  pub total-fits : (1 ≤ o .slice) × (sliceTotal (o .slice) block 0 < 65536)
+  total-fits =
+      let gr = ground p (on .good) in (
+        omega (arith, num .slice, on .good .limits .slice-low),
+        omega (arith, block-total, part-few p gr (f .slices) (part-file p gr n f found), on .good .limits .slices-high),
+      )
+
 -- ---- the file of a name that was found
 
-pub record FileAt (image : List ℕ) (p : Plain) (n : ℕ) (place : Place) : Type 0 where
-  pub f : File
-  pub file : tableFind n (p .files) ≡ some f
+pub found-file : {image : List ℕ} {p : Plain} {n : ℕ} {place : Place} → NameAt image p n place → T (not (isSystem n)) → (f : File) × (tableFind n (p .files) ≡ some f)
+found-file {p = p} {n = n} a ordinary = entry-file p n (rw (a .entered) tt) ordinary
+
+-- the words of its place
+pub record FileWords (image : List ℕ) (p : Plain) (place : Place) (f : File) : Type 0 where
   pub attributes : entryWord image place 6 ≡ f .attributes
   pub size : entryWord image place 7 ≡ f .booked
   pub index : entryWord image place 8 ≡ indexSector (p .F) (p .s) (f .bookedSlices) (f .slices)
 
-pub file-at : {image : List ℕ} {p : Plain} {n : ℕ} {place : Place} → Good p → NameAt image p n place → T (not (isSystem n)) → FileAt image p n place
-file-at {image} {p} {n} {place} g a ordinary =
-    let e = entry-file p n (rw (a .entered) tt) ordinary in
-    let f : File = e .0 in
-    let index : ℕ = indexSector (p .F) (p .s) (f .bookedSlices) (f .slices) in
-    let three = g .files n f (e .1) .optional .count in
-    let words : a .words ≡ fileEntry (p .F) (p .s) n f = some-inj (sym (a .entered) ∙ entry-of p n f ordinary (e .1)) in
-    let at : (w : ℕ) → w < 16 → entryWord image place w ≡ getD (fileEntry (p .F) (p .s) n f) w 0 = λ w x. a .holds w x ∙ ap (λ (l : List ℕ). getD l w 0) words in
-    record {
-      f = f;
-      file = e .1;
-      attributes = at 6 (omega arith) ∙ entry-attributes n (f .optional) (f .attributes) (f .booked) index (p .s * f .bookedSlices) (f .tail) three;
-      size = at 7 (omega arith) ∙ entry-size n (f .optional) (f .attributes) (f .booked) index (p .s * f .bookedSlices) (f .tail) three;
-      index = at 8 (omega arith) ∙ entry-index n (f .optional) (f .attributes) (f .booked) index (p .s * f .bookedSlices) (f .tail) three;
-    }
+module _ {image : List ℕ} {p : Plain} {n : ℕ} {place : Place} (g : Good p) (a : NameAt image p n place) (f : File) (found : tableFind n (p .files) ≡ some f) where
+  pub file-entry : a .words ≡ fileEntry (p .F) (p .s) n f
+  file-entry = some-inj (sym (a .entered) ∙ entry-of p n f (g .files n f found .ordinary) found)
+
+  pub file-words : FileWords image p place f
+  file-words =
+      let index : ℕ = indexSector (p .F) (p .s) (f .bookedSlices) (f .slices) in
+      let three = g .files n f found .optional .count in
+      let at : (w : ℕ) → w < 16 → entryWord image place w ≡ getD (fileEntry (p .F) (p .s) n f) w 0 = λ w x. a .holds w x ∙ ap (λ (l : List ℕ). getD l w 0) file-entry in
+      record {
+        attributes = at 6 (omega arith) ∙ entry-attributes n (f .optional) (f .attributes) (f .booked) index (p .s * f .bookedSlices) (f .tail) three;
+        size = at 7 (omega arith) ∙ entry-size n (f .optional) (f .attributes) (f .booked) index (p .s * f .bookedSlices) (f .tail) three;
+        index = at 8 (omega arith) ∙ entry-index n (f .optional) (f .attributes) (f .booked) index (p .s * f .bookedSlices) (f .tail) three;
+      }
+
+  -- with no area process the length and the slices are those booked
+  pub live-size : tableFind n (p .areas) ≡ none → entryWord image place 7 ≡ length (f .sectors)
+  live-size closed = file-words .size ∙ g .files n f found .closed closed .0
+
+  pub live-index : tableFind n (p .areas) ≡ none → entryWord image place 8 ≡ indexSector (p .F) (p .s) (length (f .slices)) (f .slices)
+  live-index closed = file-words .index ∙ ap (λ (b : ℕ). indexSector (p .F) (p .s) b (f .slices)) (g .files n f found .closed closed .1)
 
 -- SYS and MAP are no files
 pub system-none : (p : Plain) (n : ℕ) → Good p → T (isSystem n) → tableFind n (p .files) ≡ none
@@ -104,3 +135,13 @@ name-open {state} {p} r n = go (areaNamed n state) refl
     go : (found : Found) → areaNamed n state ≡ found → isFound found ≡ isSome (tableFind n (p .areas))
     go (At j) e = sym (ap isSome (same-found state p r n j e))
     go Absent e = sym (ap isSome (same-absent state p r n e))
+
+pub name-closed : {state : State} {p : Plain} → SameAreas state p → (n : ℕ) → nameOpen n state ≡ false → tableFind n (p .areas) ≡ none
+name-closed {p = p} r n e = not-some (tableFind n (p .areas)) (false-no (sym (name-open r n) ∙ e))
+
+pub name-absent : (n : ℕ) (state : State) → nameOpen n state ≡ false → areaNamed n state ≡ Absent
+name-absent n state e = go (areaNamed n state) refl
+  where
+    go : (found : Found) → areaNamed n state ≡ found → found ≡ Absent
+    go (At j) q = absurd (true≢false (sym (ap isFound q) ∙ e))
+    go Absent q = refl

@@ -5,3 +5,4 @@ pub mod UnusedLaws
 pub mod AskLaws
 pub mod LookUpLaws
 pub mod FileLaws
+pub mod StepLaws

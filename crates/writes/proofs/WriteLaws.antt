@@ -209,32 +209,32 @@ module _ {image block : List ℕ} {F s m total : ℕ} {slices : List ℕ} (can :
   pub cut-words : {cut : List ℕ} → cut ≡ cutTo s keep block → cut ≡ wholeIndex F s (take keep slices)
   cut-words e = e ∙ ap (cutTo s keep) (can .file .words) ∙ cut-whole F s keep slices (omega (arith, can .file .size)) (can .file .few)
 
+  pub can-give : keep ≤ total → CanGiveFrom image block F s keep total slices
+  can-give kept = record {
+    long = can .file .long;
+    size = can .file .size;
+    words = can .file .words;
+    few = can .file .few;
+    above = λ j x. slice-in (can .file) j x .0;
+    most = λ j x. omega (arith, slice-in (can .file) j x .1, can .file .most);
+    starts = λ j x.
+        let h : getD slices j 0 - 1 ≤ m = omega (arith, slice-in (can .file) j x .1) in
+        omega (arith, can .file .top, mul-le-mul-right s h, mul-comm s m);
+    count = can .count;
+    kept = kept;
+  }
+
   -- fewer slices are kept than there are
   module _ (fewer : keep < total) where
-    can-give : CanGiveFrom image block F s keep total slices
-    can-give = record {
-      long = can .file .long;
-      size = can .file .size;
-      words = can .file .words;
-      few = can .file .few;
-      above = λ j x. slice-in (can .file) j x .0;
-      most = λ j x. omega (arith, slice-in (can .file) j x .1, can .file .most);
-      starts = λ j x.
-          let h : getD slices j 0 - 1 ≤ m = omega (arith, slice-in (can .file) j x .1) in
-          omega (arith, can .file .top, mul-le-mul-right s h, mul-comm s m);
-      count = can .count;
-      kept = omega arith;
-    }
-
     pub can-give-back : CanGive image block F s keep total
-    can-give-back = record { slices = slices; can = can-give }
+    can-give-back = record { slices = slices; can = can-give (omega arith) }
 
     shorter : keep < length slices
     shorter = omega (arith, can .count)
 
     module _ {freed : List ℕ} (given : Given image block F s keep total freed) where
       freed-is : freed ≡ allFree image (drop keep slices)
-      freed-is = given .all slices can-give
+      freed-is = given .all slices (can-give (omega arith))
 
       pub gave-all : (q : ℕ) → keep ≡ 0 → freed ≡ cutImage image q F s slices keep
       gave-all q z = freed-is ∙ cut-all (allFree image (drop keep slices)) q F s slices keep z ∙ cut-shorter image q F s slices keep shorter

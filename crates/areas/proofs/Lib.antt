@@ -1,0 +1,4 @@
+pub mod CreateLaws
+pub mod BookLaws
+pub mod RemoveLaws
+pub mod AreaUnits

@@ -1,0 +1,145 @@
+-- `areas::remove_area` meets its contract. Assumes nothing.
+use mathlib.Core.Path.{sym, _∙_}
+use borrow.Author.Needs.{needs}
+use Rattle.unit.proofs.OpenLaws.{searchable}
+use Rattle.unit.proofs.FileLaws.{represented-on}
+use Rattle.areas.proofs.RemoveLaws.{removes-system, removes-none, area-inside, removes-used, removes-lost, can-book, removes-done}
+use Rattle.areas.proofs.remove_area.Statement.{statement}
+use Rattle.areas.proofs.remove_area.Tie as tie
+
+fold-requires : tie.Need-fold-requires
+fold-requires c κs = search needs
+
+is-system-requires : tie.Need-is-system-requires
+is-system-requires c κs = search needs
+
+returns : tie.Need-returns
+returns c =
+    let test = c .before in
+    removes-system _ _ _ _ (test .before .fold .ensures .packed) (sym (test .is-system .ensures) ∙ c .if1 .taken)
+
+find-area-requires : tie.Need-find-area-requires
+find-area-requires c κs = search needs
+
+enum-known-j : tie.Need-enum-known-j
+enum-known-j c = search needs
+
+enum-told : tie.Need-enum-told
+enum-told c = search needs
+
+returns-2 : tie.Need-returns-2
+returns-2 c =
+    let search = c .before .before in
+    let test = search .before .before in
+    removes-none _ _ _ _ (test .before .fold .ensures .packed) (sym (test .is-system .ensures) ∙ search .before .if1 .left)
+    (sym (search .find-area .ensures) ∙ c .enum-told .given .1)
+
+area-at-requires : tie.Need-area-at-requires
+area-at-requires c κs =
+    let told = c .before in
+    let search = told .before .before in
+    let test = search .before .before in
+    let start = test .before .before .before in
+    area-inside _ _ _ (start .args .name) (test .before .fold .ensures .packed) (sym (test .is-system .ensures) ∙ search .before .if1 .left)
+    (sym (search .find-area .ensures) ∙ told .j .given .1) (start .pre)
+
+user-count-requires : tie.Need-user-count-requires
+user-count-requires c κs = search needs
+
+returns-3 : tie.Need-returns-3
+returns-3 c =
+    let count = c .before in
+    let area = count .before in
+    let told = area .before .before in
+    let search = told .before .before in
+    let test = search .before .before in
+    removes-used _ _ _ _ (test .before .fold .ensures .packed) (sym (test .is-system .ensures) ∙ search .before .if1 .left)
+    (sym (search .find-area .ensures) ∙ told .j .given .1) (area .area-at .ensures) (λ z. c .if2 .taken (count .user-count .ensures ∙ z))
+
+find-name-requires : tie.Need-find-name-requires
+find-name-requires c κs =
+    let area = c .before .before .before in
+    let test = area .before .before .before .before .before .before in
+    searchable (represented-on (test .before .before .before .pre))
+
+enum-known-place : tie.Need-enum-known-place
+enum-known-place c = search needs
+
+enum-told-2 : tie.Need-enum-told-2
+enum-told-2 c = search needs
+
+same-length : tie.Need-same-length
+same-length c = search needs
+
+returns-4 : tie.Need-returns-4
+returns-4 c =
+    let f = c .before .before in
+    let alone = f .before .before in
+    let count = alone .before in
+    let area = count .before in
+    let told = area .before .before in
+    let search = told .before .before in
+    let test = search .before .before in
+    removes-lost _ _ _ _ (test .before .fold .ensures .packed) (sym (test .is-system .ensures) ∙ search .before .if1 .left)
+    (sym (search .find-area .ensures) ∙ told .j .given .1) (area .area-at .ensures) (sym (count .user-count .ensures) ∙ alone .if2 .left) (f .find-name .ensures)
+    (c .enum-told2 .given .1)
+
+book-requires : tie.Need-book-requires
+book-requires c κs =
+    let place = c .before .before in
+    let f = place .before .before in
+    let alone = f .before .before in
+    let count = alone .before in
+    let area = count .before in
+    let told = area .before .before in
+    let search = told .before .before in
+    let test = search .before .before in
+    let start = test .before .before .before in
+    can-book _ _ _ (start .args .name) (test .before .fold .ensures .packed) (sym (test .is-system .ensures) ∙ search .before .if1 .left)
+    (sym (search .find-area .ensures) ∙ told .j .given .1) (area .area-at .ensures) (sym (count .user-count .ensures) ∙ alone .if2 .left) (f .find-name .ensures)
+    (place .place .given .1) (start .pre)
+
+close-area-requires : tie.Need-close-area-requires
+close-area-requires c κs = search needs
+
+same-length-2 : tie.Need-same-length-2
+same-length-2 c = search needs
+
+returns-5 : tie.Need-returns-5
+returns-5 c =
+    let booked = c .before .before .before in
+    let place = booked .before .before .before in
+    let f = place .before .before in
+    let alone = f .before .before in
+    let count = alone .before in
+    let area = count .before in
+    let told = area .before .before in
+    let search = told .before .before in
+    let test = search .before .before in
+    removes-done _ _ _ _ (test .before .fold .ensures .packed) (sym (test .is-system .ensures) ∙ search .before .if1 .left)
+    (sym (search .find-area .ensures) ∙ told .j .given .1) (area .area-at .ensures) (sym (count .user-count .ensures) ∙ alone .if2 .left) (f .find-name .ensures)
+    (place .place .given .1) (booked .book .ensures) (c .close-area .ensures)
+
+pub remove-area-spec : {M : Type 1} → statement M
+remove-area-spec =
+    tie.close
+    (tie.spec
+    fold-requires
+    is-system-requires
+    returns
+    find-area-requires
+    enum-known-j
+    enum-told
+    returns-2
+    area-at-requires
+    user-count-requires
+    returns-3
+    find-name-requires
+    enum-known-place
+    enum-told-2
+    same-length
+    returns-4
+    book-requires
+    close-area-requires
+    same-length-2
+    returns-5)

@@ -1,0 +1,167 @@
+-- Demand 3: one claim over every list of calls, by induction over the list.
+use mathlib.Core.Path.{_≡_, refl, sym, ap, _∙_, subst}
+use mathlib.Core.Bool.{Bool, true, false, not, _&&_}
+use mathlib.Core.List.{List, [], _∷_}
+use mathlib.Core.Logic.{_≢_}
+use Prim.Native.Nat.{ℕ, zero, suc, _≤_, _<_}
+use native.Mathlib.Omega.{arith}
+use lib.Dec.{leb, ltb, eqb}
+use lib.ListN.{length}
+use borrow.Author.Tests.{le-leb, eq-eqb, ne-eqb}
+use Rattle.types.specs.declared.State.{State}
+use Rattle.types.specs.declared.Message.{Message}
+use Rattle.types.specs.declared.Message.the-variants.{Init, Set, Create, LookUp, Change, Remove, CreateArea, RemoveArea, AreaMessage, UnitDescription, Listing}
+use Rattle.types.specs.State.{areaAt}
+use Rattle.disc.proofs.Compare.{same-or}
+use Rattle.disc.specs.Words.{Words}
+use Rattle.plain.specs.Unit.{Plain, M, held}
+use Rattle.plain.specs.Questions.{Outcome, replies, known, done}
+use Rattle.plain.specs.Reports.{stepListing, stepDescription}
+use Rattle.plain.specs.Step.{Call, Reply, step, reply, after, answers}
+use Rattle.plain.specs.Good.{Good}
+use Rattle.plain.specs.Claims.{LentWords}
+use Rattle.plain.proofs.Keeps.{step-keeps, list-keeps, good-adds}
+use Rattle.state.specs.Areas.{anyOpen}
+use Rattle.users.proofs.AreaLaws.{none-open}
+use Rattle.refine.specs.Represents.{Represents}
+use Rattle.refine.specs.Demands.{empty, then, Performed, Run, SameReply, SameReplies, SameWords, InSomeOrder, AcceptedState, Demand3After, Demand3}
+use Rattle.refine.proofs.SoundRepresents.{sound-represents}
+use Rattle.map.proofs.CountLaws.{ones-free}
+use Rattle.refine.proofs.StateLaws.{same-any}
+use Rattle.steps.proofs.AskLaws.{asks-yes, asks-no}
+use Rattle.known.specs.Known.{unitMeant, unknownWord, Known}
+use Rattle.perform.specs.Perform.{Untouched, Obeyed, Performs, unknown, unsound, obeyed}
+
+-- ---- a refused first question in the plain unit
+
+-- "Unit known": the number meant is the state's or not
+known-no : (p : Plain) (unit : ℕ) → unit ≢ p .unit → known p unit ≡ false
+known-no p unit d = ap (λ (b : Bool). b && leb unit 3) (ne-eqb unit (p .unit) d)
+
+known-yes : (p : Plain) (unit : ℕ) → unit ≡ p .unit → unit ≤ 3 → known p unit ≡ true
+known-yes p unit e l = rw (eq-eqb unit (p .unit) e) (le-leb unit 3 l)
+
+-- the state of a unit that Init accepted
+pub record Standing (image : List ℕ) (state : State) (p : Plain) : Type 0 where
+  pub good : Good p
+  pub represents : Represents image state p
+  pub low : state .unit ≤ 3
+  pub initialized : state .initialized ≡ true
+
+module _ {image : List ℕ} {state : State} {p : Plain} (s : Standing image state p) where
+  -- another unit
+  other : (unit : ℕ) → unit ≢ state .unit → known p unit ≡ false
+  other unit d = known-no p unit (λ e. d (e ∙ sym (s .represents .areas .number)))
+
+  -- no area process in the plain unit, none in the state
+  no-area : eqb (length (p .areas)) 0 ≡ true → (j : ℕ) → j < 8 → areaAt state j .live ≡ false
+  no-area e =
+      let n : length (p .areas) ≡ 0 = lib.Dec.eqb→eq (length (p .areas)) 0 (rw e tt) in
+      let none : anyOpen state ≡ false = same-any _ _ (s .represents .areas) (s .good .areaNames) ∙ ap (ltb 0) n in
+      none-open state (s .represents .areas .shaped .eight) .yes (ap not none)
+
+  init-refused : (unit : ℕ) (lent : List ℕ) → (Known state (Init unit) → ⊥) → step p (Init unit) lent ≡ replies p 0x1200 lent
+  init-refused unit lent unmet = same-or unit (state .unit)
+      (λ e.
+      asks-yes _ _ _ (known-yes p unit (e ∙ s .represents .areas .number) (omega (arith, e, s .low)))
+      ∙ asks-no _ _ _ (opened (eqb (length (p .areas)) 0) refl (λ q. unmet (record { number = e; low = s .low; ready = no-area q }))))
+      (λ d. asks-no _ _ _ (other unit d))
+    where
+      opened : (b : Bool) → eqb (length (p .areas)) 0 ≡ b → (eqb (length (p .areas)) 0 ≡ true → ⊥) → eqb (length (p .areas)) 0 ≡ false
+      opened true e f = absurd (f e)
+      opened false e f = e
+
+  -- every message: what the first no of the one call leaves is the plain unit's reply
+  pub unknown-step : (message : Message) (lent : List ℕ) → (Known state message → ⊥) → step p message lent ≡ replies p (unknownWord message) lent
+  unfolding stepListing stepDescription
+  unknown-step (Init unit) lent unmet = init-refused unit lent unmet
+  unknown-step (Set name) lent unmet = asks-no _ _ _ (other _ (λ e. unmet (record { number = e; low = s .low; ready = s .initialized })))
+  unknown-step (Create name size attributes) lent unmet = asks-no _ _ _ (other _ (λ e. unmet (record { number = e; low = s .low; ready = s .initialized })))
+  unknown-step (LookUp name) lent unmet = asks-no _ _ _ (other _ (λ e. unmet (record { number = e; low = s .low; ready = s .initialized })))
+  unknown-step (Change name) lent unmet = asks-no _ _ _ (other _ (λ e. unmet (record { number = e; low = s .low; ready = s .initialized })))
+  unknown-step (Remove name) lent unmet = asks-no _ _ _ (other _ (λ e. unmet (record { number = e; low = s .low; ready = s .initialized })))
+  unknown-step (CreateArea name) lent unmet = asks-no _ _ _ (other _ (λ e. unmet (record { number = e; low = s .low; ready = s .initialized })))
+  unknown-step (RemoveArea name) lent unmet = asks-no _ _ _ (other _ (λ e. unmet (record { number = e; low = s .low; ready = s .initialized })))
+  unknown-step (AreaMessage name sender operation) lent unmet = asks-no _ _ _ (other _ (λ e. unmet (record { number = e; low = s .low; ready = s .initialized })))
+  unknown-step (UnitDescription unit bytes) lent unmet = asks-no _ _ _ (other _ (λ e. unmet (record { number = e; low = s .low; ready = s .initialized })))
+  unknown-step (Listing unit) lent unmet = asks-no _ _ _ (other _ (λ e. unmet (record { number = e; low = s .low; ready = s .initialized })))
+
+-- ---- one call
+
+-- equal words are the same words
+words-equal : (message : Message) (count : ℕ) (a b : List ℕ) → a ≡ b → SameWords message count a b
+words-equal (Init unit) count a b e = e
+words-equal (Set name) count a b e = e
+words-equal (Create name size attributes) count a b e = e
+words-equal (LookUp name) count a b e = e
+words-equal (Change name) count a b e = e
+words-equal (Remove name) count a b e = e
+words-equal (CreateArea name) count a b e = e
+words-equal (RemoveArea name) count a b e = e
+words-equal (AreaMessage name sender operation) count a b e = e
+words-equal (UnitDescription unit bytes) count a b e = e
+words-equal (Listing unit) count a b e = subst (InSomeOrder count a) e (record {
+  size = refl;
+  to = λ t. t;
+  back = λ t. t;
+  to-inside = λ t h. h;
+  back-inside = λ t h. h;
+  to-back = λ t h. refl;
+  back-to = λ t h. refl;
+  same = λ t w h l. refl;
+  rest = λ k h. refl;
+})
+
+pub one-call : {image : List ℕ} {state : State} {p : Plain} {message : Message} {lent : List ℕ} {r : Performed} → Standing image state p → Words lent → Performs image state message lent r
+    → SameReply message (record { answer = r .answer; lent = r .lent }) (reply (step p message lent)) × Standing (r .image) (r .state) (step p message lent .unit)
+one-call {image} {state} {p} {message} {lent} {r} s w (unknown unmet u) =
+    let e = unknown-step s message lent unmet in (
+      record {
+        answer = u .answered ∙ sym (ap (λ (o : Outcome). o .answer) e);
+        words = words-equal message _ (r .lent) _ (u .same-lent ∙ sym (ap (λ (o : Outcome). o .lent) e));
+      },
+      rw (u .same-image, u .same-state, e) s,
+    )
+one-call {image} {state} {p} {message} {lent} {r} s w (unsound known unmet u) = absurd (unmet (sound-represents .sound image state p (s .good) (s .represents)))
+one-call {image} {state} {p} {message} {lent} {r} s w (obeyed known sound f) =
+    let o = f p (s .good) (s .represents) in (
+      o .same,
+      record {
+        good = step-keeps p message lent (s .good) w;
+        represents = o .represents;
+        low = omega (arith, o .number, s .low);
+        initialized = o .initialized;
+      },
+    )
+
+-- ---- every list
+
+pub every-list : {image end : List ℕ} {state stop : State} {p : Plain} {calls : List Call} {replies : List Reply} → Standing image state p → LentWords calls
+    → Run Performs image state calls replies end stop → SameReplies calls replies (answers p calls) × Standing end stop (after p calls)
+every-list s w empty = (empty, s)
+every-list s w (then c rest) =
+    let one = one-call s (w .0) c in
+    let more = every-list (one .1) (w .1) rest in
+    (then (one .0) (more .0), more .1)
+
+pub demand-3 : Demand3 Performs
+demand-3 = record {
+  holds = λ image end state stop calls replies sound accepted words run.
+      let x = sound-represents .reads image state sound in
+      let p : Plain = x .0 in
+      let s : Standing image state p = record { good = x .1; represents = x .2; low = accepted .known; initialized = accepted .initialized } in
+      let l = every-list s words run in
+      let q : Plain = after p calls in
+      let adds = good-adds q (l .1 .good) in
+      let r = l .1 .represents in
+      record {
+        start = p;
+        good = x .1;
+        read = x .2;
+        only = λ other g o. sound-represents .unique image state p other (x .1) g (x .2) o;
+        sum = omega (arith, ones-free (M q) (held q) end (l .1 .good .limits .slices-high) (r .layout .map) (r .words), adds .sum);
+        once = adds .once;
+        same = l .0;
+        represented = r;
+      };
+}

@@ -1,0 +1,3 @@
+pub mod DropLaws
+pub mod RemoveLaws
+pub mod RemoveUnit

@@ -1,0 +1,65 @@
+-- `remove::drop_file` meets its contract. Assumes nothing.
+use borrow.Author.Needs.{needs}
+use Rattle.remove.proofs.DropLaws.{drop-room, slices-fit, can-give-all, can-count, dropped}
+use Rattle.remove.proofs.drop_file.Statement.{statement}
+use Rattle.remove.proofs.drop_file.Tie as tie
+
+entry-word-requires : tie.Need-entry-word-requires
+entry-word-requires c κs = search needs
+
+file-block-requires : tie.Need-file-block-requires
+file-block-requires c κs = search needs
+
+slice-total-requires : tie.Need-slice-total-requires
+slice-total-requires c κs =
+    let read = c .before .before in
+    slices-fit (read .before .before .before .pre .can) (read .entry-word .ensures) (c .file-block .ensures)
+
+clear-place-requires : tie.Need-clear-place-requires
+clear-place-requires c κs = drop-room (c .before .before .before .before .before .before .before .pre .can)
+
+give-back-requires : tie.Need-give-back-requires
+give-back-requires c κs =
+    let cleared = c .before .before .before in
+    let counted = cleared .before .before in
+    let block = counted .before in
+    let read = block .before .before in
+    can-give-all (read .before .before .before .pre .can) (read .entry-word .ensures) (block .file-block .ensures) (cleared .clear-place .ensures) (counted .slice-total .ensures)
+
+count-free-requires : tie.Need-count-free-requires
+count-free-requires c κs =
+    let given = c .before .before .before in
+    let cleared = given .before .before .before .before in
+    let counted = cleared .before .before in
+    let block = counted .before in
+    let read = block .before .before in
+    can-count (read .before .before .before .pre .can) (read .entry-word .ensures) (block .file-block .ensures) (cleared .clear-place .ensures) (counted .slice-total .ensures) (given .give-back .ensures)
+
+same-length : tie.Need-same-length
+same-length c = search needs
+
+returns : tie.Need-returns
+returns c =
+    let free = c .before .before in
+    let given = free .before .before .before .before in
+    let cleared = given .before .before .before .before in
+    let counted = cleared .before .before in
+    let block = counted .before in
+    let read = block .before .before in
+    record {
+      all = λ p n f can.
+          dropped can (read .entry-word .ensures) (block .file-block .ensures) (cleared .clear-place .ensures) (counted .slice-total .ensures) (given .give-back .ensures) (free .count-free .ensures);
+    }
+
+pub drop-file-spec : {M : Type 1} → statement M
+drop-file-spec =
+    tie.close
+    (tie.spec
+    entry-word-requires
+    file-block-requires
+    slice-total-requires
+    clear-place-requires
+    give-back-requires
+    count-free-requires
+    same-length
+    returns)

@@ -1,0 +1,134 @@
+-- `remove::remove` meets its contract. Assumes nothing.
+use mathlib.Core.Path.{sym, ap, _∙_}
+use borrow.Author.Needs.{needs}
+use Rattle.disc.specs.Numbers.{bit}
+use Rattle.unit.proofs.OpenLaws.{searchable}
+use Rattle.unit.proofs.FileLaws.{represented-on}
+use Rattle.remove.proofs.RemoveLaws.{removes-none, removes-system, removes-open, removes-permanent, can-drop, removes-done}
+use Rattle.remove.proofs.remove.Statement.{statement}
+use Rattle.remove.proofs.remove.Tie as tie
+
+fold-requires : tie.Need-fold-requires
+fold-requires c κs = search needs
+
+find-name-requires : tie.Need-find-name-requires
+find-name-requires c κs = searchable (represented-on (c .before .before .before .pre))
+
+enum-known-place : tie.Need-enum-known-place
+enum-known-place c = search needs
+
+enum-told : tie.Need-enum-told
+enum-told c = search needs
+
+same-length : tie.Need-same-length
+same-length c = search needs
+
+returns : tie.Need-returns
+returns c =
+    let f = c .before .before in
+    removes-none _ _ (f .before .before .fold .ensures .packed) (f .find-name .ensures) (c .enum-told .given .1)
+
+is-system-requires : tie.Need-is-system-requires
+is-system-requires c κs = search needs
+
+same-length-2 : tie.Need-same-length-2
+same-length-2 c = search needs
+
+returns-2 : tie.Need-returns-2
+returns-2 c =
+    let test = c .before in
+    let place = test .before .before in
+    let f = place .before .before in
+    removes-system _ _ (f .before .before .fold .ensures .packed) (f .find-name .ensures) (place .place .given .1) (sym (test .is-system .ensures) ∙ c .if1 .taken)
+
+is-open-requires : tie.Need-is-open-requires
+is-open-requires c κs = search needs
+
+same-length-3 : tie.Need-same-length-3
+same-length-3 c = search needs
+
+returns-3 : tie.Need-returns-3
+returns-3 c =
+    let live = c .before in
+    let test = live .before .before in
+    let place = test .before .before in
+    let f = place .before .before in
+    removes-open _ _ (f .before .before .fold .ensures .packed) (f .find-name .ensures) (place .place .given .1)
+    (sym (test .is-system .ensures) ∙ live .before .if1 .left) (sym (live .is-open .ensures) ∙ c .if2 .taken)
+
+entry-word-requires : tie.Need-entry-word-requires
+entry-word-requires c κs = search needs
+
+bit-requires : tie.Need-bit-requires
+bit-requires c κs = search needs
+
+same-length-4 : tie.Need-same-length-4
+same-length-4 c = search needs
+
+returns-4 : tie.Need-returns-4
+returns-4 c =
+    let bits = c .before in
+    let word = bits .before in
+    let shut = word .before .before in
+    let live = shut .before in
+    let test = live .before .before in
+    let place = test .before .before in
+    let f = place .before .before in
+    removes-permanent _ _ (f .before .before .fold .ensures .packed) (f .find-name .ensures) (place .place .given .1)
+    (sym (test .is-system .ensures) ∙ live .before .if1 .left) (sym (live .is-open .ensures) ∙ shut .if2 .left)
+    (ap (bit 11) (sym (word .entry-word .ensures)) ∙ sym (bits .bit .ensures) ∙ c .if3 .taken)
+
+drop-file-requires : tie.Need-drop-file-requires
+drop-file-requires c κs =
+    let bits = c .before .before in
+    let word = bits .before in
+    let shut = word .before .before in
+    let live = shut .before in
+    let test = live .before .before in
+    let place = test .before .before in
+    let f = place .before .before in
+    let start = f .before .before .before .before in
+    can-drop _ (start .args .name) (f .before .before .fold .ensures .packed) (f .find-name .ensures) (place .place .given .1)
+    (sym (test .is-system .ensures) ∙ live .before .if1 .left) (sym (live .is-open .ensures) ∙ shut .if2 .left) (start .pre)
+
+same-length-5 : tie.Need-same-length-5
+same-length-5 c = search needs
+
+returns-5 : tie.Need-returns-5
+returns-5 c =
+    let dropped = c .before .before in
+    let left = dropped .before .before in
+    let bits = left .before in
+    let word = bits .before in
+    let shut = word .before .before in
+    let live = shut .before in
+    let test = live .before .before in
+    let place = test .before .before in
+    let f = place .before .before in
+    removes-done _ _ (f .before .before .fold .ensures .packed) (f .find-name .ensures) (place .place .given .1)
+    (sym (test .is-system .ensures) ∙ live .before .if1 .left) (sym (live .is-open .ensures) ∙ shut .if2 .left)
+    (ap (bit 11) (sym (word .entry-word .ensures)) ∙ sym (bits .bit .ensures) ∙ left .if3 .left) (dropped .drop-file .ensures)
+
+pub remove-spec : {M : Type 1} → statement M
+remove-spec =
+    tie.close
+    (tie.spec
+    fold-requires
+    find-name-requires
+    enum-known-place
+    enum-told
+    same-length
+    returns
+    is-system-requires
+    same-length-2
+    returns-2
+    is-open-requires
+    same-length-3
+    returns-3
+    entry-word-requires
+    bit-requires
+    same-length-4
+    returns-4
+    drop-file-requires
+    same-length-5
+    returns-5)

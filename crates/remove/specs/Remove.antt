@@ -1,0 +1,64 @@
+-- Remove: what it writes.
+use mathlib.Core.Path.{_≡_}
+use mathlib.Core.List.{List}
+use mathlib.Core.Option.{none, some}
+use Prim.Native.Nat.{ℕ, _<_}
+use lib.Dec.{T}
+use Rattle.types.specs.declared.Name.{Name}
+use Rattle.types.specs.declared.State.{State}
+use Rattle.disc.specs.Names.{named, unitIn}
+use Rattle.disc.specs.Entries.{placeCount, nameAt}
+use Rattle.catalog.specs.declared.Place.{Place}
+use Rattle.plain.specs.Table.{tableFind, tableRemove}
+use Rattle.plain.specs.Unit.{Plain, File, withFiles}
+use Rattle.plain.specs.Good.{Good}
+use Rattle.plain.specs.Questions.{known}
+use Rattle.plain.specs.Catalog.{stepRemove}
+use Rattle.refine.specs.Represents.{Represents}
+use Rattle.refine.specs.OnDisc.{OnDisc}
+use Rattle.refine.specs.Writes.{removedImage}
+use Rattle.refine.specs.Replies.{Replies}
+use Rattle.unit.specs.declared.Opened.{Opened}
+use Rattle.unit.specs.Opened.{NumbersOf, unitPlaces}
+use Rattle.unit.specs.Find.{NameAt}
+
+-- ---- the writes
+
+-- The entry of file f under name n, which has no area process, stands in the place.
+pub record CanDropFrom (image : List ℕ) (o : Opened) (place : Place) (p : Plain) (n : ℕ) (f : File) : Type 0 where
+  pub on : OnDisc image p
+  pub numbers : NumbersOf o p
+  pub file : tableFind n (p .files) ≡ some f
+  pub closed : tableFind n (p .areas) ≡ none
+  pub at : NameAt image p n place
+
+pub record CanDrop (image : List ℕ) (o : Opened) (place : Place) : Type 0 where
+  pub unit : Plain
+  pub name : ℕ
+  pub file : File
+  pub can : CanDropFrom image o place unit name file
+
+-- The place of the name is emptied, its slices are given back, and the free sectors are counted.
+pub record Dropped (image : List ℕ) (o : Opened) (place : Place) (after : List ℕ) : Type 0 where
+  pub all : (p : Plain) (n : ℕ) (f : File) (can : CanDropFrom image o place p n f) → after ≡ removedImage p image (can .at .number) f
+
+-- ---- the message
+
+-- "Remove drops the name": the file f under name n, which has no area process, is gone from its place t.
+pub record Removed (p : Plain) (image : List ℕ) (n : ℕ) (after : List ℕ) (q : Plain) : Type 0 where
+  pub f : File
+  pub file : tableFind n (p .files) ≡ some f
+  pub closed : tableFind n (p .areas) ≡ none
+  pub t : ℕ
+  pub inside : t < placeCount (p .H) (p .layers)
+  pub stands : nameAt (unitPlaces image p) t ≡ n
+  pub unit : q ≡ withFiles p (tableRemove n (p .files))
+  pub written : after ≡ removedImage p image t f
+
+-- Remove on the unit p, whatever words are lent.
+pub record RemoveStep (p : Plain) (image : List ℕ) (name : Name) (after : List ℕ) (result : ℕ) : Type 0 where
+  pub step : (lent : List ℕ) → Replies p (stepRemove p name lent) lent result (after ≡ image) (Removed p image (named name) after)
+
+-- The same of every unit that image and state represent and that the message means.
+pub record Removes (image : List ℕ) (o : Opened) (state : State) (name : Name) (after : List ℕ) (result : ℕ) : Type 0 where
+  pub all : (p : Plain) → Good p → Represents image state p → NumbersOf o p → T (known p (unitIn name)) → RemoveStep p image name after result

@@ -1,0 +1,46 @@
+// Remove, from question 3 on: a name and its file are dropped.
+
+ghost use Rattle.unit.specs.Opened.{Represented};
+ghost use Rattle.remove.specs.Remove.{CanDrop, Dropped, Removes};
+use catalog::Found;
+use catalog::Place;
+use types::Name;
+use types::Sector;
+use types::State;
+use unit::Opened;
+
+// Empties the place of a file and gives back its slices. The index block is read before anything is written.
+fn drop_file(image: &mut [u16], o: Opened, place: Place)
+    requires { ⌜ CanDrop (now image) o place ⌝ }
+    ensures { λ _. ⌜ Dropped (now (image .entry)) o place (now (image .exit)) ⌝ }
+{
+    let index = catalog::entry_word(image, place, 8);
+    let block = unit::file_block(image, Sector(index));
+    let total = index::slice_total(block, o.slice);
+    catalog::clear_place(image, place);
+    take::give_back(image, block, o.first, o.slice, 0, total);
+    writes::count_free(image, o.slice);
+}
+
+// Remove of the name in a message that means this unit: the result word.
+pub fn remove(image: &mut [u16], o: Opened, state: State, name: Name) -> u16
+    requires { ⌜ Represented (now image) state o ⌝ }
+    ensures { λ r. ⌜ Removes (now (image .entry)) o state name (now (image .exit)) r ⌝ }
+{
+    let n = names::fold(name);
+    let Found::At(place) = unit::find_name(image, o, n) else {
+        return 0x5000;
+    };
+    if names::is_system(n) {
+        return 0x1200;
+    }
+    if unit::is_open(state, n) {
+        return 0x1200;
+    }
+    let attributes = catalog::entry_word(image, place, 6);
+    if numbers::bit(11, attributes) {
+        return 0x1200;
+    }
+    drop_file(image, o, place);
+    0
+}
