@@ -1,0 +1,26 @@
+//! A second implementation of the RC3600 catalog unit, written from document 01 alone.
+//!
+//! It is plain rather than fast: the proved implementation is compared with it, call by call
+//! and word by word.
+//!
+//! * [`format()`] and [`perform`] are the calls, exact for all arguments.
+//! * [`soundness`] says whether an image is a sound unit with a state, and if not, why;
+//!   [`is_sound`] only whether.
+//! * [`plain::Plain`] is the plain unit: a separate account with no map, index or place.
+//! * [`generate`] makes units, lists of calls and damage from a seed.
+
+#![warn(missing_docs)]
+
+pub mod generate;
+pub mod layout;
+pub mod plain;
+pub mod random;
+mod sound;
+mod straight;
+mod types;
+mod unit;
+
+pub use sound::{soundness, IndexFault, Unsound};
+pub use straight::is_sound;
+pub use types::{Answer, Area, Message, Name, Operation, Role, State, User};
+pub use unit::{explain, explain_format, format, perform, Question};
