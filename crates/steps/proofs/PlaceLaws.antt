@@ -111,7 +111,7 @@ total-map w f [] = refl
 total-map w f (r ∷ t) = omega (arith, total-map w f t)
 
 -- a row of a name, if it has a value
-abbrev rowOf : {A : Type 0} → ℕ → Option A → Option (Row A)
+abbrev pub rowOf : {A : Type 0} → ℕ → Option A → Option (Row A)
 rowOf n none = none
 rowOf n (some a) = some (record { key = n; val = a })
 
@@ -137,7 +137,7 @@ module _ (p : Plain) (g : Good p) where
       go none e = refl
       go (some f) e = absurd (sys (g .files n f e .ordinary))
 
-  sorted-entries : SortedFrom 0 (entries p)
+  pub sorted-entries : SortedFrom 0 (entries p)
   sorted-entries = sorted-put 0 SYS _ withMap (omega arith) (sorted-put 0 MAP mapEntry fileEntries (omega arith) (sorted-map (fileEntry (p .F) (p .s)) 0 (p .files) (g .names)))
 
   total-entries : (k : ℕ) → total (λ r. hasKey (p .H) k (r .key)) (entries p) ≡ placesTaken (p .H) k (p .files)
@@ -156,23 +156,23 @@ module _ (p : Plain) (g : Good p) where
   -- ---- the entries collected from the places
 
   module _ {P : ℕ → ℕ → ℕ} {N : ℕ} (c : CatalogOf P N (p .H) (entry p)) where
-    abbrev rowAt : ℕ → Option (Row (List ℕ))
+    abbrev pub rowAt : ℕ → Option (Row (List ℕ))
     rowAt t = rowOf (nameAt P t) (entry p (nameAt P t))
 
-    positive-name : (t : ℕ) (x : Row (List ℕ)) → rowAt t ≡ some x → 0 < x .key
+    pub positive-name : (t : ℕ) (x : Row (List ℕ)) → rowAt t ≡ some x → 0 < x .key
     positive-name t x e =
         let q = row-some (nameAt P t) (entry p (nameAt P t)) x e in
         same-or (nameAt P t) 0
         (λ z. absurd (some≢none (sym (q .1) ∙ ap (entry p) z ∙ nm .zero)))
         (λ d. omega (arith, q .0))
 
-    one-place : (t u : ℕ) (x y : Row (List ℕ)) → t < N → u < N → rowAt t ≡ some x → rowAt u ≡ some y → x .key ≡ y .key → t ≡ u
+    pub one-place : (t u : ℕ) (x y : Row (List ℕ)) → t < N → u < N → rowAt t ≡ some x → rowAt u ≡ some y → x .key ≡ y .key → t ≡ u
     one-place t u x y a b e f z =
         let q = row-some (nameAt P t) (entry p (nameAt P t)) x e in
         let v = row-some (nameAt P u) (entry p (nameAt P u)) y f in
         c .alone t u a b (q .0 ∙ z ∙ sym (v .0)) (λ w. let k = positive-name t x e in let m = q .0 in omega arith)
 
-    collected : collect rowAt N ≡ entries p
+    pub collected : collect rowAt N ≡ entries p
     unfolding entry
     collected = find-ext 0 (collect rowAt N) (entries p) (sorted-collect rowAt positive-name N) sorted-entries (λ n. go n (entry p n) refl)
       where

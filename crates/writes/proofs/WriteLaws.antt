@@ -85,13 +85,13 @@ pub zero-next : {image₀ block : List ℕ} {from n F s m : ℕ} {slices : List 
     → after ≡ zeroedSectors image₀ F s slices from (j + 1)
 unfolding zeroedSectors
 zero-next {image₀} {from = from} {F = F} {s = s} {slices = slices} can image j q x e f a =
-    let t : q ≡ sectorIn F s slices (from + j) = e ∙ sector-told (can .file) (from + j) (omega (arith, can .room)) in
+    let t : q ≡ sectorIn F s slices (from + j) = e ∙ sector-told (can .file) (from + j) (omega (arith, can .room (omega arith))) in
     a ∙ ap₂ (λ (l : List ℕ) (k : ℕ). store l (k * 256) (zeroWords 256)) f t ∙ ap (zeroedSectors image₀ F s slices from) (sym (add-one j))
 
 pub zero-inside : {image₀ block : List ℕ} {from n F s m : ℕ} {slices : List ℕ} (can : CanZeroFrom image₀ block from n F s m slices) (image : List ℕ) (j q : ℕ) → j < n
     → q ≡ jointSector block 0 (from + j) → length image ≡ length image₀ → q * 256 + 256 ≤ length image
 zero-inside {from = from} {F = F} {s = s} {slices = slices} can image j q x e l =
-    let inside : from + j < s * length slices = omega (arith, can .room) in
+    let inside : from + j < s * length slices = omega (arith, can .room (omega arith)) in
     omega (arith, sector-room (can .file) (from + j) q inside (e ∙ sector-told (can .file) (from + j) inside))
 
 -- ---- slices taken

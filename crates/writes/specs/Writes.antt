@@ -24,10 +24,10 @@ pub record FileBlock (image block : List ℕ) (F s m : ℕ) (slices : List ℕ) 
 
 -- ---- sectors zeroed
 
--- The n sectors from joined sector `from` on are the file's.
+-- The n sectors from joined sector `from` on are the file's; nothing is asked of none.
 pub record CanZeroFrom (image block : List ℕ) (from n F s m : ℕ) (slices : List ℕ) : Type 0 where
   pub file : FileBlock image block F s m slices
-  pub room : from + n ≤ s * length slices
+  pub room : 0 < n → from + n ≤ s * length slices
 
 pub record CanZero (image block : List ℕ) (from n : ℕ) : Type 0 where
   pub F : ℕ

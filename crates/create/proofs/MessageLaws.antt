@@ -1,0 +1,127 @@
+-- Create and Set: the answers before the file is made, and the messages' own questions.
+use mathlib.Core.Path.{_≡_, refl, sym, ap, _∙_, subst}
+use mathlib.Core.Bool.{Bool, true, false, not}
+use mathlib.Core.List.{List}
+use mathlib.Core.Option.{some}
+use Prim.Native.Nat.{ℕ, _≤_, _<_}
+use native.Mathlib.Omega.{arith}
+use native.Mathlib.Nat.{mod-lt}
+use lib.Dec.{T}
+use lib.ListN.{length, replicate}
+use borrow.Author.Tests.{le-leb, lt-leb}
+use Rattle.types.specs.declared.Name.{Name}
+use Rattle.disc.specs.Words.{Words}
+use Rattle.disc.specs.Names.{keyOf, named}
+use Rattle.catalog.specs.declared.Place.{Place}
+use Rattle.catalog.specs.declared.Found.{Found}
+use Rattle.catalog.specs.declared.Found.the-variants.{At, Nothing}
+use Rattle.plain.specs.Unit.{Plain, entry}
+use Rattle.plain.specs.Questions.{Outcome, asks, replies}
+use Rattle.plain.specs.Catalog.{optionalIn, attributesIn, sizeIn, tailIn, newFile}
+use Rattle.refine.specs.OnDisc.{OnDisc}
+use Rattle.refine.specs.Replies.{Replies, refused}
+use Rattle.unit.specs.declared.Opened.{Opened}
+use Rattle.unit.specs.Opened.{NumbersOf, OpenedOn}
+use Rattle.unit.specs.Find.{UnusedFound, FindsName, FindsUnused}
+use Rattle.unit.proofs.OpenLaws.{on-catalog}
+use Rattle.unit.proofs.AskLaws.{asks-yes, asks-no}
+use Rattle.create.specs.Create.{legalNew, NewFileStep, NewFileMade, Creates, Sets, AskedFrom, CanPlaceFrom, CanGrowForFrom}
+use Rattle.create.proofs.LegalLaws.{Legal, legal-all, on, off, not-legal}
+
+-- ---- a new file, up to its place
+
+module _ (image : List ℕ) (o : Opened) (n size attributes : ℕ) {b : Bool} (judged : b ≡ legalNew (o .slice) n size attributes) where
+  judged-own : {p : Plain} → NumbersOf o p → legalNew (p .s) n size attributes ≡ b
+  judged-own num = ap (λ (s : ℕ). legalNew s n size attributes) (sym (num .slice)) ∙ sym judged
+
+  pub refused-legal : (words : List ℕ) → not b ≡ true → NewFileMade image o n size attributes words image 0x1200
+  refused-legal words h = record {
+    all = λ p on-disc num. record {
+      step = λ lent. refused (λ z. omega arith) (not-legal p n size attributes (optionalIn words) (tailIn words) lent (judged-own num ∙ off b h)) refl;
+    };
+  }
+
+  module _ (yes : not b ≡ false) {found : Found} (finds : FindsName image o n found) where
+    legal-own : {p : Plain} → NumbersOf o p → T (legalNew (p .s) n size attributes)
+    legal-own num = subst T (sym (judged-own num ∙ on b yes)) tt
+
+    -- "6. New name unused? 1010h"
+    name-used : {p : Plain} → NumbersOf o p → (words lent : List ℕ) {w : List ℕ} → entry p n ≡ some w
+        → newFile p n size attributes (optionalIn words) (tailIn words) lent ≡ replies p 0x1010 lent
+    unfolding newFile
+    name-used {p} num words lent h =
+        let ok : Legal (p .s) n size attributes = legal-all (p .s) n size attributes (legal-own num) in
+        asks-yes _ _ _ (ok .name) ∙ asks-yes _ _ _ (ok .short) ∙ asks-yes _ _ _ (ok .allowed) ∙ asks-yes _ _ _ (ok .only) ∙ asks-no _ _ _ (rw h tt)
+
+    pub refused-name : (words : List ℕ) {place : Place} → found ≡ At place → NewFileMade image o n size attributes words image 0x1010
+    refused-name words {place} e = record {
+      all = λ p on-disc num. record {
+        step = λ lent. refused (λ z. omega arith) (name-used num words lent (finds .all p (on-catalog on-disc) num .at place e .entered)) refl;
+      };
+    }
+
+    module _ (new : found ≡ Nothing) {words : List ℕ} (long : 16 ≤ length words) (lent : Words words) where
+      asked : {p : Plain} → OnDisc image p → NumbersOf o p → AskedFrom image o n size attributes words p
+      asked {p} on-disc num = record {
+        on = on-disc;
+        numbers = num;
+        legal = legal-own num;
+        fresh = finds .all p (on-catalog on-disc) num .nothing new;
+        long = long;
+        lent = lent;
+      }
+
+      module _ {key : ℕ} {place-found : Found} (q : key ≡ keyOf (o .keys) n) (unused : FindsUnused image o key place-found) where
+        unused-own : {p : Plain} → OnDisc image p → NumbersOf o p → UnusedFound image p (keyOf (p .H) n) place-found
+        unused-own {p} on-disc num =
+            subst (λ (x : ℕ). UnusedFound image p x place-found) (q ∙ ap (λ (h : ℕ). keyOf h n) (num .keys)) (unused .all p (on-catalog on-disc) num)
+
+        pub place-from : {p : Plain} {place : Place} → place-found ≡ At place → OnDisc image p → NumbersOf o p → CanPlaceFrom image o place n size attributes words p
+        place-from {place = place} e on-disc num = record { asked = asked on-disc num; at = unused-own on-disc num .at place e }
+
+        pub grow-for : {p : Plain} → place-found ≡ Nothing → OnDisc image p → NumbersOf o p → CanGrowForFrom image o n size attributes words p
+        grow-for e on-disc num = record { asked = asked on-disc num; full = unused-own on-disc num .nothing e }
+
+-- a key is one of the unit's
+pub key-below : {image : List ℕ} {o : Opened} {key : ℕ} (n : ℕ) → OpenedOn image o → key ≡ keyOf (o .keys) n → key < o .keys
+key-below {o = o} n opened q =
+    let some-key : 1 ≤ o .keys = omega (arith, opened .numbers .keys, opened .on .good .limits .keys-low) in
+    let small : keyOf (o .keys) n < o .keys = mod-lt _ some-key in
+    omega (arith, q)
+
+-- ---- the messages
+
+-- a question answered yes before the others
+replies-after : {p : Plain} (b : Bool) (refusal : Outcome) {next : Outcome} {lent : List ℕ} {result : ℕ} {Same : Type 0} {Written : Plain → Type 0} → T b
+    → Replies p next lent result Same Written → Replies p (asks b refusal next) lent result Same Written
+replies-after {p} b refusal {next} {lent} {result} {Same} {Written} t r =
+    subst (λ (x : Outcome). Replies p x lent result Same Written) (sym (asks-yes b refusal next t)) r
+
+module _ {image : List ℕ} {o : Opened} {n size attributes : ℕ} {words after : List ℕ} {result : ℕ} (name : Name) (is : n ≡ named name)
+    (made : NewFileMade image o n size attributes words after result) where
+  named-step : {p : Plain} → OnDisc image p → NumbersOf o p → NewFileStep p image (named name) size attributes (optionalIn words) (tailIn words) after result
+  named-step {p} on-disc num =
+      subst (λ (m : ℕ). NewFileStep p image m size attributes (optionalIn words) (tailIn words) after result) is (made .all p on-disc num)
+
+  pub creates : optionalIn words ≡ replicate 3 0 → tailIn words ≡ replicate 6 0 → Creates image o name size attributes after result
+  creates a b = record {
+    all = λ p on-disc num mine. record {
+      step = λ lent. replies-after _ _ mine ((rw (a, b) at (named-step on-disc num)) .step lent);
+    };
+  }
+
+pub sets : {image : List ℕ} {o : Opened} {n : ℕ} {lent after : List ℕ} {result : ℕ} (name : Name) → n ≡ named name → 16 ≤ length lent
+    → NewFileMade image o n (sizeIn lent) (attributesIn lent) lent after result → Sets image o name lent after result
+sets {lent = lent} name is long made = record {
+  all = λ p on-disc num mine. record {
+    step = replies-after _ _ mine (replies-after _ _ (rw (le-leb 16 (length lent) long) tt) (named-step name is made on-disc num .step lent));
+  };
+}
+
+-- "4. Lent record at least 16 words?"
+pub sets-short : {image : List ℕ} {o : Opened} (name : Name) (lent : List ℕ) → length lent < 16 → Sets image o name lent image 0x1200
+sets-short name lent short = record {
+  all = λ p on-disc num mine. record {
+    step = replies-after _ _ mine (refused (λ z. omega arith) (asks-no _ _ _ (rw (lt-leb 16 (length lent) short) tt)) refl);
+  };
+}

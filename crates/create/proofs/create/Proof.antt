@@ -1,0 +1,29 @@
+-- `create::create` meets its contract. Assumes nothing.
+use mathlib.Core.Path.{refl}
+use borrow.Author.Needs.{needs}
+use Rattle.create.proofs.MessageLaws.{creates}
+use Rattle.create.proofs.create.Statement.{statement}
+use Rattle.create.proofs.create.Tie as tie
+
+fold-requires : tie.Need-fold-requires
+fold-requires c κs = search needs
+
+slice-aggregate-new-file : tie.Need-slice-aggregate-new-file
+slice-aggregate-new-file c = search needs
+
+new-file-requires : tie.Need-new-file-requires
+new-file-requires c κs = search needs
+
+same-length : tie.Need-same-length
+same-length c = search needs
+
+returns : tie.Need-returns
+returns c =
+    let made = c .before .before in
+    let folded = made .before .before in
+    creates (folded .before .before .before .args .name) (folded .fold .ensures .packed) (made .new-file .ensures) refl refl
+
+pub create-spec : {M : Type 1} → statement M
+create-spec =
+    tie.close
+    (tie.spec fold-requires slice-aggregate-new-file new-file-requires same-length returns)

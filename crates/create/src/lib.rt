@@ -1,0 +1,192 @@
+// Create and Set, from question 4 on: a new file, for which SYS grows first where its key has no unused place.
+
+ghost use mathlib.Core.Path.{_≡_};
+ghost use Prim.Native.Nat.{_+_, _≤_};
+ghost use lib.ListN.{length};
+ghost use Rattle.disc.specs.Names.{pack};
+ghost use Rattle.disc.specs.Entries.{entryWords};
+ghost use Rattle.words.specs.Store.{store};
+ghost use Rattle.catalog.specs.Catalog.{placeStart};
+ghost use Rattle.plain.specs.Catalog.{optionalIn, tailIn};
+ghost use Rattle.unit.specs.Opened.{OpenedOn};
+ghost use Rattle.create.specs.Create.{legalNew, CanWrite, FileWritten, CanPlace, Placed, CanGrowFor, PlacedGrown, NewFileMade, Creates, Sets};
+use catalog::Found;
+use catalog::Place;
+use types::Block;
+use types::Name;
+use types::Sector;
+use unit::Opened;
+
+// Whether name, size and attributes are legal, with the slices that the size needs.
+fn is_legal(o: Opened, name: Name, size: u16, attributes: u16) -> bool
+    requires { ⌜ 2 ≤ o .slice ⌝ }
+    ensures { λ r. ⌜ r ≡ legalNew (o .slice) (pack (name .0) (name .1) (name .2)) size attributes ⌝ }
+{
+    if !names::legal(name) {
+        return false;
+    }
+    if numbers::negative(size) {
+        return false;
+    }
+    if !files::legal_attributes(attributes) {
+        return false;
+    }
+    files::legal_with(attributes, numbers::need(o.slice, size))
+}
+
+// Stores a file's entry in a place: optional and tail are those of the words.
+fn enter(
+    image: &mut [u16],
+    place: Place,
+    name: Name,
+    size: u16,
+    attributes: u16,
+    index: Sector,
+    reserved: u16,
+    words: &[u16],
+)
+    requires { ⌜ (16 ≤ length (now words)) × (placeStart place + 16 ≤ length (now image)) ⌝ }
+    ensures { λ _. ⌜ now (image .exit) ≡ store (now (image .entry)) (placeStart place) (entryWords (pack (name .0) (name .1) (name .2)) (optionalIn (now (words .entry))) attributes size (index .0) reserved (tailIn (now (words .entry)))) ⌝ }
+{
+    let entry = [
+        name.0,
+        name.1,
+        name.2,
+        words[3],
+        words[4],
+        words[5],
+        attributes,
+        size,
+        index.0,
+        reserved,
+        words[10],
+        words[11],
+        words[12],
+        words[13],
+        words[14],
+        words[15],
+    ];
+    catalog::write_entry(image, place, &entry);
+}
+
+// Takes a new file's slices, zeroes its blocks, which begin after the index sector, and enters it in the place.
+fn write_file(
+    image: &mut [u16],
+    o: Opened,
+    place: Place,
+    name: Name,
+    size: u16,
+    attributes: u16,
+    words: &[u16],
+)
+    requires { ⌜ CanWrite (now image) o place (pack (name .0) (name .1) (name .2)) size attributes (now words) ⌝ }
+    ensures { λ _. ⌜ FileWritten (now (image .entry)) o place (pack (name .0) (name .1) (name .2)) size attributes (now (words .entry)) (now (image .exit)) ⌝ }
+{
+    let count = numbers::need(o.slice, size);
+    let none = index::empty_block();
+    let block = writes::take_more(image, none, o.first, o.slice, o.slices, count);
+    writes::zero_sectors(image, block, 1, size);
+    let sector = index::block_sector(block, 0, Block(0));
+    enter(
+        image,
+        place,
+        name,
+        size,
+        attributes,
+        sector,
+        o.slice * count,
+        words,
+    );
+    writes::count_free(image, o.slice);
+}
+
+// The file in an unused place, once questions 7 and 8 are answered.
+fn create_in(
+    image: &mut [u16],
+    o: Opened,
+    place: Place,
+    name: Name,
+    size: u16,
+    attributes: u16,
+    words: &[u16],
+) -> u16
+    requires { ⌜ CanPlace (now image) o place (pack (name .0) (name .1) (name .2)) size attributes (now words) ⌝ }
+    ensures { λ r. ⌜ Placed (now (image .entry)) o place (pack (name .0) (name .1) (name .2)) size attributes (now (words .entry)) (now (image .exit)) r ⌝ }
+{
+    let none = index::empty_block();
+    let room = grow::room(image, o, o.layers, none, numbers::need(o.slice, size));
+    if room != 0 {
+        return room;
+    }
+    write_file(image, o, place, name, size, attributes, words);
+    0
+}
+
+// The same where the key has no unused place: SYS grows first, and the new layer has unused places of every key.
+fn create_grown(
+    image: &mut [u16],
+    o: Opened,
+    name: Name,
+    size: u16,
+    attributes: u16,
+    words: &[u16],
+) -> u16
+    requires { ⌜ CanGrowFor (now image) o (pack (name .0) (name .1) (name .2)) size attributes (now words) ⌝ }
+    ensures { λ r. ⌜ PlacedGrown (now (image .entry)) o (pack (name .0) (name .1) (name .2)) size attributes (now (words .entry)) (now (image .exit)) r ⌝ }
+{
+    let none = index::empty_block();
+    let room = grow::room(image, o, o.layers + 1, none, numbers::need(o.slice, size));
+    if room != 0 {
+        return room;
+    }
+    let grown = grow::grow(image, o);
+    let Found::At(place) = unit::find_unused(image, grown, numbers::key(name, o.keys)) else {
+        return 0;
+    };
+    write_file(image, grown, place, name, size, attributes, words);
+    0
+}
+
+// A new file under a name in capitals; optional and tail are those of the words.
+fn new_file(
+    image: &mut [u16],
+    o: Opened,
+    name: Name,
+    size: u16,
+    attributes: u16,
+    words: &[u16],
+) -> u16
+    requires { ⌜ OpenedOn (now image) o × (16 ≤ length (now words)) ⌝ }
+    ensures { λ r. ⌜ NewFileMade (now (image .entry)) o (pack (name .0) (name .1) (name .2)) size attributes (now (words .entry)) (now (image .exit)) r ⌝ }
+{
+    if !is_legal(o, name, size, attributes) {
+        return 0x1200;
+    }
+    let Found::Nothing = unit::find_name(image, o, name) else {
+        return 0x1010;
+    };
+    let Found::At(place) = unit::find_unused(image, o, numbers::key(name, o.keys)) else {
+        return create_grown(image, o, name, size, attributes, words);
+    };
+    create_in(image, o, place, name, size, attributes, words)
+}
+
+// Create from question 4 on: the result word. Optional and tail are zero.
+pub fn create(image: &mut [u16], o: Opened, name: Name, size: u16, attributes: u16) -> u16
+    requires { ⌜ OpenedOn (now image) o ⌝ }
+    ensures { λ r. ⌜ Creates (now (image .entry)) o name size attributes (now (image .exit)) r ⌝ }
+{
+    let words = [0u16; 16];
+    new_file(image, o, names::fold(name), size, attributes, &words)
+}
+
+// Set from question 4 on: the result word. Size, attributes, optional and tail are those of the lent entry.
+pub fn set(image: &mut [u16], o: Opened, name: Name, lent: &[u16]) -> u16
+    requires { ⌜ OpenedOn (now image) o ⌝ }
+    ensures { λ r. ⌜ Sets (now (image .entry)) o name (now (lent .entry)) (now (image .exit)) r ⌝ }
+{
+    if lent.len() < 16 {
+        return 0x1200;
+    }
+    new_file(image, o, names::fold(name), lent[9], lent[6], lent)
+}

@@ -1,0 +1,3 @@
+pub mod BlockLaws
+pub mod RoomLaws
+pub mod GrowLaws

@@ -1,0 +1,111 @@
+-- `grow::grow` meets its contract. Assumes nothing.
+use mathlib.Core.Path.{refl, ap}
+use Prim.Native.Nat.{ℕ, _*_}
+use native.Mathlib.Omega.{arith}
+use borrow.Author.Needs.{needs}
+use Rattle.grow.proofs.GrowLaws.{layers-small, blocks-small, reserved-small, slices-small, never-nothing, place-inside, can-count, grown-from, grown-numbers}
+use Rattle.grow.proofs.grow.Statement.{statement}
+use Rattle.grow.proofs.grow.Tie as tie
+
+sys-name-requires : tie.Need-sys-name-requires
+sys-name-requires c κs = search needs
+
+find-name-requires : tie.Need-find-name-requires
+find-name-requires c κs = search needs
+
+enum-known-place : tie.Need-enum-known-place
+enum-known-place c = search needs
+
+enum-told : tie.Need-enum-told
+enum-told c = search needs
+
+same-length : tie.Need-same-length
+same-length c = search needs
+
+-- SYS is entered
+returns : tie.Need-returns
+returns c =
+    let f = c .before .before in
+    absurd (never-nothing (f .before .before .before .before .pre .can) (f .before .sys-name .ensures .packed) (f .find-name .ensures) (c .enum-told .given .1))
+
+add-layers : tie.Need-add-layers
+add-layers c = omega (arith, layers-small (c .before .before .before .before .before .before .before .before .pre .can))
+
+add-layer-requires : tie.Need-add-layer-requires
+add-layer-requires c κs = search needs
+
+sys-slices-for-requires : tie.Need-sys-slices-for-requires
+sys-slices-for-requires c κs = search needs
+
+cast-reserved : tie.Need-cast-reserved
+cast-reserved c =
+    let start = c .before .before .before .before .before .before .before .before .before .before .before .before .before .before in
+    omega (arith, c .sys-slices-for .ensures, slices-small (start .pre .can))
+
+mul-reserved : tie.Need-mul-reserved
+mul-reserved c =
+    let start = c .before .before .before .before .before .before .before .before .before .before .before .before .before .before .before in
+    omega (arith, ap (λ (n : ℕ). start .args .o .slice * n) (c .before .sys-slices-for .ensures), reserved-small (start .pre .can))
+
+mul-enter-sys : tie.Need-mul-enter-sys
+mul-enter-sys c =
+    let start = c .before .before .before .before .before .before .before .before .before .before .before .before .before .before .before .before .before in
+    omega (arith, blocks-small (start .pre .can))
+
+enter-sys-requires : tie.Need-enter-sys-requires
+enter-sys-requires c κs =
+    let added = c .before .before .before .before .before .before in
+    let place = added .before .before .before .before .before in
+    let f = place .before .before in
+    place-inside (f .before .before .before .before .pre .can) (f .before .sys-name .ensures .packed) (f .find-name .ensures) (place .place .given .1) (added .add-layer .ensures)
+
+count-free-requires : tie.Need-count-free-requires
+count-free-requires c κs =
+    let entered = c .before .before .before in
+    let counted = entered .before .before .before .before in
+    let added = counted .before .before .before in
+    let place = added .before .before .before .before .before in
+    let f = place .before .before in
+    let start = f .before .before .before .before in
+    can-count (start .pre .can) (f .before .sys-name .ensures .packed) (f .find-name .ensures) (place .place .given .1) (added .add-layer .ensures) (entered .enter-sys .ensures) refl
+    (ap (λ (n : ℕ). start .args .o .slice * n) (counted .sys-slices-for .ensures))
+
+same-length-2 : tie.Need-same-length-2
+same-length-2 c = search needs
+
+returns-2 : tie.Need-returns-2
+returns-2 c =
+    let entered = c .before .before .before .before .before .before in
+    let counted = entered .before .before .before .before in
+    let added = counted .before .before .before in
+    let place = added .before .before .before .before .before in
+    let f = place .before .before in
+    let start = f .before .before .before .before in
+    record {
+      all = λ p can. (
+        grown-from can (f .before .sys-name .ensures .packed) (f .find-name .ensures) (place .place .given .1) (added .add-layer .ensures) (entered .enter-sys .ensures) refl
+            (ap (λ (n : ℕ). start .args .o .slice * n) (counted .sys-slices-for .ensures)) (c .before .before .count-free .ensures),
+        grown-numbers can _ refl refl refl refl refl,
+      );
+    }
+
+pub grow-spec : {M : Type 1} → statement M
+grow-spec =
+    tie.close
+    (tie.spec
+    sys-name-requires
+    find-name-requires
+    enum-known-place
+    enum-told
+    same-length
+    returns
+    add-layers
+    add-layer-requires
+    sys-slices-for-requires
+    cast-reserved
+    mul-reserved
+    mul-enter-sys
+    enter-sys-requires
+    count-free-requires
+    same-length-2
+    returns-2)

@@ -1,0 +1,136 @@
+// Questions 7 and 8, asked for SYS and a file together before anything is written; and SYS's growth by a layer.
+
+ghost use mathlib.Core.Path.{_≡_};
+ghost use Prim.Native.Nat.{_+_, _-_, _*_, _≤_, _<_};
+ghost use lib.ListN.{length};
+ghost use Rattle.disc.specs.Numbers.{ceilDiv};
+ghost use Rattle.disc.specs.Names.{SYS};
+ghost use Rattle.disc.specs.Entries.{systemEntry};
+ghost use Rattle.words.specs.Store.{store};
+ghost use Rattle.index.specs.Block.{sliceTotal};
+ghost use Rattle.catalog.specs.Catalog.{placeStart};
+ghost use Rattle.grow.specs.Room.{GrowthOf, CanAsk, RoomFor};
+ghost use Rattle.grow.specs.Grow.{CanGrow, LayerAdded, Grows};
+use catalog::Found;
+use catalog::Place;
+use index::IndexBlock;
+use plan::Growth;
+use types::Sector;
+use unit::Opened;
+
+// The slices of SYS with so many layers: H times L / s rounded up.
+fn sys_slices_for(o: Opened, layers: u16) -> u32
+    requires { ⌜ 1 ≤ o .slice ⌝ }
+    ensures { λ r. ⌜ r ≡ ceilDiv (o .keys * layers) (o .slice) ⌝ }
+{
+    numbers::ceil_div(o.keys as u32 * layers as u32, o.slice as u32)
+}
+
+// The slices that SYS, whose index block is given, takes for so many layers.
+fn sys_more(o: Opened, layers: u16, block: IndexBlock) -> u32
+    requires { ⌜ (1 ≤ o .slice) × (sliceTotal (o .slice) (block .words) 0 < 65536) ⌝ }
+    ensures { λ r. ⌜ r ≡ ceilDiv (o .keys * layers) (o .slice) - sliceTotal (o .slice) (block .words) 0 ⌝ }
+{
+    let all = sys_slices_for(o, layers);
+    let had = index::slice_total(block, o.slice) as u32;
+    if all < had {
+        return 0;
+    }
+    all - had
+}
+
+// The file whose index block is given, with the slices that it is to take.
+fn growth_of(o: Opened, block: IndexBlock, more: u16) -> Growth
+    requires { ⌜ 2 ≤ o .slice ⌝ }
+    ensures { λ r. ⌜ GrowthOf o (block .words) more r ⌝ }
+{
+    Growth {
+        stretches: index::pair_count(&block.words, Sector(0)),
+        last: index::last_slice(block, o.first, o.slice),
+        more: more,
+    }
+}
+
+// Questions 7 and 8 for SYS with so many layers and a file, whose index block is given, that is to take `more` slices: 0, or the
+// word of the first no.
+pub fn room(image: &[u16], o: Opened, layers: u16, file: IndexBlock, more: u16) -> u16
+    requires { ⌜ CanAsk (now image) o (file .words) ⌝ }
+    ensures { λ r. ⌜ RoomFor (now (image .entry)) o layers (file .words) more r ⌝ }
+{
+    let sys = index::read_block(image, Sector(6));
+    let for_sys = sys_more(o, layers, sys);
+    let free = map::count_free(image) as u32;
+    if free < for_sys + more as u32 {
+        return 0x1100;
+    }
+    let sys_growth = growth_of(o, sys, for_sys as u16);
+    let file_growth = growth_of(o, file, more);
+    let fit = plan::fits(image, sys_growth, file_growth, o.slices);
+    if !fit.sys {
+        return 0x1008;
+    }
+    if !fit.file {
+        return 0x1008;
+    }
+    0
+}
+
+// Takes SYS's slices for one layer more, and zeroes the sectors of the layer.
+fn add_layer(image: &mut [u16], o: Opened)
+    requires { ⌜ CanGrow (now image) o ⌝ }
+    ensures { λ _. ⌜ LayerAdded (now (image .entry)) o (now (image .exit)) ⌝ }
+{
+    let block = index::read_block(image, Sector(6));
+    let more = sys_more(o, o.layers + 1, block) as u16;
+    let longer = writes::take_at(image, Sector(6), block, o.first, o.slice, o.slices, more);
+    writes::zero_sectors(image, longer, o.keys * o.layers, o.keys);
+}
+
+// Stores SYS's entry in its place.
+fn enter_sys(image: &mut [u16], place: Place, size: u16, reserved: u16)
+    requires { ⌜ placeStart place + 16 ≤ length (now image) ⌝ }
+    ensures { λ _. ⌜ now (image .exit) ≡ store (now (image .entry)) (placeStart place) (systemEntry SYS size 6 reserved) ⌝ }
+{
+    let entry = [
+        0x5359,
+        0x5300,
+        0,
+        0,
+        0,
+        0,
+        0x8010,
+        size,
+        6,
+        reserved,
+        0,
+        0,
+        0,
+        0,
+        0,
+        0,
+    ];
+    catalog::write_entry(image, place, &entry);
+}
+
+// SYS grows by a layer: the unit's numbers then. SYS is entered in every unit, so that its place is found.
+pub fn grow(image: &mut [u16], o: Opened) -> Opened
+    requires { ⌜ CanGrow (now image) o ⌝ }
+    ensures { λ r. ⌜ Grows (now (image .entry)) o (now (image .exit)) r ⌝ }
+{
+    let Found::At(place) = unit::find_name(image, o, names::sys_name()) else {
+        return o;
+    };
+    let layers = o.layers + 1;
+    let first = o.first;
+    add_layer(image, o);
+    let reserved = o.slice * sys_slices_for(o, layers) as u16;
+    enter_sys(image, place, o.keys * layers, reserved);
+    writes::count_free(image, o.slice);
+    Opened {
+        keys: o.keys,
+        slice: o.slice,
+        first: first,
+        slices: o.slices,
+        layers: layers,
+    }
+}

@@ -1,0 +1,4 @@
+pub mod DescriptionLaws
+pub mod OrderLaws
+pub mod TurnLaws
+pub mod ListingLaws

@@ -1,0 +1,41 @@
+-- `reports::describe` meets its contract. Assumes nothing.
+use borrow.Author.Needs.{needs}
+use Rattle.reports.proofs.DescriptionLaws.{describes-bytes, describes-short, describes-done}
+use Rattle.reports.proofs.describe.Statement.{statement}
+use Rattle.reports.proofs.describe.Tie as tie
+
+refused-requires : tie.Need-refused-requires
+refused-requires c κs = search needs
+
+returns : tie.Need-returns
+returns c = rw (c .refused .ensures) (describes-bytes _ _ _ _ (c .before .if1 .taken))
+
+refused-requires-2 : tie.Need-refused-requires-2
+refused-requires-2 c κs = search needs
+
+returns-2 : tie.Need-returns-2
+returns-2 c = rw (c .refused2 .ensures) (describes-short _ _ _ _ (c .before .before .if1 .left) (c .before .if2 .taken))
+
+store-description-requires : tie.Need-store-description-requires
+store-description-requires c κs = search needs
+
+same-length : tie.Need-same-length
+same-length c = search needs
+
+returns-3 : tie.Need-returns-3
+returns-3 c =
+    let stored = c .before .before in
+    let left = stored .before .before in
+    describes-done _ _ _ _ (left .before .if1 .left) (left .if2 .left) (stored .store-description .ensures)
+
+pub describe-spec : {M : Type 1} → statement M
+describe-spec =
+    tie.close
+    (tie.spec
+    refused-requires
+    returns
+    refused-requires-2
+    returns-2
+    store-description-requires
+    same-length
+    returns-3)

@@ -1,0 +1,62 @@
+-- `reports::list` meets its contract. Assumes nothing.
+use native.Mathlib.Omega.{arith}
+use borrow.Author.Needs.{needs}
+use Rattle.reports.proofs.ListingLaws.{can-read, lists-short, lists-done}
+use Rattle.reports.proofs.list.Statement.{statement}
+use Rattle.reports.proofs.list.Tie as tie
+
+cast-blocks : tie.Need-cast-blocks
+cast-blocks c = search needs
+
+cast-blocks-2 : tie.Need-cast-blocks-2
+cast-blocks-2 c = search needs
+
+mul-blocks : tie.Need-mul-blocks
+mul-blocks c = omega (arith, can-read (c .before .before .before .before .pre) .few)
+
+count-entries-requires : tie.Need-count-entries-requires
+count-entries-requires c κs = can-read (c .before .before .before .before .pre)
+
+cast-if1 : tie.Need-cast-if1
+cast-if1 c = search needs
+
+mul-if1 : tie.Need-mul-if1
+mul-if1 c = search needs
+
+refused-requires : tie.Need-refused-requires
+refused-requires c κs = search needs
+
+returns : tie.Need-returns
+returns c =
+    let count = c .before .before in
+    rw (c .refused .ensures) (lists-short _ (count .count-entries .ensures) (c .before .if1 .taken))
+
+copy-entries-requires : tie.Need-copy-entries-requires
+copy-entries-requires c κs =
+    let count = c .before .before in
+    (can-read (count .before .before .before .before .before .pre), omega (arith, c .before .if1 .left, count .count-entries .ensures .words))
+
+same-length : tie.Need-same-length
+same-length c = search needs
+
+returns-2 : tie.Need-returns-2
+returns-2 c =
+    let copied = c .before .before in
+    let left = copied .before .before in
+    lists-done _ (left .before .count-entries .ensures) (left .if1 .left) (copied .copy-entries .ensures)
+
+pub list-spec : {M : Type 1} → statement M
+list-spec =
+    tie.close
+    (tie.spec
+    cast-blocks
+    cast-blocks-2
+    mul-blocks
+    count-entries-requires
+    cast-if1
+    mul-if1
+    refused-requires
+    returns
+    copy-entries-requires
+    same-length
+    returns-2)

@@ -1,0 +1,164 @@
+// Get Unit Description and the listing, after the questions that they have in common with the catalog messages.
+
+ghost use mathlib.Core.Path.{_≡_};
+ghost use Prim.Native.Nat.{_+_, _*_, _≤_, _<_};
+ghost use lib.ListN.{length};
+ghost use Rattle.words.specs.Store.{store};
+ghost use Rattle.plain.specs.Questions.{answer};
+ghost use Rattle.unit.specs.Opened.{OpenedOn};
+ghost use Rattle.reports.specs.Description.{described, Describes};
+ghost use Rattle.reports.specs.Listing.{slotEntry, slotEntries, blockEntries, Readable, CountOf, Copied, Lists};
+use types::Answer;
+use types::Block;
+use types::Sector;
+use unit::Opened;
+
+// The answer of a refused call: 1200h, and nothing handed back.
+fn refused() -> Answer
+    ensures { λ r. ⌜ r ≡ answer 0x1200 0 0 0 ⌝ }
+{
+    Answer {
+        result: 0x1200,
+        bytes: 0,
+        block: Block(0),
+        entries: 0,
+    }
+}
+
+// Stores the description's record of 16 words at the start of the lent ones.
+fn store_description(image: &[u16], o: Opened, unit: u16, lent: &mut [u16])
+    requires { ⌜ (unit ≤ 3) × (16 ≤ length (now lent)) ⌝ }
+    ensures { λ _. ⌜ now (lent .exit) ≡ store (now (lent .entry)) 0 (described (now (image .entry)) o unit) ⌝ }
+{
+    let sectors = words::word(image, Sector(8), 2);
+    let free = words::word(image, Sector(8), 3);
+    let description = [
+        0,
+        unit,
+        0,
+        20,
+        0x554E,
+        0x4954,
+        unit * 256,
+        0,
+        0,
+        0,
+        0,
+        0,
+        o.keys,
+        o.slice,
+        sectors,
+        free,
+    ];
+    words::copy_words(&description, 0, lent, 0, 16);
+}
+
+// Get Unit Description. N and the free sectors are read in the kit, the other numbers are the unit's as it was opened.
+pub fn describe(image: &[u16], o: Opened, unit: u16, bytes: u16, lent: &mut [u16]) -> Answer
+    requires { ⌜ unit ≤ 3 ⌝ }
+    ensures { λ r. ⌜ Describes (now (image .entry)) o unit bytes (now (lent .entry)) r (now (lent .exit)) ⌝ }
+{
+    if bytes < 32 {
+        return refused();
+    }
+    if lent.len() < 16 {
+        return refused();
+    }
+    store_description(image, o, unit, lent);
+    Answer {
+        result: 0,
+        bytes: 32,
+        block: Block(0),
+        entries: 0,
+    }
+}
+
+// The number of used slots of sector q.
+fn count_slots(image: &[u16], q: Sector) -> u32
+    requires { ⌜ q .0 * 256 + 256 ≤ length (now image) ⌝ }
+    ensures { λ r. ⌜ CountOf (slotEntries (now (image .entry)) (q .0) 16) r ⌝ }
+{
+    let mut count: u32 = 0;
+    let mut i: u16 = 0;
+    while i < 16 {
+        if !catalog::is_unused_slot(image, q, i) {
+            count += 1;
+        }
+        i += 1;
+    }
+    count
+}
+
+// The number of used places in the first n blocks of SYS.
+fn count_entries(image: &[u16], n: u32) -> u32
+    requires { ⌜ Readable (now image) n ⌝ }
+    ensures { λ r. ⌜ CountOf (blockEntries (now (image .entry)) n) r ⌝ }
+{
+    let mut count: u32 = 0;
+    let mut b: u32 = 0;
+    while b < n {
+        let q = index::sector_at(image, Sector(6), b);
+        count += count_slots(image, q);
+        b += 1;
+    }
+    count
+}
+
+// Stores the entry in a slot of sector q, if the slot is used, from lent word `at` on. Hands back the number of the word after it.
+fn copy_slot(image: &[u16], q: Sector, slot: u16, lent: &mut [u16], at: usize) -> usize
+    requires { ⌜ (q .0 * 256 + 256 ≤ length (now image)) × (slot < 16) × (at + length (slotEntry (now image) (q .0) slot) ≤ length (now lent)) ⌝ }
+    ensures { λ r. ⌜ Copied (now (lent .entry)) at (slotEntry (now (image .entry)) (q .0) slot) (now (lent .exit)) r ⌝ }
+{
+    if catalog::is_unused_slot(image, q, slot) {
+        return at;
+    }
+    words::copy_words(image, q.0 as usize * 256 + slot as usize * 16, lent, at, 16);
+    at + 16
+}
+
+// Stores the entries in the slots of sector q, one after the other, from lent word `start` on.
+fn copy_slots(image: &[u16], q: Sector, lent: &mut [u16], start: usize) -> usize
+    requires { ⌜ (q .0 * 256 + 256 ≤ length (now image)) × (start + length (slotEntries (now image) (q .0) 16) ≤ length (now lent)) ⌝ }
+    ensures { λ r. ⌜ Copied (now (lent .entry)) start (slotEntries (now (image .entry)) (q .0) 16) (now (lent .exit)) r ⌝ }
+{
+    let mut at = start;
+    let mut slot: u16 = 0;
+    while slot < 16 {
+        at = copy_slot(image, q, slot, lent, at);
+        slot += 1;
+    }
+    at
+}
+
+// Stores the entries in the first n blocks of SYS at the start of the lent words.
+fn copy_entries(image: &[u16], n: u32, lent: &mut [u16])
+    requires { ⌜ Readable (now image) n × (length (blockEntries (now image) n) ≤ length (now lent)) ⌝ }
+    ensures { λ _. ⌜ now (lent .exit) ≡ store (now (lent .entry)) 0 (blockEntries (now (image .entry)) n) ⌝ }
+{
+    let mut at: usize = 0;
+    let mut b: u32 = 0;
+    while b < n {
+        let q = index::sector_at(image, Sector(6), b);
+        at = copy_slots(image, q, lent, at);
+        b += 1;
+    }
+}
+
+// The listing: the entries of SYS in the order of their places, counted first.
+pub fn list(image: &[u16], o: Opened, lent: &mut [u16]) -> Answer
+    requires { ⌜ OpenedOn (now image) o ⌝ }
+    ensures { λ r. ⌜ Lists (now (image .entry)) o (now (lent .entry)) r (now (lent .exit)) ⌝ }
+{
+    let blocks = o.keys as u32 * o.layers as u32;
+    let count = count_entries(image, blocks);
+    if lent.len() < 16 * count as usize {
+        return refused();
+    }
+    copy_entries(image, blocks, lent);
+    Answer {
+        result: 0,
+        bytes: 0,
+        block: Block(0),
+        entries: count,
+    }
+}
