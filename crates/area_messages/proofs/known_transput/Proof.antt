@@ -1,0 +1,28 @@
+-- `area_messages::known_transput` meets its contract. Assumes nothing.
+use borrow.Author.Needs.{needs}
+use mathlib.Core.Path.{sym, ap, _∙_}
+use Rattle.area_messages.specs.AreaMessages.{knownTransput}
+use Rattle.area_messages.proofs.MessageLaws.{transput-by}
+use Rattle.area_messages.proofs.known_transput.Statement.{statement}
+use Rattle.area_messages.proofs.known_transput.Tie as tie
+
+returns : tie.Need-returns
+returns c = sym (ap knownTransput (c .if1 .taken))
+
+returns-2 : tie.Need-returns-2
+returns-2 c = sym (ap knownTransput (c .if2 .taken))
+
+is-output-requires : tie.Need-is-output-requires
+is-output-requires c κs = search needs
+
+returns-3 : tie.Need-returns-3
+returns-3 c = c .is-output .ensures ∙ transput-by (c .before .before .before .args .operation) (c .before .before .if1 .left) (c .before .if2 .left)
+
+pub known-transput-spec : {M : Type 1} → statement M
+known-transput-spec =
+    tie.close
+    (tie.spec
+    returns
+    returns-2
+    is-output-requires
+    returns-3)

@@ -1,0 +1,76 @@
+-- `area_messages::operate` meets its contract. Assumes nothing.
+use borrow.Author.Needs.{needs}
+use Rattle.area_messages.proofs.MessageLaws.{operate-low, operate-reserve, operate-stranger, operate-seated, operate-user}
+use Rattle.area_messages.proofs.operate.Statement.{statement}
+use Rattle.area_messages.proofs.operate.Tie as tie
+
+reserve-count-requires : tie.Need-reserve-count-requires
+reserve-count-requires c κs = search needs
+
+reserve-requires : tie.Need-reserve-requires
+reserve-requires c κs =
+    let a = c .before .before .before .before .args in
+    operate-low (a .image .now) (a .state) (a .o) (a .j) (a .sender) (a .operation) (c .before .before .before .before .pre)
+
+returns : tie.Need-returns
+returns c =
+    let a = c .before .before .before .before .before .args in
+    operate-reserve (a .image .now) (a .state) (a .o) (a .j) (a .sender) (a .operation) (c .before .before .reserve-count .ensures) (c .before .if1 .taken) (c .reserve .ensures)
+
+area-at-requires : tie.Need-area-at-requires
+area-at-requires c κs =
+    let a = c .before .before .before .before .args in
+    operate-low (a .image .now) (a .state) (a .o) (a .j) (a .sender) (a .operation) (c .before .before .before .before .pre)
+
+find-user-requires : tie.Need-find-user-requires
+find-user-requires c κs = search needs
+
+enum-known-u : tie.Need-enum-known-u
+enum-known-u c = search needs
+
+enum-told : tie.Need-enum-told
+enum-told c = search needs
+
+reply-requires : tie.Need-reply-requires
+reply-requires c κs = search needs
+
+returns-2 : tie.Need-returns-2
+returns-2 c =
+    let a = c .before .before .before .before .before .before .before .before .before .args in
+    operate-stranger (a .image .now) (a .state) (a .o) (a .j) (a .sender) (a .operation) (c .before .before .before .before .before .before .reserve-count .ensures) (c .before .before .before .before .before .if1 .left) (c .before .before .before .before .area-at .ensures) (c .before .before .before .find-user .ensures) (c .before .enum-told .given .1)
+    (c .reply .ensures)
+
+user-step-requires : tie.Need-user-step-requires
+user-step-requires c κs =
+    let a = c .before .before .before .before .before .before .before .before .before .before .before .args in
+    operate-seated (a .image .now) (a .state) (a .o) (a .j) (a .sender) (a .operation) (c .before .before .before .before .before .before .before .before .reserve-count .ensures) (c .before .before .before .before .before .before .before .if1 .left) (c .before .before .before .before .before .before .area-at .ensures) (c .before .before .before .before .before .find-user .ensures) (c .before .before .before .u .given .1) (c .before .before .before .before .before .before .before .before .before .before .before .pre)
+
+same-length : tie.Need-same-length
+same-length c = search needs
+
+same-length-2 : tie.Need-same-length-2
+same-length-2 c = search needs
+
+returns-3 : tie.Need-returns-3
+returns-3 c =
+    let a = c .before .before .before .before .before .before .before .before .before .before .before .before .before .before .before .before .args in
+    operate-user (a .image .now) (a .state) (a .o) (a .j) (a .sender) (a .operation) (c .before .before .before .before .before .before .before .before .before .before .before .before .before .reserve-count .ensures) (c .before .before .before .before .before .before .before .before .before .before .before .before .if1 .left) (c .before .before .before .before .before .before .before .before .before .before .before .area-at .ensures) (c .before .before .before .before .before .before .before .before .before .before .find-user .ensures) (c .before .before .before .before .before .before .before .before .u .given .1)
+    (c .before .before .before .before .user-step .ensures)
+
+pub operate-spec : {M : Type 1} → statement M
+operate-spec =
+    tie.close
+    (tie.spec
+    reserve-count-requires
+    reserve-requires
+    returns
+    area-at-requires
+    find-user-requires
+    enum-known-u
+    enum-told
+    reply-requires
+    returns-2
+    user-step-requires
+    same-length
+    same-length-2
+    returns-3)

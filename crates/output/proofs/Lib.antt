@@ -1,0 +1,3 @@
+pub mod FileLaws
+pub mod AppendLaws
+pub mod OutputLaws

@@ -1,0 +1,129 @@
+-- Output at a position, said of the plain unit: what it finds, its answer, and the image and the state that it leaves.
+use mathlib.Core.Path.{_≡_}
+use mathlib.Core.Bool.{true, cond, _||_}
+use mathlib.Core.List.{List, _++_}
+use mathlib.Core.Option.{some}
+use Prim.Native.Nat.{ℕ, suc, _≤_, _<_}
+use lib.Dec.{leb, ltb, eqb}
+use lib.ListN.{length, take}
+use Rattle.types.specs.declared.State.{State}
+use Rattle.types.specs.State.{areaAt}
+use Rattle.disc.specs.Attributes.{extendable}
+use Rattle.disc.specs.Slices.{taken, lastOf}
+use Rattle.disc.specs.Stretches.{stretchCount, blockSector, fileFrom}
+use Rattle.disc.specs.Entries.{indexSector}
+use Rattle.index.specs.Block.{wholeIndex}
+use Rattle.state.specs.Areas.{setArea, moved, withLive}
+use Rattle.plain.specs.Table.{Table, tableFind}
+use Rattle.plain.specs.Unit.{Plain, File, AreaUser, M, held, freeSlices}
+use Rattle.plain.specs.Areas as plain
+use Rattle.plain.specs.Transput.{slicesToTake, output}
+use Rattle.plain.specs.Good.{Good}
+use Rattle.refine.specs.Represents.{Represents}
+use Rattle.refine.specs.OnDisc.{OnDisc}
+use Rattle.refine.specs.Writes.{replacedImage, appendedImage}
+use Rattle.unit.specs.declared.Opened.{Opened}
+use Rattle.unit.specs.Opened.{NumbersOf}
+use Rattle.sharing.specs.declared.AreaReply.{AreaReply}
+use Rattle.sharing.specs.Sharing.{atPosition}
+use Rattle.sharing.specs.Leaves.{Leaves, Seat, areaUsers, areaUser}
+
+-- ---- what is read of a file
+
+-- The attributes of the file with name n, of every unit on the image.
+pub record AttributesOf (image : List ℕ) (o : Opened) (n r : ℕ) : Type 0 where
+  pub all : (p : Plain) → OnDisc image p → NumbersOf o p → (f : File) → tableFind n (p .files) ≡ some f → r ≡ f .attributes
+
+-- "Block b is sector b + 1 of the joined stretches": the sector of block k of every file with this index sector.
+pub record BlockSectorOf (image : List ℕ) (index k r : ℕ) : Type 0 where
+  pub all : (p : Plain) → OnDisc image p → (n : ℕ) (f : File) → tableFind n (p .files) ≡ some f
+      → index ≡ indexSector (p .F) (p .s) (length (f .slices)) (f .slices) → k < length (f .sectors) → r ≡ blockSector (p .F) (p .s) (f .slices) fileFrom k
+
+-- ---- appending
+
+-- The slices that Output at the live length of file f takes: one, or none.
+abbrev pub newSlices : Plain → File → List ℕ
+newSlices p f = taken (M p) (held p) (lastOf (f .slices)) (slicesToTake (p .s) f)
+
+-- "Where a slice is needed: one free? 0900h; at most 127 stretches with it? 0808h": 0, or the word of the first no.
+unfoldable pub roomWord : Plain → File → ℕ
+roomWord p f =
+    cond (leb (slicesToTake (p .s) f) (freeSlices p))
+    (cond (eqb (slicesToTake (p .s) f) 0 || leb (stretchCount (f .slices ++ newSlices p f)) 127) 0 0x0808) 0x0900
+
+-- The same of every file, of every unit on the image, that has this index block and takes so many slices.
+pub record RoomFor (image : List ℕ) (o : Opened) (words : List ℕ) (more r : ℕ) : Type 0 where
+  pub all : (p : Plain) → OnDisc image p → NumbersOf o p → (n : ℕ) (f : File) → tableFind n (p .files) ≡ some f
+      → words ≡ wholeIndex (p .F) (p .s) (f .slices) → more ≡ slicesToTake (p .s) f → r ≡ roomWord p f
+
+-- An open file with this index block and live length, of which every question of an append is answered yes.
+pub record CanAppendFrom (image : List ℕ) (o : Opened) (block : List ℕ) (count len : ℕ) (lent : List ℕ) (p : Plain) (n : ℕ) (users : Table AreaUser) (f : File) : Type 0 where
+  pub on : OnDisc image p
+  pub numbers : NumbersOf o p
+  pub file : tableFind n (p .files) ≡ some f
+  pub live : tableFind n (p .areas) ≡ some users
+  pub words : block ≡ wholeIndex (p .F) (p .s) (f .slices)
+  pub more : count ≡ slicesToTake (p .s) f
+  pub size : len ≡ length (f .sectors)
+  pub extends : extendable (f .attributes) ≡ true
+  pub room : roomWord p f ≡ 0
+  pub long : 256 ≤ length lent
+
+pub record CanAppend (image : List ℕ) (o : Opened) (words : List ℕ) (more len : ℕ) (lent : List ℕ) : Type 0 where
+  pub p : Plain
+  pub n : ℕ
+  pub users : Table AreaUser
+  pub f : File
+  pub can : CanAppendFrom image o words more len lent p n users f
+
+-- The image with the block appended, and the file's index sector then.
+pub record AppendedBy (image : List ℕ) (o : Opened) (words : List ℕ) (more len : ℕ) (lent after : List ℕ) (index : ℕ) : Type 0 where
+  pub all : (p : Plain) (n : ℕ) (users : Table AreaUser) (f : File) → CanAppendFrom image o words more len lent p n users f
+      → (after ≡ appendedImage p image f (newSlices p f) (take 256 lent)) × (index ≡ indexSector (p .F) (p .s) (length (f .slices ++ newSlices p f)) (f .slices ++ newSlices p f))
+
+-- ---- output
+
+-- The sender, a user of the area, at position k; q is the unit once its position is k.
+pub record Placed (image : List ℕ) (state : State) (o : Opened) (p q : Plain) (n j sender u : ℕ) (f : File) (k : ℕ) : Type 0 where
+  pub seat : Seat image state p n j sender u f
+  pub numbers : NumbersOf o p
+  pub low : k ≤ length (f .sectors)
+  pub good : Good q
+  pub represents : Represents image (atPosition state j u k) q
+
+-- What Output starts from: "at least 256 words lent".
+pub record SomePlaced (image : List ℕ) (state : State) (o : Opened) (j u k : ℕ) (lent : List ℕ) : Type 0 where
+  pub p : Plain
+  pub q : Plain
+  pub n : ℕ
+  pub sender : ℕ
+  pub f : File
+  pub placed : Placed image state o p q n j sender u f k
+  pub long : 256 ≤ length lent
+
+-- "Output replaces it or, at the live length, appends": the image after a result word; where Output is refused nothing is written.
+unfoldable pub outputImage : Plain → List ℕ → File → ℕ → ℕ → List ℕ → List ℕ
+outputImage p image f result k lent =
+    cond (eqb result 0)
+    (cond (ltb k (length (f .sectors))) (replacedImage p image f k (take 256 lent)) (appendedImage p image f (newSlices p f) (take 256 lent)))
+    image
+
+-- The state after it: "add 1 to the position", and after an append index sector and live length are the longer file's.
+unfoldable pub outputState : Plain → File → State → ℕ → ℕ → ℕ → ℕ → State
+outputState p f state j u result k =
+    let slices : List ℕ = f .slices ++ newSlices p f in
+    cond (eqb result 0)
+    (cond (ltb k (length (f .sectors))) (atPosition state j u (suc k))
+    (setArea state j (withLive (moved (areaAt state j) u (record { 0 = suc k })) (record { 0 = indexSector (p .F) (p .s) (length slices) slices }) (suc (length (f .sectors))))))
+    (atPosition state j u k)
+
+-- Answer and lent words are the plain unit's, the block is the position, image and state are those of its unit, and both are
+-- determined.
+pub record OutputLeaves (image : List ℕ) (state : State) (p q : Plain) (n j sender u : ℕ) (f : File) (k : ℕ) (lent : List ℕ) (r : AreaReply) (after : List ℕ) : Type 0 where
+  pub leaves : Leaves (output p q (plain.moved p n sender (areaUsers state j) (areaUser state j u)) n f k lent) (r .answer) lent after (r .state)
+  pub block : r .answer .block .0 ≡ k
+  pub written : after ≡ outputImage p image f (r .answer .result) k lent
+  pub reached : r .state ≡ outputState p f state j u (r .answer .result) k
+
+pub record Outputs (image : List ℕ) (state : State) (o : Opened) (j u k : ℕ) (lent : List ℕ) (r : AreaReply) (after : List ℕ) : Type 0 where
+  pub all : (p q : Plain) (n sender : ℕ) (f : File) → Placed image state o p q n j sender u f k → OutputLeaves image state p q n j sender u f k lent r after

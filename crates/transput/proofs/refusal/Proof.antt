@@ -1,0 +1,67 @@
+-- `transput::refusal` meets its contract. Assumes nothing.
+use borrow.Author.Needs.{needs}
+use mathlib.Core.Path.{sym, ap, _∙_}
+use borrow.Author.Tests.{not-true, not-false}
+use Rattle.disc.specs.Attributes.{writeProtected}
+use Rattle.transput.proofs.TransputLaws.{word-bytes, word-short, word-input, word-writer, word-protected, word-output}
+use Rattle.transput.proofs.refusal.Statement.{statement}
+use Rattle.transput.proofs.refusal.Tie as tie
+
+returns : tie.Need-returns
+returns c = record { all = λ p on num f file. word-bytes _ _ _ _ _ _ (c .if1 .taken) }
+
+returns-2 : tie.Need-returns-2
+returns-2 c = record { all = λ p on num f file. word-short _ _ _ _ _ _ (c .before .if1 .left) (c .if2 .taken) }
+
+is-output-requires : tie.Need-is-output-requires
+is-output-requires c κs = search needs
+
+returns-3 : tie.Need-returns-3
+returns-3 c = record { all = λ p on num f file. word-input _ _ _ _ _ _ (c .before .before .before .if1 .left) (c .before .before .if2 .left) (sym (c .before .is-output .ensures) ∙ not-true _ (c .if3 .taken)) }
+
+any-other-requires : tie.Need-any-other-requires
+any-other-requires c κs = search needs
+
+returns-4 : tie.Need-returns-4
+returns-4 c =
+    record {
+      all = λ p on num f file.
+          word-writer _ _ _ _ _ _ (c .before .before .before .before .before .if1 .left) (c .before .before .before .before .if2 .left) (sym (c .before .before .before .is-output .ensures) ∙ not-false _ (c .before .before .if3 .left)) (sym (c .before .any-other .ensures) ∙ c .if4 .taken);
+    }
+
+attributes-of-requires : tie.Need-attributes-of-requires
+attributes-of-requires c κs = c .before .before .before .before .before .before .before .pre
+
+bit-requires : tie.Need-bit-requires
+bit-requires c κs = search needs
+
+returns-5 : tie.Need-returns-5
+returns-5 c =
+    record {
+      all = λ p on num f file.
+          word-protected _ _ _ _ _ _ (c .before .before .before .before .before .before .before .before .if1 .left) (c .before .before .before .before .before .before .before .if2 .left) (sym (c .before .before .before .before .before .before .is-output .ensures) ∙ not-false _ (c .before .before .before .before .before .if3 .left)) (sym (c .before .before .before .before .any-other .ensures) ∙ c .before .before .before .if4 .left)
+          (ap writeProtected (sym (c .before .before .attributes-of .ensures .all p on num f file)) ∙ sym (c .before .bit .ensures) ∙ c .if5 .taken);
+    }
+
+returns-6 : tie.Need-returns-6
+returns-6 c =
+    record {
+      all = λ p on num f file.
+          word-output _ _ _ _ _ _ (c .before .before .before .before .before .before .before .before .if1 .left) (c .before .before .before .before .before .before .before .if2 .left) (sym (c .before .before .before .before .before .before .is-output .ensures) ∙ not-false _ (c .before .before .before .before .before .if3 .left)) (sym (c .before .before .before .before .any-other .ensures) ∙ c .before .before .before .if4 .left)
+          (ap writeProtected (sym (c .before .before .attributes-of .ensures .all p on num f file)) ∙ sym (c .before .bit .ensures) ∙ c .if5 .left);
+    }
+
+pub refusal-spec : {M : Type 1} → statement M
+refusal-spec =
+    tie.close
+    (tie.spec
+    returns
+    returns-2
+    is-output-requires
+    returns-3
+    any-other-requires
+    returns-4
+    attributes-of-requires
+    bit-requires
+    returns-5
+    returns-6)

@@ -1,0 +1,114 @@
+-- `transput::transput` meets its contract. Assumes nothing.
+use borrow.Author.Needs.{needs}
+use mathlib.Core.Path.{_≡_, sym, ap, _∙_}
+use borrow.Author.Tests.{not-true, not-false}
+use Rattle.types.specs.declared.Area.{Area}
+use Rattle.types.specs.declared.User.{User}
+use Rattle.types.specs.State.{areaAt, userAt}
+use Rattle.sharing.proofs.ShareLaws.{seat-low}
+use Rattle.transput.proofs.TransputLaws.{seated-searches, transputs-refused, some-own, transputs-own, transputs-past, some-first, transputs-first}
+use Rattle.transput.proofs.transput.Statement.{statement}
+use Rattle.transput.proofs.transput.Tie as tie
+
+-- the sender's own position
+own : (c : tie.After-user-at) → c .user-at .result .position .0 ≡ userAt (areaAt (c .before .before .before .before .args .state) (c .before .before .before .before .args .j)) (c .before .before .before .before .args .u) .position .0
+own c = ap (λ (x : User). x .position .0) (c .user-at .ensures ∙ ap (λ (a : Area). userAt a (c .before .before .before .before .args .u)) (c .before .area-at .ensures))
+
+area-at-requires : tie.Need-area-at-requires
+area-at-requires c κs = seat-low (c .before .before .pre .seat)
+
+user-at-requires : tie.Need-user-at-requires
+user-at-requires c κs = search needs
+
+refusal-requires : tie.Need-refusal-requires
+refusal-requires c κs = seated-searches (c .before .before .before .before .before .pre)
+
+refused-at-requires : tie.Need-refused-at-requires
+refused-at-requires c κs = seat-low (c .before .before .before .before .before .before .before .pre .seat)
+
+same-length : tie.Need-same-length
+same-length c = search needs
+
+returns : tie.Need-returns
+returns c =
+    let a = c .before .before .before .before .before .before .before .before .args in
+    transputs-refused (a .block) (a .lent .now) (c .before .before .before .before .before .area-at .ensures) (c .before .before .refusal .ensures) (c .before .if1 .taken) (own (c .before .before .before .before)) (c .refused-at .ensures)
+
+is-random-requires : tie.Need-is-random-requires
+is-random-requires c κs = search needs
+
+transput-at-requires : tie.Need-transput-at-requires
+transput-at-requires c κs =
+    let a = c .before .before .before .before .before .before .before .before .before .before .before .args in
+    some-own (a .block) (a .lent .now) (c .before .before .before .before .before .before .before .before .area-at .ensures) (c .before .before .before .before .before .refusal .ensures) (c .before .before .before .before .if1 .left) (c .before .before .before .before .before .before .before .before .before .before .before .pre) (own (c .before .before .before .before .before .before .before))
+
+same-length-2 : tie.Need-same-length-2
+same-length-2 c = search needs
+
+same-length-3 : tie.Need-same-length-3
+same-length-3 c = search needs
+
+returns-2 : tie.Need-returns-2
+returns-2 c =
+    let a = c .before .before .before .before .before .before .before .before .before .before .before .before .before .before .before .before .args in
+    transputs-own (a .block) (a .lent .now) (c .before .before .before .before .before .before .before .before .before .before .before .before .before .area-at .ensures) (c .before .before .before .before .before .before .before .before .before .before .refusal .ensures) (c .before .before .before .before .before .before .before .before .before .if1 .left) (sym (c .before .before .before .before .before .before .before .before .is-random .ensures) ∙ not-true _ (c .before .before .before .before .before .before .before .if2 .taken)) (own (c .before .before .before .before .before .before .before .before .before .before .before .before)) (c .before .before .before .before .transput-at .ensures)
+
+position-word-requires : tie.Need-position-word-requires
+position-word-requires c κs = search needs
+
+position-reached-requires : tie.Need-position-reached-requires
+position-reached-requires c κs = search needs
+
+refused-at-requires-2 : tie.Need-refused-at-requires-2
+refused-at-requires-2 c κs = seat-low (c .before .before .before .before .before .before .before .before .before .before .before .before .pre .seat)
+
+same-length-4 : tie.Need-same-length-4
+same-length-4 c = search needs
+
+returns-3 : tie.Need-returns-3
+returns-3 c =
+    let a = c .before .before .before .before .before .before .before .before .before .before .before .before .before .args in
+    transputs-past (a .block) (a .lent .now) (c .before .before .before .before .before .before .before .before .before .before .area-at .ensures) (c .before .before .before .before .before .before .before .refusal .ensures) (c .before .before .before .before .before .before .if1 .left) (sym (c .before .before .before .before .before .is-random .ensures) ∙ not-false _ (c .before .before .before .before .if2 .left)) (c .before .before .before .position-word .ensures)
+    (c .before .before .position-reached .ensures) (c .before .if3 .taken) (c .refused-at2 .ensures)
+
+transput-at-requires-2 : tie.Need-transput-at-requires-2
+transput-at-requires-2 c κs =
+    let a = c .before .before .before .before .before .before .before .before .before .before .before .before .before .before .args in
+    some-first (a .block) (a .lent .now) (c .before .before .before .before .before .before .before .before .before .before .before .area-at .ensures) (c .before .before .before .before .before .before .before .before .refusal .ensures) (c .before .before .before .before .before .before .before .if1 .left) (sym (c .before .before .before .before .before .before .is-random .ensures) ∙ not-false _ (c .before .before .before .before .before .if2 .left)) (c .before .before .before .before .position-word .ensures) (c .before .before .if3 .left) (c .before .before .before .before .before .before .before .before .before .before .before .before .before .before .pre)
+
+same-length-5 : tie.Need-same-length-5
+same-length-5 c = search needs
+
+same-length-6 : tie.Need-same-length-6
+same-length-6 c = search needs
+
+returns-4 : tie.Need-returns-4
+returns-4 c =
+    let a = c .before .before .before .before .before .before .before .before .before .before .before .before .before .before .before .before .before .before .before .args in
+    transputs-first (a .block) (a .lent .now) (c .before .before .before .before .before .before .before .before .before .before .before .before .before .before .before .before .area-at .ensures) (c .before .before .before .before .before .before .before .before .before .before .before .before .before .refusal .ensures) (c .before .before .before .before .before .before .before .before .before .before .before .before .if1 .left) (sym (c .before .before .before .before .before .before .before .before .before .before .before .is-random .ensures) ∙ not-false _ (c .before .before .before .before .before .before .before .before .before .before .if2 .left)) (c .before .before .before .before .before .before .before .before .before .position-word .ensures) (c .before .before .before .before .before .before .before .if3 .left)
+    (c .before .before .before .before .transput-at2 .ensures)
+
+pub transput-spec : {M : Type 1} → statement M
+transput-spec =
+    tie.close
+    (tie.spec
+    area-at-requires
+    user-at-requires
+    refusal-requires
+    refused-at-requires
+    same-length
+    returns
+    is-random-requires
+    transput-at-requires
+    same-length-2
+    same-length-3
+    returns-2
+    position-word-requires
+    position-reached-requires
+    refused-at-requires-2
+    same-length-4
+    returns-3
+    transput-at-requires-2
+    same-length-5
+    same-length-6
+    returns-4)

@@ -1,0 +1,135 @@
+// Transput by a user of an open area: its questions, Position first for 5 and 7, then input or output.
+
+ghost use mathlib.Core.Path.{_≡_};
+ghost use Rattle.plain.specs.Transput.{isOutput, isRandom};
+ghost use Rattle.unit.specs.Opened.{Searchable};
+ghost use Rattle.output.specs.Output.{SomePlaced};
+ghost use Rattle.transput.specs.Transput.{RefusalFor, SomeHere, Inputs, TransputsAt, Seated, Transputs};
+use sharing::AreaReply;
+use state::Kind;
+use types::Area;
+use types::Block;
+use types::State;
+use unit::Opened;
+
+// Whether an operation is output.
+pub fn is_output(operation: u16) -> bool
+    ensures { λ r. ⌜ r ≡ isOutput operation ⌝ }
+{
+    if operation == 3 {
+        return true;
+    }
+    if operation == 7 {
+        return true;
+    }
+    operation == 19
+}
+
+// Whether it does Position first.
+pub fn is_random(operation: u16) -> bool
+    ensures { λ r. ⌜ r ≡ isRandom operation ⌝ }
+{
+    if operation == 5 {
+        return true;
+    }
+    operation == 7
+}
+
+// The questions before the position is moved, for so many words lent: 0, or the word of the first no.
+fn refusal(
+    image: &[u16],
+    o: Opened,
+    area: Area,
+    sender: u16,
+    operation: u16,
+    bytes: u16,
+    count: usize,
+) -> u16
+    requires { ⌜ Searchable (now image) o ⌝ }
+    ensures { λ r. ⌜ RefusalFor (now (image .entry)) o area sender operation bytes count r ⌝ }
+{
+    if bytes != 512 {
+        return 0x0880;
+    }
+    if count < 256 {
+        return 0x0880;
+    }
+    if !is_output(operation) {
+        return 0;
+    }
+    if state::any_other(area, sender, Kind::Writer) {
+        return 0x0A00;
+    }
+    if numbers::bit(12, output::attributes_of(image, o, area.name)) {
+        return 0x0C00;
+    }
+    0
+}
+
+// Input at position k by the user of entry u of area descriptor j.
+fn input(image: &[u16], state: State, j: usize, u: usize, k: Block, lent: &mut [u16]) -> AreaReply
+    requires { ⌜ SomeHere (now image) state j u (k .0) (now lent) ⌝ }
+    ensures { λ r. ⌜ Inputs (now (image .entry)) state j u (k .0) (now (lent .entry)) r (now (lent .exit)) ⌝ }
+{
+    let area = state::area_at(state, j);
+    if area.length <= k.0 {
+        return sharing::refused_at(state, j, u, 0x0810, k);
+    }
+    let q = output::sector_of(image, area.index, k);
+    words::copy_sector(image, q, lent);
+    sharing::transferred(state, j, u, k)
+}
+
+// Input or output at position k.
+fn transput_at(
+    image: &mut [u16],
+    o: Opened,
+    state: State,
+    j: usize,
+    u: usize,
+    operation: u16,
+    k: Block,
+    lent: &mut [u16],
+) -> AreaReply
+    requires { ⌜ SomePlaced (now image) state o j u (k .0) (now lent) ⌝ }
+    ensures { λ r. ⌜ TransputsAt (now (image .entry)) state o j u operation (k .0) (now (lent .entry)) r (now (lent .exit)) (now (image .exit)) ⌝ }
+{
+    if is_output(operation) {
+        return output::output(image, o, state, j, u, k, lent);
+    }
+    input(image, state, j, u, k, lent)
+}
+
+// Transput by the sender, the user of entry u of area descriptor j. 5 and 7 move the position whatever follows.
+pub fn transput(
+    image: &mut [u16],
+    o: Opened,
+    state: State,
+    j: usize,
+    u: usize,
+    sender: u16,
+    operation: u16,
+    bytes: u16,
+    block: u16,
+    lent: &mut [u16],
+) -> AreaReply
+    requires { ⌜ Seated (now image) state o j sender u ⌝ }
+    ensures { λ r. ⌜ Transputs (now (image .entry)) state o j sender u operation bytes block (now (lent .entry)) r (now (lent .exit)) (now (image .exit)) ⌝ }
+{
+    let area = state::area_at(state, j);
+    let user = state::user_at(area, u);
+    let count = lent.len();
+    let word = refusal(image, o, area, sender, operation, bytes, count);
+    if word != 0 {
+        return sharing::refused_at(state, j, u, word, user.position);
+    }
+    if !is_random(operation) {
+        return transput_at(image, o, state, j, u, operation, user.position, lent);
+    }
+    let refused = sharing::position_word(area.length, block);
+    let reached = sharing::position_reached(area.length, block);
+    if refused != 0 {
+        return sharing::refused_at(state, j, u, refused, Block(reached));
+    }
+    transput_at(image, o, state, j, u, operation, Block(block), lent)
+}
