@@ -4,7 +4,7 @@ use mathlib.Core.Bool.{Bool, true, false, cond, _||_}
 use mathlib.Core.List.{List, [], _∷_, _++_}
 use mathlib.Core.Logic.{_≢_}
 use mathlib.Core.Option.{some}
-use Prim.Native.Nat.{ℕ, suc, _+_, _≤_, _<_}
+use Prim.Native.Nat.{ℕ, suc, _+_, _*_, _≤_, _<_}
 use native.Mathlib.Omega.{arith}
 use native.Mathlib.Nat.{mul-comm}
 use native.Mathlib.Numerals.{add-one}
@@ -16,9 +16,11 @@ use Rattle.disc.specs.Numbers.{need}
 use Rattle.disc.specs.Slices.{InRangeOnce, choose, taken, lastOf}
 use Rattle.disc.specs.Stretches.{stretchCount, blockSector, fileFrom}
 use Rattle.disc.specs.Map.{mapBit}
+use Rattle.disc.specs.Entries.{indexSector}
 use Rattle.disc.proofs.Compare.{same-or}
 use Rattle.disc.proofs.SliceLaws.{sum-law}
 use Rattle.disc.proofs.Geometry.{need-cover}
+use Rattle.disc.proofs.EntryLaws.{entry-attributes}
 use Rattle.map.specs.declared.Choice.{Choice}
 use Rattle.map.specs.declared.Choice.the-variants.{Free, None}
 use Rattle.map.specs.Choice.{chosen, choiceOf}
@@ -34,33 +36,38 @@ use Rattle.catalog.specs.Catalog.{entryWord}
 use Rattle.plain.specs.Table.{tableFind}
 use Rattle.plain.specs.Unit.{Plain, File, M, held, freeSlices}
 use Rattle.plain.specs.Transput.{oneIf, slicesToTake}
-use Rattle.plain.proofs.TableLaws.{some≢none, some-inj}
 use Rattle.refine.specs.OnDisc.{OnDisc}
 use Rattle.refine.proofs.Ground.{ground, part-file, file-slices}
 use Rattle.steps.proofs.WriteLaws.{entry-of}
 use Rattle.unit.specs.declared.Opened.{Opened}
+use Rattle.unit.specs.Opened.{NumbersOf}
 use Rattle.unit.specs.Find.{FindsName}
 use Rattle.unit.specs.Files.{BlockOf}
 use Rattle.unit.proofs.OpenLaws.{on-catalog}
-use Rattle.unit.proofs.FileLaws.{file-words}
 use Rattle.writes.specs.Writes.{FileBlock}
 use Rattle.writes.proofs.WriteLaws.{sector-told}
 use Rattle.writes.proofs.FileLaws.{unit-file}
-use Rattle.output.specs.Output.{AttributesOf, BlockSectorOf, newSlices, roomWord, RoomFor}
+use Rattle.output.specs.Output.{attributesIn, AttributesOf, BlockSectorOf, newSlices, roomWord, RoomFor}
 
 -- ---- attributes
 
 module _ {image : List ℕ} {o : Opened} {n : ℕ} {found : Found} (finds : FindsName image o n found) where
   pub attributes-none : found ≡ Nothing → AttributesOf image o n 0
-  attributes-none e = record {
-    all = λ p on num f file.
-        absurd (some≢none (sym (entry-of p n f (on .good .files n f file .ordinary) file) ∙ finds .all p (on-catalog on) num .nothing e));
-  }
+  attributes-none e = record { all = λ p on num. sym (ap attributesIn (finds .all p (on-catalog on) num .nothing e)) }
 
   pub attributes-some : {place : Place} {r : ℕ} → found ≡ At place → r ≡ entryWord image place 6 → AttributesOf image o n r
   attributes-some {place} e w = record {
-    all = λ p on num f file. w ∙ file-words (on .good) (finds .all p (on-catalog on) num .at place e) f file .attributes;
+    all = λ p on num.
+        let a = finds .all p (on-catalog on) num .at place e in
+        w ∙ a .holds 6 (omega arith) ∙ sym (ap attributesIn (a .entered));
   }
+
+-- those of a file
+pub file-attributes : {image : List ℕ} {o : Opened} {n r : ℕ} {p : Plain} {f : File} → AttributesOf image o n r → OnDisc image p → NumbersOf o p → tableFind n (p .files) ≡ some f → r ≡ f .attributes
+file-attributes {n = n} {p = p} {f = f} h on num file =
+    let good = on .good .files n f file in
+    h .all p on num ∙ ap attributesIn (entry-of p n f (good .ordinary) file)
+    ∙ entry-attributes n (f .optional) (f .attributes) (f .booked) (indexSector (p .F) (p .s) (f .bookedSlices) (f .slices)) (p .s * f .bookedSlices) (f .tail) (good .optional .count)
 
 -- ---- the block of a file on the image
 
@@ -163,7 +170,8 @@ module _ {image : List ℕ} {p : Plain} (on : OnDisc image p) (n : ℕ) {f : Fil
 -- ---- the sector of a block by the index sector
 
 pub block-sector-of : {image : List ℕ} {index k r : ℕ} {words : List ℕ} → BlockOf image index words → r ≡ jointSector words 0 (k + 1) → BlockSectorOf image index k r
-block-sector-of {k = k} b e = record { all = λ p on n f file at below. e ∙ sector-is on n file (b .all p on n f file at) k below }
+block-sector-of {k = k} b e =
+    record { all = λ p n f from. e ∙ sector-is (from .on) n (from .file) (b .all p (from .on) n f (from .file) (from .first)) k (from .below) }
 
 -- ---- the room for an append, by what the code finds
 

@@ -44,8 +44,8 @@ use Rattle.sharing.specs.declared.AreaReply.{AreaReply}
 use Rattle.sharing.specs.Sharing.{areaReply, atPosition}
 use Rattle.sharing.specs.Leaves.{areaUsers, areaUser}
 use Rattle.sharing.proofs.ShareLaws.{leaves, seat-size}
-use Rattle.output.specs.Output.{AttributesOf, BlockSectorOf, newSlices, roomWord, RoomFor, CanAppendFrom, AppendedBy, Placed, SomePlaced, outputImage, outputState, OutputLeaves, Outputs}
-use Rattle.output.proofs.FileLaws.{total-small, more-is}
+use Rattle.output.specs.Output.{AttributesOf, BlockFrom, SomeBlock, BlockSectorOf, newSlices, roomWord, RoomFor, CanAppendFrom, AppendedBy, Placed, SomePlaced, outputImage, outputState, OutputLeaves, Outputs}
+use Rattle.output.proofs.FileLaws.{file-attributes, total-small, more-is}
 use Rattle.output.proofs.AppendLaws.{appends}
 
 -- ---- image and state by the result word
@@ -189,10 +189,14 @@ module _ {image : List ℕ} {state : State} {o : Opened} {j u k : ℕ} {area : A
     own-size : area .length ≡ length (f .sectors)
     own-size = ap (λ (x : Area). x .length) own ∙ placed-size at
 
+    -- block k
+    own-from : k < area .length → BlockFrom image (area .index .0) k p n f
+    own-from x = record { on = placed-on at; file = at .seat .file; first = ap (λ (y : Area). y .index .0) own ∙ placed-index at; below = omega (arith, own-size) }
+
     own-attributes : {a : ℕ} → AttributesOf image o (packed (area .name)) a → a ≡ f .attributes
     own-attributes {a} h =
         let e : packed (area .name) ≡ n = ap (λ (x : Area). packed (x .name)) own ∙ named-name state n j (at .seat .named) in
-        subst (λ (m : ℕ). AttributesOf image o m a) e h .all p (placed-on at) (at .numbers) f (at .seat .file)
+        file-attributes (subst (λ (m : ℕ). AttributesOf image o m a) e h) (placed-on at) (at .numbers) (at .seat .file)
 
     own-block : {words : List ℕ} → BlockOf image (area .index .0) words → words ≡ wholeIndex (p .F) (p .s) (f .slices)
     own-block b = b .all p (placed-on at) n f (at .seat .file) (ap (λ (x : Area). x .index .0) own ∙ placed-index at)
@@ -210,12 +214,13 @@ module _ {image : List ℕ} {state : State} {o : Opened} {j u k : ℕ} {area : A
         let fits : sliceTotal (o .slice) words 0 < 65536 = rw (at .numbers .slice) (total-small on (some .n) (at .seat .file) (own-block at b)) in
         (omega (arith, on .good .limits .slice-low, at .numbers .slice), fits, omega (arith, own-size at, length-small (some .p) (on .good) (some .n) (some .f) (at .seat .file)))
 
+    pub block-there : k < area .length → SomeBlock image (area .index .0) k
+    block-there x = record { p = some .p; n = some .n; f = some .f; from = own-from (some .placed) x }
+
     pub sector-asks : {r : ℕ} → BlockSectorOf image (area .index .0) k r → k < area .length → r * 256 + 256 ≤ length image
-    sector-asks {r} h x =
-        let at = some .placed in
-        let below : k < length (some .f .sectors) = omega (arith, own-size at) in
-        let e = h .all (some .p) (placed-on at) (some .n) (some .f) (at .seat .file) (ap (λ (y : Area). y .index .0) own ∙ placed-index at) below in
-        omega (arith, e, block-inside (placed-on at) (some .n) (at .seat .file) k below)
+    sector-asks h x =
+        let from = own-from (some .placed) x in
+        omega (arith, h .all (some .p) (some .n) (some .f) from, block-inside (from .on) (some .n) (from .file) k (from .below))
 
     pub position-asks : k < 65535
     position-asks =
@@ -229,10 +234,10 @@ module _ {image : List ℕ} {state : State} {o : Opened} {j u k : ℕ} {area : A
   unfolding replacedImage
   outputs-replaced {lent} {r} x long words h stored e = record {
     all = λ p q n sender f at.
-        let below : k < length (f .sectors) = omega (arith, own-size at) in
-        let sector = h .all p (placed-on at) n f (at .seat .file) (ap (λ (y : Area). y .index .0) own ∙ placed-index at) below in
+        let from = own-from at x in
+        let sector = h .all p n f from in
         let written : store image (r * 256) (take 256 lent) ≡ replacedImage p image f k (take 256 lent) = ap (λ (y : ℕ). store image (y * 256) (take 256 lent)) sector in
-        rw (e, stored ∙ written) (replaced at lent long words below);
+        rw (e, stored ∙ written) (replaced at lent long words (from .below));
   }
 
   -- ---- at the live length

@@ -2,10 +2,10 @@
 use mathlib.Core.Path.{_≡_}
 use mathlib.Core.Bool.{true, cond, _||_}
 use mathlib.Core.List.{List, _++_}
-use mathlib.Core.Option.{some}
+use mathlib.Core.Option.{Option, none, some}
 use Prim.Native.Nat.{ℕ, suc, _≤_, _<_}
 use lib.Dec.{leb, ltb, eqb}
-use lib.ListN.{length, take}
+use lib.ListN.{length, getD, take}
 use Rattle.types.specs.declared.State.{State}
 use Rattle.types.specs.State.{areaAt}
 use Rattle.disc.specs.Attributes.{extendable}
@@ -15,7 +15,7 @@ use Rattle.disc.specs.Entries.{indexSector}
 use Rattle.index.specs.Block.{wholeIndex}
 use Rattle.state.specs.Areas.{setArea, moved, withLive}
 use Rattle.plain.specs.Table.{Table, tableFind}
-use Rattle.plain.specs.Unit.{Plain, File, AreaUser, M, held, freeSlices}
+use Rattle.plain.specs.Unit.{Plain, File, AreaUser, M, held, freeSlices, entry}
 use Rattle.plain.specs.Areas as plain
 use Rattle.plain.specs.Transput.{slicesToTake, output}
 use Rattle.plain.specs.Good.{Good}
@@ -30,14 +30,31 @@ use Rattle.sharing.specs.Leaves.{Leaves, Seat, areaUsers, areaUser}
 
 -- ---- what is read of a file
 
--- The attributes of the file with name n, of every unit on the image.
-pub record AttributesOf (image : List ℕ) (o : Opened) (n r : ℕ) : Type 0 where
-  pub all : (p : Plain) → OnDisc image p → NumbersOf o p → (f : File) → tableFind n (p .files) ≡ some f → r ≡ f .attributes
+-- "6 attributes": the word of an entry, 0 if there is none.
+abbrev pub attributesIn : Option (List ℕ) → ℕ
+attributesIn none = 0
+attributesIn (some words) = getD words 6 0
 
--- "Block b is sector b + 1 of the joined stretches": the sector of block k of every file with this index sector.
+-- The attributes in the entry of name n, of every unit on the image.
+pub record AttributesOf (image : List ℕ) (o : Opened) (n r : ℕ) : Type 0 where
+  pub all : (p : Plain) → OnDisc image p → NumbersOf o p → r ≡ attributesIn (entry p n)
+
+-- Block k of file f with this index sector, of a unit on the image.
+pub record BlockFrom (image : List ℕ) (index k : ℕ) (p : Plain) (n : ℕ) (f : File) : Type 0 where
+  pub on : OnDisc image p
+  pub file : tableFind n (p .files) ≡ some f
+  pub first : index ≡ indexSector (p .F) (p .s) (length (f .slices)) (f .slices)
+  pub below : k < length (f .sectors)
+
+pub record SomeBlock (image : List ℕ) (index k : ℕ) : Type 0 where
+  pub p : Plain
+  pub n : ℕ
+  pub f : File
+  pub from : BlockFrom image index k p n f
+
+-- "Block b is sector b + 1 of the joined stretches": its sector.
 pub record BlockSectorOf (image : List ℕ) (index k r : ℕ) : Type 0 where
-  pub all : (p : Plain) → OnDisc image p → (n : ℕ) (f : File) → tableFind n (p .files) ≡ some f
-      → index ≡ indexSector (p .F) (p .s) (length (f .slices)) (f .slices) → k < length (f .sectors) → r ≡ blockSector (p .F) (p .s) (f .slices) fileFrom k
+  pub all : (p : Plain) (n : ℕ) (f : File) → BlockFrom image index k p n f → r ≡ blockSector (p .F) (p .s) (f .slices) fileFrom k
 
 -- ---- appending
 

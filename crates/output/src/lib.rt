@@ -11,7 +11,7 @@ ghost use Rattle.disc.specs.Names.{pack};
 ghost use Rattle.index.specs.Block.{sliceTotal};
 ghost use Rattle.plain.specs.Transput.{oneIf};
 ghost use Rattle.unit.specs.Opened.{Searchable};
-ghost use Rattle.output.specs.Output.{AttributesOf, BlockSectorOf, RoomFor, CanAppend, AppendedBy, SomePlaced, Outputs};
+ghost use Rattle.output.specs.Output.{AttributesOf, SomeBlock, BlockSectorOf, RoomFor, CanAppend, AppendedBy, SomePlaced, Outputs};
 use catalog::Found;
 use index::IndexBlock;
 use map::Choice;
@@ -22,7 +22,7 @@ use types::Sector;
 use types::State;
 use unit::Opened;
 
-// The attributes of the file with a name, which is in capitals; 0 if there is none.
+// The attributes of a name, which is in capitals; 0 if it is not entered.
 pub fn attributes_of(image: &[u16], o: Opened, name: Name) -> u16
     requires { ⌜ Searchable (now image) o ⌝ }
     ensures { λ r. ⌜ AttributesOf (now (image .entry)) o (pack (name .0) (name .1) (name .2)) r ⌝ }
@@ -35,6 +35,7 @@ pub fn attributes_of(image: &[u16], o: Opened, name: Name) -> u16
 
 // The sector of block k of the ordinary file with the index sector given.
 pub fn sector_of(image: &[u16], index: Sector, k: Block) -> Sector
+    requires { ⌜ SomeBlock (now image) (index .0) (k .0) ⌝ }
     ensures { λ r. ⌜ BlockSectorOf (now (image .entry)) (index .0) (k .0) (r .0) ⌝ }
 {
     let block = unit::file_block(image, index);

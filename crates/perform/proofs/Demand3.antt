@@ -30,16 +30,10 @@ use Rattle.map.proofs.CountLaws.{ones-free}
 use Rattle.refine.proofs.StateLaws.{same-any}
 use Rattle.steps.proofs.AskLaws.{asks-yes, asks-no}
 use Rattle.known.specs.Known.{unitMeant, unknownWord, Known}
+use Rattle.perform.proofs.ObeyLaws.{words-equal, known-no, known-yes}
 use Rattle.perform.specs.Perform.{Untouched, Obeyed, Performs, unknown, unsound, obeyed}
 
 -- ---- a refused first question in the plain unit
-
--- "Unit known": the number meant is the state's or not
-known-no : (p : Plain) (unit : ℕ) → unit ≢ p .unit → known p unit ≡ false
-known-no p unit d = ap (λ (b : Bool). b && leb unit 3) (ne-eqb unit (p .unit) d)
-
-known-yes : (p : Plain) (unit : ℕ) → unit ≡ p .unit → unit ≤ 3 → known p unit ≡ true
-known-yes p unit e l = rw (eq-eqb unit (p .unit) e) (le-leb unit 3 l)
 
 -- the state of a unit that Init accepted
 pub record Standing (image : List ℕ) (state : State) (p : Plain) : Type 0 where
@@ -87,30 +81,6 @@ module _ {image : List ℕ} {state : State} {p : Plain} (s : Standing image stat
   unknown-step (Listing unit) lent unmet = asks-no _ _ _ (other _ (λ e. unmet (record { number = e; low = s .low; ready = s .initialized })))
 
 -- ---- one call
-
--- equal words are the same words
-words-equal : (message : Message) (count : ℕ) (a b : List ℕ) → a ≡ b → SameWords message count a b
-words-equal (Init unit) count a b e = e
-words-equal (Set name) count a b e = e
-words-equal (Create name size attributes) count a b e = e
-words-equal (LookUp name) count a b e = e
-words-equal (Change name) count a b e = e
-words-equal (Remove name) count a b e = e
-words-equal (CreateArea name) count a b e = e
-words-equal (RemoveArea name) count a b e = e
-words-equal (AreaMessage name sender operation) count a b e = e
-words-equal (UnitDescription unit bytes) count a b e = e
-words-equal (Listing unit) count a b e = subst (InSomeOrder count a) e (record {
-  size = refl;
-  to = λ t. t;
-  back = λ t. t;
-  to-inside = λ t h. h;
-  back-inside = λ t h. h;
-  to-back = λ t h. refl;
-  back-to = λ t h. refl;
-  same = λ t w h l. refl;
-  rest = λ k h. refl;
-})
 
 pub one-call : {image : List ℕ} {state : State} {p : Plain} {message : Message} {lent : List ℕ} {r : Performed} → Standing image state p → Words lent → Performs image state message lent r
     → SameReply message (record { answer = r .answer; lent = r .lent }) (reply (step p message lent)) × Standing (r .image) (r .state) (step p message lent .unit)

@@ -1,1 +1,3 @@
+pub mod StateKept
+pub mod ObeyLaws
 pub mod Demand3

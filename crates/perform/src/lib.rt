@@ -1,1 +1,111 @@
-// The one call.
+// The one call: the first two questions of every message, then the message's own step.
+
+ghost use mathlib.Core.Path.{_≡_};
+ghost use Rattle.plain.specs.Questions.{answer};
+ghost use Rattle.perform.specs.Perform.{initializedState, performed, CanObey, Obeys, Performs};
+use types::Answer;
+use types::Block;
+use types::Message;
+use types::State;
+use unit::Opened;
+
+// What comes of a call beside image and lent words: the answer and the state.
+pub struct Outcome {
+    pub answer: Answer,
+    pub state: State,
+}
+
+// A result word alone.
+fn word_alone(result: u16, state: State) -> Outcome
+    ensures { λ r. ⌜ (r .answer ≡ answer result 0 0 0) × (r .state ≡ state) ⌝ }
+{
+    let answer = Answer {
+        result: result,
+        bytes: 0,
+        block: Block(0),
+        entries: 0,
+    };
+    Outcome {
+        answer: answer,
+        state: state,
+    }
+}
+
+// The state of a unit that Init accepted.
+fn initialized(state: State) -> State
+    ensures { λ r. ⌜ r ≡ initializedState state ⌝ }
+{
+    let mut next = state;
+    next.initialized = true;
+    next
+}
+
+// A message to a unit that is known and sound.
+fn obey(image: &mut [u16], o: Opened, state: State, message: Message, lent: &mut [u16]) -> Outcome
+    requires { ⌜ CanObey (now image) state o message ⌝ }
+    ensures { λ r. ⌜ Obeys (now (image .entry)) state o message (now (lent .entry)) (performed (now (image .exit)) (r .state) (r .answer) (now (lent .exit))) ⌝ }
+{
+    match message {
+        Message::Init { unit: _ } => word_alone(0, initialized(state)),
+        Message::Set { name } => word_alone(create::set(image, o, name, lent), state),
+        Message::Create {
+            name,
+            size,
+            attributes,
+        } => { word_alone(create::create(image, o, name, size, attributes), state) }
+        Message::LookUp { name } => word_alone(unit::look_up(image, o, name, lent), state),
+        Message::Change { name } => word_alone(change::change(image, o, state, name, lent), state),
+        Message::Remove { name } => word_alone(remove::remove(image, o, state, name), state),
+        Message::CreateArea { name } => {
+            let made = areas::create_area(image, o, state, name);
+            let next = made.state;
+            word_alone(made.result, next)
+        }
+        Message::RemoveArea { name } => {
+            let gone = areas::remove_area(image, o, state, name);
+            let next = gone.state;
+            word_alone(gone.result, next)
+        }
+        Message::AreaMessage {
+            name,
+            sender,
+            operation,
+        } => {
+            let reply = area_messages::area_message(image, o, state, name, sender, operation, lent);
+            let answer = reply.answer;
+            let next = reply.state;
+            Outcome {
+                answer: answer,
+                state: next,
+            }
+        }
+        Message::UnitDescription { unit, bytes } => {
+            let answer = reports::describe(image, o, unit, bytes, lent);
+            Outcome {
+                answer: answer,
+                state: state,
+            }
+        }
+        Message::Listing { unit: _ } => {
+            let answer = reports::list(image, o, lent);
+            Outcome {
+                answer: answer,
+                state: state,
+            }
+        }
+    }
+}
+
+// One call, whatever image, state, message and lent words are.
+pub fn perform(image: &mut [u16], state: State, message: Message, lent: &mut [u16]) -> Outcome
+    ensures { λ r. ⌜ Performs (now (image .entry)) state message (now (lent .entry)) (performed (now (image .exit)) (r .state) (r .answer) (now (lent .exit))) ⌝ }
+{
+    if !known::known(state, message) {
+        return word_alone(known::unknown_word(message), state);
+    }
+    if !soundness::sound(image, state) {
+        return word_alone(known::unsound_word(message), state);
+    }
+    let o = unit::open_unit(image);
+    obey(image, o, state, message, lent)
+}

@@ -148,7 +148,7 @@ module _ {image : List ℕ} {state : State} {j u k : ℕ} {area : Area} (own : a
   inputs-handed {lent} x h filled e = record {
     all = λ o p q n sender f at.
         let below : k < length (f .sectors) = omega (arith, own-size at) in
-        let sector = h .all p (placed-on at) n f (at .seat .file) (ap (λ (y : Area). y .index .0) own ∙ placed-index at) below in
+        let sector = h .all p n f (record { on = placed-on at; file = at .seat .file; first = ap (λ (y : Area). y .index .0) own ∙ placed-index at; below = below }) in
         let words = filled ∙ ap (λ (y : ℕ). sectorWords image y ++ drop 256 lent) sector ∙ input-filled (placed-on at) n (at .seat .file) k below lent in
         rw (e, words) (input-handed at lent below);
   }

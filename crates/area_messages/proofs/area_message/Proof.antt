@@ -1,12 +1,18 @@
 -- `area_messages::area_message` meets its contract. Assumes nothing.
 use borrow.Author.Needs.{needs}
-use mathlib.Core.Path.{sym, _∙_}
+use mathlib.Core.Path.{_≡_, sym, _∙_}
+use mathlib.Core.Bool.{false}
 use borrow.Author.Tests.{not-true, not-false}
-use Rattle.state.specs.Areas.{packed}
+use Rattle.state.specs.declared.Kind.the-variants.{Exclusive}
+use Rattle.state.specs.Areas.{packed, anyOther}
 use Rattle.steps.proofs.AreaMessages.{area-low}
 use Rattle.area_messages.proofs.MessageLaws.{message-shut, message-reserved, message-nobody, message-strange, message-can, message-asked}
 use Rattle.area_messages.proofs.area_message.Statement.{statement}
 use Rattle.area_messages.proofs.area_message.Tie as tie
+
+-- no other user is exclusive
+alone : (c : tie.Else1) → anyOther Exclusive (c .before .before .before .before .before .before .before .before .before .before .args .sender) (c .before .before .area-at .result) ≡ false
+alone c = sym (c .before .any-other .ensures) ∙ c .if1 .left
 
 fold-requires : tie.Need-fold-requires
 fold-requires c κs = search needs
@@ -25,11 +31,14 @@ reply-requires c κs = search needs
 
 returns : tie.Need-returns
 returns c =
-    let a = c .before .before .before .before .before .before .before .args in
-    message-shut (a .image .now) (a .state) (a .o) (a .name) (a .sender) (a .operation) (c .before .before .before .before .fold .ensures .packed) (c .before .before .before .find-area .ensures) (c .before .enum-told .given .1) (c .reply .ensures)
+    let found = c .before .before .before in
+    let s = found .before .before .before .before .args in
+    message-shut (s .image .now) (s .state) (s .o) (s .name) (s .sender) (s .operation) (found .before .fold .ensures .packed) (found .find-area .ensures) (c .before .enum-told .given .1) (c .reply .ensures)
 
 area-at-requires : tie.Need-area-at-requires
-area-at-requires c κs = area-low (c .before .before .before .before .before .before .before .pre .represents .areas) (packed (c .before .before .before .before .fold .result)) (c .before .j .given .0 .0) (sym (c .before .before .before .find-area .ensures) ∙ c .before .j .given .1)
+area-at-requires c κs =
+    let found = c .before .before .before in
+    area-low (c .before .before .before .before .before .before .before .pre .represents .areas) (packed (found .before .fold .result)) (c .before .j .given .0 .0) (sym (found .find-area .ensures) ∙ c .before .j .given .1)
 
 any-other-requires : tie.Need-any-other-requires
 any-other-requires c κs = search needs
@@ -39,8 +48,11 @@ reply-requires-2 c κs = search needs
 
 returns-2 : tie.Need-returns-2
 returns-2 c =
-    let a = c .before .before .before .before .before .before .before .before .before .before .before .args in
-    message-reserved (a .image .now) (a .state) (a .o) (a .name) (a .sender) (a .operation) (c .before .before .before .before .before .before .before .before .fold .ensures .packed) (c .before .before .before .before .before .before .before .find-area .ensures) (c .before .before .before .before .before .j .given .1) (c .before .before .before .area-at .ensures)
+    let a = c .before .before .before in
+    let at = a .before .before in
+    let found = at .before .before in
+    let s = found .before .before .before .before .args in
+    message-reserved (s .image .now) (s .state) (s .o) (s .name) (s .sender) (s .operation) (found .before .fold .ensures .packed) (found .find-area .ensures) (at .j .given .1) (a .area-at .ensures)
     (sym (c .before .before .any-other .ensures) ∙ c .before .if1 .taken) (c .reply2 .ensures)
 
 reply-requires-3 : tie.Need-reply-requires-3
@@ -48,9 +60,13 @@ reply-requires-3 c κs = search needs
 
 returns-3 : tie.Need-returns-3
 returns-3 c =
-    let a = c .before .before .before .before .before .before .before .before .before .before .before .before .args in
-    message-nobody (a .image .now) (a .state) (a .o) (a .name) (a .sender) (a .operation) (c .before .before .before .before .before .before .before .before .before .fold .ensures .packed) (c .before .before .before .before .before .before .before .before .find-area .ensures) (c .before .before .before .before .before .before .j .given .1) (c .before .before .before .before .area-at .ensures)
-    (sym (c .before .before .before .any-other .ensures) ∙ c .before .before .if1 .left) (c .before .if2 .taken) (c .reply3 .ensures)
+    let one = c .before .before in
+    let a = one .before .before in
+    let at = a .before .before in
+    let found = at .before .before in
+    let s = found .before .before .before .before .args in
+    message-nobody (s .image .now) (s .state) (s .o) (s .name) (s .sender) (s .operation) (found .before .fold .ensures .packed) (found .find-area .ensures) (at .j .given .1) (a .area-at .ensures) (alone one) (c .before .if2 .taken)
+    (c .reply3 .ensures)
 
 is-known-requires : tie.Need-is-known-requires
 is-known-requires c κs = search needs
@@ -60,15 +76,23 @@ reply-requires-4 c κs = search needs
 
 returns-4 : tie.Need-returns-4
 returns-4 c =
-    let a = c .before .before .before .before .before .before .before .before .before .before .before .before .before .before .args in
-    message-strange (a .image .now) (a .state) (a .o) (a .name) (a .sender) (a .operation) (c .before .before .before .before .before .before .before .before .before .before .before .fold .ensures .packed) (c .before .before .before .before .before .before .before .before .before .before .find-area .ensures) (c .before .before .before .before .before .before .before .before .j .given .1) (c .before .before .before .before .before .before .area-at .ensures)
-    (sym (c .before .before .before .before .before .any-other .ensures) ∙ c .before .before .before .before .if1 .left) (c .before .before .before .if2 .left) (sym (c .before .before .is-known .ensures) ∙ not-true _ (c .before .if3 .taken)) (c .reply4 .ensures)
+    let one = c .before .before .before .before in
+    let a = one .before .before in
+    let at = a .before .before in
+    let found = at .before .before in
+    let s = found .before .before .before .before .args in
+    message-strange (s .image .now) (s .state) (s .o) (s .name) (s .sender) (s .operation) (found .before .fold .ensures .packed) (found .find-area .ensures) (at .j .given .1) (a .area-at .ensures) (alone one) (c .before .before .before .if2 .left)
+    (sym (c .before .before .is-known .ensures) ∙ not-true _ (c .before .if3 .taken)) (c .reply4 .ensures)
 
 operate-requires : tie.Need-operate-requires
 operate-requires c κs =
-    let a = c .before .before .before .before .before .before .before .before .before .before .before .before .before .before .before .args in
-    message-can (a .image .now) (a .state) (a .o) (a .name) (a .sender) (a .operation) (c .before .before .before .before .before .before .before .before .before .before .before .before .fold .ensures .packed) (c .before .before .before .before .before .before .before .before .before .before .before .find-area .ensures) (c .before .before .before .before .before .before .before .before .before .j .given .1) (c .before .before .before .before .before .before .before .area-at .ensures)
-    (sym (c .before .before .before .before .before .before .any-other .ensures) ∙ c .before .before .before .before .before .if1 .left) (c .before .before .before .before .if2 .left) (c .before .before .before .before .before .before .before .before .before .before .before .before .before .before .before .pre)
+    let one = c .before .before .before .before .before in
+    let a = one .before .before in
+    let at = a .before .before in
+    let found = at .before .before in
+    let s = found .before .before .before .before in
+    message-can (s .args .image .now) (s .args .state) (s .args .o) (s .args .name) (s .args .sender) (s .args .operation) (found .before .fold .ensures .packed) (found .find-area .ensures) (at .j .given .1) (a .area-at .ensures)
+    (alone one) (c .before .before .before .before .if2 .left) (s .pre)
 
 same-length : tie.Need-same-length
 same-length c = search needs
@@ -78,9 +102,13 @@ same-length-2 c = search needs
 
 returns-5 : tie.Need-returns-5
 returns-5 c =
-    let a = c .before .before .before .before .before .before .before .before .before .before .before .before .before .before .before .before .before .before .before .before .args in
-    message-asked (a .image .now) (a .state) (a .o) (a .name) (a .sender) (a .operation) (c .before .before .before .before .before .before .before .before .before .before .before .before .before .before .before .before .before .fold .ensures .packed) (c .before .before .before .before .before .before .before .before .before .before .before .before .before .before .before .before .find-area .ensures) (c .before .before .before .before .before .before .before .before .before .before .before .before .before .before .j .given .1) (c .before .before .before .before .before .before .before .before .before .before .before .before .area-at .ensures)
-    (sym (c .before .before .before .before .before .before .before .before .before .before .before .any-other .ensures) ∙ c .before .before .before .before .before .before .before .before .before .before .if1 .left) (c .before .before .before .before .before .before .before .before .before .if2 .left) (sym (c .before .before .before .before .before .before .before .before .is-known .ensures) ∙ not-false _ (c .before .before .before .before .before .before .before .if3 .left)) (c .before .before .before .before .operate .ensures)
+    let one = c .before .before .before .before .before .before .before .before .before .before in
+    let a = one .before .before in
+    let at = a .before .before in
+    let found = at .before .before in
+    let s = found .before .before .before .before .args in
+    message-asked (s .image .now) (s .state) (s .o) (s .name) (s .sender) (s .operation) (found .before .fold .ensures .packed) (found .find-area .ensures) (at .j .given .1) (a .area-at .ensures) (alone one) (c .before .before .before .before .before .before .before .before .before .if2 .left)
+    (sym (c .before .before .before .before .before .before .before .before .is-known .ensures) ∙ not-false _ (c .before .before .before .before .before .before .before .if3 .left)) (c .before .before .before .before .operate .ensures)
 
 pub area-message-spec : {M : Type 1} → statement M
 area-message-spec =

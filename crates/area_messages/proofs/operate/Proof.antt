@@ -36,14 +36,17 @@ reply-requires c κs = search needs
 
 returns-2 : tie.Need-returns-2
 returns-2 c =
-    let a = c .before .before .before .before .before .before .before .before .before .args in
-    operate-stranger (a .image .now) (a .state) (a .o) (a .j) (a .sender) (a .operation) (c .before .before .before .before .before .before .reserve-count .ensures) (c .before .before .before .before .before .if1 .left) (c .before .before .before .before .area-at .ensures) (c .before .before .before .find-user .ensures) (c .before .enum-told .given .1)
-    (c .reply .ensures)
+    let found = c .before .before .before in
+    let a = found .before .before .before .before .before .before .args in
+    operate-stranger (a .image .now) (a .state) (a .o) (a .j) (a .sender) (a .operation) (found .before .before .before .reserve-count .ensures) (found .before .before .if1 .left) (found .before .area-at .ensures) (found .find-user .ensures)
+    (c .before .enum-told .given .1) (c .reply .ensures)
 
 user-step-requires : tie.Need-user-step-requires
 user-step-requires c κs =
-    let a = c .before .before .before .before .before .before .before .before .before .before .before .args in
-    operate-seated (a .image .now) (a .state) (a .o) (a .j) (a .sender) (a .operation) (c .before .before .before .before .before .before .before .before .reserve-count .ensures) (c .before .before .before .before .before .before .before .if1 .left) (c .before .before .before .before .before .before .area-at .ensures) (c .before .before .before .before .before .find-user .ensures) (c .before .before .before .u .given .1) (c .before .before .before .before .before .before .before .before .before .before .before .pre)
+    let at = c .before .before .before in
+    let found = at .before .before in
+    let a = found .before .before .before .before .before .before .args in
+    operate-seated (a .image .now) (a .state) (a .o) (a .j) (a .sender) (a .operation) (found .before .before .before .reserve-count .ensures) (found .before .before .if1 .left) (found .before .area-at .ensures) (found .find-user .ensures) (at .u .given .1) (found .before .before .before .before .before .before .pre)
 
 same-length : tie.Need-same-length
 same-length c = search needs
@@ -53,8 +56,10 @@ same-length-2 c = search needs
 
 returns-3 : tie.Need-returns-3
 returns-3 c =
-    let a = c .before .before .before .before .before .before .before .before .before .before .before .before .before .before .before .before .args in
-    operate-user (a .image .now) (a .state) (a .o) (a .j) (a .sender) (a .operation) (c .before .before .before .before .before .before .before .before .before .before .before .before .before .reserve-count .ensures) (c .before .before .before .before .before .before .before .before .before .before .before .before .if1 .left) (c .before .before .before .before .before .before .before .before .before .before .before .area-at .ensures) (c .before .before .before .before .before .before .before .before .before .before .find-user .ensures) (c .before .before .before .before .before .before .before .before .u .given .1)
+    let at = c .before .before .before .before .before .before .before .before in
+    let found = at .before .before in
+    let a = found .before .before .before .before .before .before .args in
+    operate-user (a .image .now) (a .state) (a .o) (a .j) (a .sender) (a .operation) (found .before .before .before .reserve-count .ensures) (found .before .before .if1 .left) (found .before .area-at .ensures) (found .find-user .ensures) (at .u .given .1)
     (c .before .before .before .before .user-step .ensures)
 
 pub operate-spec : {M : Type 1} → statement M

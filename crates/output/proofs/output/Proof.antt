@@ -2,7 +2,7 @@
 use borrow.Author.Needs.{needs}
 use Rattle.disc.specs.Words.{Words}
 use Rattle.sharing.proofs.ShareLaws.{seat-low}
-use Rattle.output.proofs.OutputLaws.{sector-asks, position-asks, outputs-replaced}
+use Rattle.output.proofs.OutputLaws.{block-there, sector-asks, position-asks, outputs-replaced}
 use Rattle.output.proofs.output.Statement.{statement}
 use Rattle.output.proofs.output.Tie as tie
 
@@ -14,7 +14,7 @@ area-at-requires : tie.Need-area-at-requires
 area-at-requires c κs = seat-low (c .before .before .pre .placed .seat)
 
 sector-of-requires : tie.Need-sector-of-requires
-sector-of-requires c κs = search needs
+sector-of-requires c κs = block-there (c .before .before .before .before .area-at .ensures) (c .before .before .before .before .before .before .before .pre) (c .before .if1 .taken)
 
 store-sector-requires : tie.Need-store-sector-requires
 store-sector-requires c κs =

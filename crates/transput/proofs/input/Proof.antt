@@ -1,7 +1,7 @@
 -- `transput::input` meets its contract. Assumes nothing.
 use borrow.Author.Needs.{needs}
 use Rattle.sharing.proofs.ShareLaws.{seat-low}
-use Rattle.output.proofs.OutputLaws.{sector-asks, position-asks}
+use Rattle.output.proofs.OutputLaws.{block-there, sector-asks, position-asks}
 use Rattle.transput.proofs.TransputLaws.{inputs-refused, inputs-handed}
 use Rattle.transput.proofs.input.Statement.{statement}
 use Rattle.transput.proofs.input.Tie as tie
@@ -16,7 +16,7 @@ returns : tie.Need-returns
 returns c = inputs-refused (c .before .before .before .before .area-at .ensures) (c .before .if1 .taken) (c .refused-at .ensures)
 
 sector-of-requires : tie.Need-sector-of-requires
-sector-of-requires c κs = search needs
+sector-of-requires c κs = block-there (c .before .before .before .area-at .ensures) (c .before .before .before .before .before .before .pre .here) (c .if1 .left)
 
 copy-sector-requires : tie.Need-copy-sector-requires
 copy-sector-requires c κs = (c .before .before .before .before .before .before .before .before .pre .here .long, sector-asks (c .before .before .before .before .before .area-at .ensures) (c .before .before .before .before .before .before .before .before .pre .here) (c .before .sector-of .ensures) (c .before .before .if1 .left))

@@ -3,6 +3,7 @@ use borrow.Author.Needs.{needs}
 use mathlib.Core.Path.{sym, ap, _∙_}
 use borrow.Author.Tests.{not-true, not-false}
 use Rattle.disc.specs.Attributes.{writeProtected}
+use Rattle.output.proofs.FileLaws.{file-attributes}
 use Rattle.transput.proofs.TransputLaws.{word-bytes, word-short, word-input, word-writer, word-protected, word-output}
 use Rattle.transput.proofs.refusal.Statement.{statement}
 use Rattle.transput.proofs.refusal.Tie as tie
@@ -40,7 +41,7 @@ returns-5 c =
     record {
       all = λ p on num f file.
           word-protected _ _ _ _ _ _ (c .before .before .before .before .before .before .before .before .if1 .left) (c .before .before .before .before .before .before .before .if2 .left) (sym (c .before .before .before .before .before .before .is-output .ensures) ∙ not-false _ (c .before .before .before .before .before .if3 .left)) (sym (c .before .before .before .before .any-other .ensures) ∙ c .before .before .before .if4 .left)
-          (ap writeProtected (sym (c .before .before .attributes-of .ensures .all p on num f file)) ∙ sym (c .before .bit .ensures) ∙ c .if5 .taken);
+          (ap writeProtected (sym (file-attributes (c .before .before .attributes-of .ensures) on num file)) ∙ sym (c .before .bit .ensures) ∙ c .if5 .taken);
     }
 
 returns-6 : tie.Need-returns-6
@@ -48,7 +49,7 @@ returns-6 c =
     record {
       all = λ p on num f file.
           word-output _ _ _ _ _ _ (c .before .before .before .before .before .before .before .before .if1 .left) (c .before .before .before .before .before .before .before .if2 .left) (sym (c .before .before .before .before .before .before .is-output .ensures) ∙ not-false _ (c .before .before .before .before .before .if3 .left)) (sym (c .before .before .before .before .any-other .ensures) ∙ c .before .before .before .if4 .left)
-          (ap writeProtected (sym (c .before .before .attributes-of .ensures .all p on num f file)) ∙ sym (c .before .bit .ensures) ∙ c .if5 .left);
+          (ap writeProtected (sym (file-attributes (c .before .before .attributes-of .ensures) on num file)) ∙ sym (c .before .bit .ensures) ∙ c .if5 .left);
     }
 
 pub refusal-spec : {M : Type 1} → statement M

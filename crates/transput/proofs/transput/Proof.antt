@@ -1,18 +1,23 @@
 -- `transput::transput` meets its contract. Assumes nothing.
 use borrow.Author.Needs.{needs}
 use mathlib.Core.Path.{_≡_, sym, ap, _∙_}
+use mathlib.Core.Bool.{true}
 use borrow.Author.Tests.{not-true, not-false}
 use Rattle.types.specs.declared.Area.{Area}
 use Rattle.types.specs.declared.User.{User}
 use Rattle.types.specs.State.{areaAt, userAt}
+use Rattle.plain.specs.Transput.{isRandom}
 use Rattle.sharing.proofs.ShareLaws.{seat-low}
 use Rattle.transput.proofs.TransputLaws.{seated-searches, transputs-refused, some-own, transputs-own, transputs-past, some-first, transputs-first}
 use Rattle.transput.proofs.transput.Statement.{statement}
 use Rattle.transput.proofs.transput.Tie as tie
 
--- the sender's own position
+-- the sender's own position, and Position first
 own : (c : tie.After-user-at) → c .user-at .result .position .0 ≡ userAt (areaAt (c .before .before .before .before .args .state) (c .before .before .before .before .args .j)) (c .before .before .before .before .args .u) .position .0
 own c = ap (λ (x : User). x .position .0) (c .user-at .ensures ∙ ap (λ (a : Area). userAt a (c .before .before .before .before .args .u)) (c .before .area-at .ensures))
+
+random : (c : tie.Else2) → isRandom (c .before .before .before .before .before .before .before .before .before .args .operation) ≡ true
+random c = sym (c .before .is-random .ensures) ∙ not-false _ (c .if2 .left)
 
 area-at-requires : tie.Need-area-at-requires
 area-at-requires c κs = seat-low (c .before .before .pre .seat)
@@ -31,16 +36,20 @@ same-length c = search needs
 
 returns : tie.Need-returns
 returns c =
-    let a = c .before .before .before .before .before .before .before .before .args in
-    transputs-refused (a .block) (a .lent .now) (c .before .before .before .before .before .area-at .ensures) (c .before .before .refusal .ensures) (c .before .if1 .taken) (own (c .before .before .before .before)) (c .refused-at .ensures)
+    let asked = c .before .before in
+    let user = asked .before .before in
+    let s = user .before .before .before .before .args in
+    transputs-refused (s .block) (s .lent .now) (user .before .area-at .ensures) (asked .refusal .ensures) (c .before .if1 .taken) (own user) (c .refused-at .ensures)
 
 is-random-requires : tie.Need-is-random-requires
 is-random-requires c κs = search needs
 
 transput-at-requires : tie.Need-transput-at-requires
 transput-at-requires c κs =
-    let a = c .before .before .before .before .before .before .before .before .before .before .before .args in
-    some-own (a .block) (a .lent .now) (c .before .before .before .before .before .before .before .before .area-at .ensures) (c .before .before .before .before .before .refusal .ensures) (c .before .before .before .before .if1 .left) (c .before .before .before .before .before .before .before .before .before .before .before .pre) (own (c .before .before .before .before .before .before .before))
+    let asked = c .before .before .before .before .before in
+    let user = asked .before .before in
+    let s = user .before .before .before .before in
+    some-own (s .args .block) (s .args .lent .now) (user .before .area-at .ensures) (asked .refusal .ensures) (c .before .before .before .before .if1 .left) (s .pre) (own user)
 
 same-length-2 : tie.Need-same-length-2
 same-length-2 c = search needs
@@ -50,8 +59,10 @@ same-length-3 c = search needs
 
 returns-2 : tie.Need-returns-2
 returns-2 c =
-    let a = c .before .before .before .before .before .before .before .before .before .before .before .before .before .before .before .before .args in
-    transputs-own (a .block) (a .lent .now) (c .before .before .before .before .before .before .before .before .before .before .before .before .before .area-at .ensures) (c .before .before .before .before .before .before .before .before .before .before .refusal .ensures) (c .before .before .before .before .before .before .before .before .before .if1 .left) (sym (c .before .before .before .before .before .before .before .before .is-random .ensures) ∙ not-true _ (c .before .before .before .before .before .before .before .if2 .taken)) (own (c .before .before .before .before .before .before .before .before .before .before .before .before)) (c .before .before .before .before .transput-at .ensures)
+    let asked = c .before .before .before .before .before .before .before .before .before .before in
+    let user = asked .before .before in
+    let s = user .before .before .before .before .args in
+    transputs-own (s .block) (s .lent .now) (user .before .area-at .ensures) (asked .refusal .ensures) (c .before .before .before .before .before .before .before .before .before .if1 .left) (sym (c .before .before .before .before .before .before .before .before .is-random .ensures) ∙ not-true _ (c .before .before .before .before .before .before .before .if2 .taken)) (own user) (c .before .before .before .before .transput-at .ensures)
 
 position-word-requires : tie.Need-position-word-requires
 position-word-requires c κs = search needs
@@ -67,14 +78,20 @@ same-length-4 c = search needs
 
 returns-3 : tie.Need-returns-3
 returns-3 c =
-    let a = c .before .before .before .before .before .before .before .before .before .before .before .before .before .args in
-    transputs-past (a .block) (a .lent .now) (c .before .before .before .before .before .before .before .before .before .before .area-at .ensures) (c .before .before .before .before .before .before .before .refusal .ensures) (c .before .before .before .before .before .before .if1 .left) (sym (c .before .before .before .before .before .is-random .ensures) ∙ not-false _ (c .before .before .before .before .if2 .left)) (c .before .before .before .position-word .ensures)
-    (c .before .before .position-reached .ensures) (c .before .if3 .taken) (c .refused-at2 .ensures)
+    let first = c .before .before .before .before in
+    let asked = first .before .before .before in
+    let a = asked .before .before .before in
+    let s = a .before .before .before .args in
+    transputs-past (s .block) (s .lent .now) (a .area-at .ensures) (asked .refusal .ensures) (first .before .before .if1 .left) (random first) (c .before .before .before .position-word .ensures) (c .before .before .position-reached .ensures) (c .before .if3 .taken)
+    (c .refused-at2 .ensures)
 
 transput-at-requires-2 : tie.Need-transput-at-requires-2
 transput-at-requires-2 c κs =
-    let a = c .before .before .before .before .before .before .before .before .before .before .before .before .before .before .args in
-    some-first (a .block) (a .lent .now) (c .before .before .before .before .before .before .before .before .before .before .before .area-at .ensures) (c .before .before .before .before .before .before .before .before .refusal .ensures) (c .before .before .before .before .before .before .before .if1 .left) (sym (c .before .before .before .before .before .before .is-random .ensures) ∙ not-false _ (c .before .before .before .before .before .if2 .left)) (c .before .before .before .before .position-word .ensures) (c .before .before .if3 .left) (c .before .before .before .before .before .before .before .before .before .before .before .before .before .before .pre)
+    let first = c .before .before .before .before .before in
+    let asked = first .before .before .before in
+    let a = asked .before .before .before in
+    let s = a .before .before .before in
+    some-first (s .args .block) (s .args .lent .now) (a .area-at .ensures) (asked .refusal .ensures) (first .before .before .if1 .left) (random first) (c .before .before .before .before .position-word .ensures) (c .before .before .if3 .left) (s .pre)
 
 same-length-5 : tie.Need-same-length-5
 same-length-5 c = search needs
@@ -84,9 +101,11 @@ same-length-6 c = search needs
 
 returns-4 : tie.Need-returns-4
 returns-4 c =
-    let a = c .before .before .before .before .before .before .before .before .before .before .before .before .before .before .before .before .before .before .before .args in
-    transputs-first (a .block) (a .lent .now) (c .before .before .before .before .before .before .before .before .before .before .before .before .before .before .before .before .area-at .ensures) (c .before .before .before .before .before .before .before .before .before .before .before .before .before .refusal .ensures) (c .before .before .before .before .before .before .before .before .before .before .before .before .if1 .left) (sym (c .before .before .before .before .before .before .before .before .before .before .before .is-random .ensures) ∙ not-false _ (c .before .before .before .before .before .before .before .before .before .before .if2 .left)) (c .before .before .before .before .before .before .before .before .before .position-word .ensures) (c .before .before .before .before .before .before .before .if3 .left)
-    (c .before .before .before .before .transput-at2 .ensures)
+    let first = c .before .before .before .before .before .before .before .before .before .before in
+    let asked = first .before .before .before in
+    let a = asked .before .before .before in
+    let s = a .before .before .before .args in
+    transputs-first (s .block) (s .lent .now) (a .area-at .ensures) (asked .refusal .ensures) (first .before .before .if1 .left) (random first) (c .before .before .before .before .before .before .before .before .before .position-word .ensures) (c .before .before .before .before .before .before .before .if3 .left) (c .before .before .before .before .transput-at2 .ensures)
 
 pub transput-spec : {M : Type 1} → statement M
 transput-spec =

@@ -1,0 +1,9 @@
+pub mod AnswerLaws
+pub mod WantedLaws
+pub mod StandLaws
+pub mod LayerLaws
+pub mod JudgeLaws
+pub mod GrownLaws
+pub mod FileLaws
+pub mod ChangeLaws
+pub mod ChangeUnit

@@ -1,0 +1,124 @@
+-- `change::change` meets its contract. Assumes nothing.
+use mathlib.Core.Path.{sym, _∙_}
+use native.Mathlib.Omega.{arith}
+use borrow.Author.Needs.{needs}
+use Rattle.unit.proofs.OpenLaws.{searchable}
+use Rattle.unit.proofs.FileLaws.{represented-on}
+use Rattle.change.proofs.ChangeLaws.{changes-none, changes-short, changes-system, changes-open, can-change-file, changes-file}
+use Rattle.change.proofs.change.Statement.{statement}
+use Rattle.change.proofs.change.Tie as tie
+
+fold-requires : tie.Need-fold-requires
+fold-requires c κs = search needs
+
+find-name-requires : tie.Need-find-name-requires
+find-name-requires c κs = searchable (represented-on (c .before .before .before .before .pre))
+
+enum-known-place : tie.Need-enum-known-place
+enum-known-place c = search needs
+
+enum-told : tie.Need-enum-told
+enum-told c = search needs
+
+same-length : tie.Need-same-length
+same-length c = search needs
+
+returns : tie.Need-returns
+returns c =
+    let f = c .before .before in
+    let a = f .before .before .before .before .before .args in
+    changes-none _ (a .name) (a .lent .now) (f .before .before .fold .ensures .packed) (f .find-name .ensures) (c .enum-told .given .1)
+
+same-length-2 : tie.Need-same-length-2
+same-length-2 c = search needs
+
+returns-2 : tie.Need-returns-2
+returns-2 c =
+    let place = c .before .before in
+    let f = place .before .before in
+    let a = f .before .before .before .before .before .args in
+    changes-short _ (a .name) (a .lent .now) (f .before .before .fold .ensures .packed) (f .find-name .ensures) (place .place .given .1) (c .if1 .taken)
+
+is-system-requires : tie.Need-is-system-requires
+is-system-requires c κs = search needs
+
+same-length-3 : tie.Need-same-length-3
+same-length-3 c = search needs
+
+returns-3 : tie.Need-returns-3
+returns-3 c =
+    let test = c .before in
+    let long = test .before in
+    let place = long .before .before in
+    let f = place .before .before in
+    let a = f .before .before .before .before .before .args in
+    changes-system _ (a .name) (a .lent .now) (f .before .before .fold .ensures .packed) (f .find-name .ensures) (place .place .given .1) (omega (arith, long .if1 .left)) (sym (test .is-system .ensures) ∙ c .if2 .taken)
+
+is-open-requires : tie.Need-is-open-requires
+is-open-requires c κs = search needs
+
+same-length-4 : tie.Need-same-length-4
+same-length-4 c = search needs
+
+returns-4 : tie.Need-returns-4
+returns-4 c =
+    let live = c .before in
+    let own = live .before in
+    let test = own .before in
+    let long = test .before in
+    let place = long .before .before in
+    let f = place .before .before in
+    let a = f .before .before .before .before .before .args in
+    changes-open _ (a .name) (a .lent .now) (f .before .before .fold .ensures .packed) (f .find-name .ensures) (place .place .given .1) (omega (arith, long .if1 .left)) (sym (test .is-system .ensures) ∙ own .if2 .left) (sym (live .is-open .ensures) ∙ c .if3 .taken)
+
+change-file-requires : tie.Need-change-file-requires
+change-file-requires c κs =
+    let shut = c .before in
+    let live = shut .before in
+    let own = live .before in
+    let test = own .before in
+    let long = test .before in
+    let place = long .before .before in
+    let f = place .before .before in
+    let a = f .before .before .before .before .before .args in
+    can-change-file _ (a .name) (a .lent .now) (f .before .before .fold .ensures .packed) (f .find-name .ensures) (place .place .given .1) (omega (arith, long .if1 .left)) (sym (test .is-system .ensures) ∙ own .if2 .left)
+    (sym (live .is-open .ensures) ∙ shut .if3 .left) (f .before .before .before .before .before .pre)
+
+same-length-5 : tie.Need-same-length-5
+same-length-5 c = search needs
+
+returns-5 : tie.Need-returns-5
+returns-5 c =
+    let changed = c .before .before in
+    let shut = changed .before .before in
+    let live = shut .before in
+    let own = live .before in
+    let test = own .before in
+    let long = test .before in
+    let place = long .before .before in
+    let f = place .before .before in
+    let a = f .before .before .before .before .before .args in
+    changes-file _ (a .name) (a .lent .now) (f .before .before .fold .ensures .packed) (f .find-name .ensures) (place .place .given .1) (omega (arith, long .if1 .left)) (sym (test .is-system .ensures) ∙ own .if2 .left)
+    (sym (live .is-open .ensures) ∙ shut .if3 .left) (changed .change-file .ensures)
+
+pub change-spec : {M : Type 1} → statement M
+change-spec =
+    tie.close
+    (tie.spec
+    fold-requires
+    find-name-requires
+    enum-known-place
+    enum-told
+    same-length
+    returns
+    same-length-2
+    returns-2
+    is-system-requires
+    same-length-3
+    returns-3
+    is-open-requires
+    same-length-4
+    returns-4
+    change-file-requires
+    same-length-5
+    returns-5)

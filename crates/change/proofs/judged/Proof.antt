@@ -1,0 +1,52 @@
+-- `change::judged` meets its contract. Assumes nothing.
+use borrow.Author.Needs.{needs}
+use Rattle.change.proofs.WantedLaws.{was-false, was-true}
+use Rattle.change.proofs.JudgeLaws.{asked-on, judge-illegal, judge-entered, judge-room, can-ask}
+use Rattle.change.proofs.judged.Statement.{statement}
+use Rattle.change.proofs.judged.Tie as tie
+
+allowed-requires : tie.Need-allowed-requires
+allowed-requires c κs = search needs
+
+returns : tie.Need-returns
+returns c = record { all = λ p n m f asked lent. judge-illegal asked lent (was-false (c .before .allowed .ensures) (c .if1 .taken)) }
+
+is-taken-requires : tie.Need-is-taken-requires
+is-taken-requires c κs = asked-on (c .before .before .before .pre .asked)
+
+returns-2 : tie.Need-returns-2
+returns-2 c =
+    let taken = c .before in
+    let ok = taken .before in
+    record {
+      all = λ p n m f asked lent. judge-entered asked (was-true (ok .before .allowed .ensures) (ok .if1 .left)) lent (taken .is-taken .ensures) (c .if2 .taken);
+    }
+
+more-slices-requires : tie.Need-more-slices-requires
+more-slices-requires c κs = search needs
+
+room-requires : tie.Need-room-requires
+room-requires c κs = can-ask (c .before .before .before .before .before .before .pre .asked)
+
+returns-3 : tie.Need-returns-3
+returns-3 c =
+    let more = c .before in
+    let unused = more .before in
+    let taken = unused .before in
+    let ok = taken .before in
+    record {
+      all = λ p n m f asked lent.
+          judge-room asked (was-true (ok .before .allowed .ensures) (ok .if1 .left)) lent (taken .is-taken .ensures) (unused .if2 .left) (more .more-slices .ensures) (c .room .ensures);
+    }
+
+pub judged-spec : {M : Type 1} → statement M
+judged-spec =
+    tie.close
+    (tie.spec
+    allowed-requires
+    returns
+    is-taken-requires
+    returns-2
+    more-slices-requires
+    room-requires
+    returns-3)

@@ -1,0 +1,45 @@
+-- `change::standing` meets its contract. Assumes nothing.
+use mathlib.Core.Path.{refl}
+use borrow.Author.Needs.{needs}
+use Rattle.change.proofs.StandLaws.{total-fits, stands-as}
+use Rattle.change.proofs.standing.Statement.{statement}
+use Rattle.change.proofs.standing.Tie as tie
+
+entry-word-requires : tie.Need-entry-word-requires
+entry-word-requires c κs = search needs
+
+entry-word-requires-2 : tie.Need-entry-word-requires-2
+entry-word-requires-2 c κs = search needs
+
+entry-word-requires-3 : tie.Need-entry-word-requires-3
+entry-word-requires-3 c κs = search needs
+
+file-block-requires : tie.Need-file-block-requires
+file-block-requires c κs = search needs
+
+slice-total-requires : tie.Need-slice-total-requires
+slice-total-requires c κs =
+    let index = c .before in
+    total-fits (index .before .before .before .before .pre .can) (index .entry-word3 .ensures) (c .file-block .ensures)
+
+returns : tie.Need-returns
+returns c =
+    let block = c .before in
+    let index = block .before in
+    let size = index .before in
+    record {
+      all = λ p n f can.
+          stands-as can (index .entry-word3 .ensures) (block .file-block .ensures) _ refl (size .before .entry-word .ensures) (size .entry-word2 .ensures)
+          (c .slice-total .ensures) refl;
+    }
+
+pub standing-spec : {M : Type 1} → statement M
+standing-spec =
+    tie.close
+    (tie.spec
+    entry-word-requires
+    entry-word-requires-2
+    entry-word-requires-3
+    file-block-requires
+    slice-total-requires
+    returns)

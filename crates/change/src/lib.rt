@@ -1,0 +1,212 @@
+// Change, from question 3 on: the name, attributes, length, optional and tail of a file.
+
+ghost use mathlib.Core.Path.{_≡_};
+ghost use mathlib.Core.Bool.{cond};
+ghost use Prim.Native.Nat.{_-_, _≤_};
+ghost use lib.ListN.{length};
+ghost use lib.Dec.{eqb};
+ghost use Rattle.disc.specs.Numbers.{need};
+ghost use Rattle.disc.specs.Names.{pack};
+ghost use Rattle.names.specs.NameIs.{NameIs};
+ghost use Rattle.plain.specs.Catalog.{keptOr, newName};
+ghost use Rattle.unit.specs.Opened.{OpenedOn, Represented};
+ghost use Rattle.change.specs.Asked.{CanStand, Stands, WantedOf, allowedBy, LayersFor, TakenBy, CanJudge, Judges};
+ghost use Rattle.change.specs.Change.{CanChange, FileChanges, Changes};
+use catalog::Found;
+use catalog::Place;
+use rewrite::Standing;
+use rewrite::Wanted;
+use types::Name;
+use types::Sector;
+use types::State;
+use unit::Opened;
+
+// The file whose entry stands in the place. Closed, it has the slices that its index block describes.
+fn standing(image: &[u16], o: Opened, place: Place) -> Standing
+    requires { ⌜ CanStand (now image) o place ⌝ }
+    ensures { λ r. ⌜ Stands (now (image .entry)) o place r ⌝ }
+{
+    let attributes = catalog::entry_word(image, place, 6);
+    let size = catalog::entry_word(image, place, 7);
+    let index = catalog::entry_word(image, place, 8);
+    let block = unit::file_block(image, Sector(index));
+    let slices = index::slice_total(block, o.slice);
+    Standing {
+        place: place,
+        attributes: attributes,
+        size: size,
+        slices: slices,
+        block: block,
+    }
+}
+
+// A lent word, or the old one where it is negative.
+fn kept_or(w: u16, old: u16) -> u16
+    ensures { λ r. ⌜ r ≡ keptOr w old ⌝ }
+{
+    if numbers::negative(w) {
+        return old;
+    }
+    w
+}
+
+// The name that the lent entry gives to the file: its own where word 0 is 0.
+fn new_name(n: Name, lent: &[u16]) -> Name
+    requires { ⌜ 16 ≤ length (now lent) ⌝ }
+    ensures { λ r. ⌜ NameIs r (newName (pack (n .0) (n .1) (n .2)) (now (lent .entry))) ⌝ }
+{
+    if lent[0] == 0 {
+        return n;
+    }
+    names::fold(Name(lent[0], lent[1], lent[2]))
+}
+
+// The slices after the message: a length that is kept touches none.
+fn slices_after(s: u16, size: u16, booked: u16, slices: u16) -> u16
+    requires { ⌜ 2 ≤ s ⌝ }
+    ensures { λ r. ⌜ r ≡ cond (eqb size booked) slices (need s size) ⌝ }
+{
+    if size == booked {
+        return slices;
+    }
+    numbers::need(s, size)
+}
+
+// The file as it is to be.
+fn wanted(s: u16, n: Name, f: Standing, lent: &[u16]) -> Wanted
+    requires { ⌜ (2 ≤ s) × (16 ≤ length (now lent)) ⌝ }
+    ensures { λ r. ⌜ WantedOf s (pack (n .0) (n .1) (n .2)) f (now (lent .entry)) r ⌝ }
+{
+    let name = new_name(n, lent);
+    let moves = !names::same_name(name, n);
+    let attributes = kept_or(lent[6], f.attributes);
+    let size = kept_or(lent[9], f.size);
+    let slices = slices_after(s, size, f.size, f.slices);
+    Wanted {
+        name: name,
+        moves: moves,
+        attributes: attributes,
+        size: size,
+        slices: slices,
+    }
+}
+
+// Whether name and attributes are legal, bit 13 with the slices after the message, and a permanent file keeps name and length.
+fn allowed(f: Standing, w: Wanted) -> bool
+    ensures { λ r. ⌜ r ≡ allowedBy f w ⌝ }
+{
+    if !names::legal(w.name) {
+        return false;
+    }
+    if !files::legal_attributes(w.attributes) {
+        return false;
+    }
+    if !files::legal_with(w.attributes, w.slices) {
+        return false;
+    }
+    if !numbers::bit(11, f.attributes) {
+        return true;
+    }
+    if w.moves {
+        return false;
+    }
+    w.size == f.size
+}
+
+// SYS's layers after the message. Under a name of its own key the file's own place is unused then.
+fn layers_for(image: &[u16], o: Opened, n: Name, w: Wanted) -> u16
+    requires { ⌜ OpenedOn (now image) o ⌝ }
+    ensures { λ r. ⌜ LayersFor (now (image .entry)) o (pack (n .0) (n .1) (n .2)) w r ⌝ }
+{
+    if !w.moves {
+        return o.layers;
+    }
+    let key = numbers::key(w.name, o.keys);
+    if numbers::key(n, o.keys) == key {
+        return o.layers;
+    }
+    match unit::find_unused(image, o, key) {
+        Found::At(_) => o.layers,
+        Found::Nothing => o.layers + 1,
+    }
+}
+
+// Whether the new name is another one, and entered.
+fn is_taken(image: &[u16], o: Opened, w: Wanted) -> bool
+    requires { ⌜ OpenedOn (now image) o ⌝ }
+    ensures { λ r. ⌜ TakenBy (now (image .entry)) o w r ⌝ }
+{
+    if !w.moves {
+        return false;
+    }
+    match unit::find_name(image, o, w.name) {
+        Found::At(_) => true,
+        Found::Nothing => false,
+    }
+}
+
+// The slices that the file lacks.
+fn more_slices(had: u16, has: u16) -> u16
+    ensures { λ r. ⌜ r ≡ has - had ⌝ }
+{
+    if has < had {
+        return 0;
+    }
+    has - had
+}
+
+// Questions 4 to 8 for a closed file: 0, or the word of the first no.
+fn judged(image: &[u16], o: Opened, f: Standing, w: Wanted, layers: u16) -> u16
+    requires { ⌜ CanJudge (now image) o f w layers ⌝ }
+    ensures { λ r. ⌜ Judges (now (image .entry)) o f w layers r ⌝ }
+{
+    if !allowed(f, w) {
+        return 0x1200;
+    }
+    if is_taken(image, o, w) {
+        return 0x1010;
+    }
+    grow::room(image, o, layers, f.block, more_slices(f.slices, w.slices))
+}
+
+// Change of a closed file whose entry stands in the place, with an entry lent: the result word.
+fn change_file(image: &mut [u16], o: Opened, n: Name, place: Place, lent: &[u16]) -> u16
+    requires { ⌜ CanChange (now image) o (pack (n .0) (n .1) (n .2)) place (now lent) ⌝ }
+    ensures { λ r. ⌜ FileChanges (now (image .entry)) o (pack (n .0) (n .1) (n .2)) place (now (lent .entry)) (now (image .exit)) r ⌝ }
+{
+    let f = standing(image, o, place);
+    let w = wanted(o.slice, n, f, lent);
+    let layers = layers_for(image, o, n, w);
+    let answer = judged(image, o, f, w, layers);
+    if answer != 0 {
+        return answer;
+    }
+    if layers <= o.layers {
+        rewrite::rewrite(image, o, f, w, lent);
+        return 0;
+    }
+    let grown = grow::grow(image, o);
+    rewrite::rewrite(image, grown, f, w, lent);
+    0
+}
+
+// Change of the name in a message that means this unit: the result word.
+pub fn change(image: &mut [u16], o: Opened, state: State, name: Name, lent: &[u16]) -> u16
+    requires { ⌜ Represented (now image) state o ⌝ }
+    ensures { λ r. ⌜ Changes (now (image .entry)) o state name (now (lent .entry)) (now (image .exit)) r ⌝ }
+{
+    let n = names::fold(name);
+    let Found::At(place) = unit::find_name(image, o, n) else {
+        return 0x5000;
+    };
+    if lent.len() < 16 {
+        return 0x1200;
+    }
+    if names::is_system(n) {
+        return 0x1200;
+    }
+    if unit::is_open(state, n) {
+        return 0x1200;
+    }
+    change_file(image, o, n, place, lent)
+}

@@ -1,0 +1,251 @@
+-- Each message's contract gives what the one call promises.
+use mathlib.Core.Path.{_≡_, refl, sym, ap, _∙_, subst}
+use mathlib.Core.Bool.{Bool, true, false, not, _&&_}
+use mathlib.Core.List.{List}
+use mathlib.Core.Logic.{_≢_}
+use Prim.Native.Nat.{ℕ, _≤_, _<_}
+use native.Mathlib.Omega.{arith}
+use lib.Dec.{T, leb, ltb, eqb}
+use lib.ListN.{length}
+use borrow.Author.Tests.{le-leb, eq-eqb, ne-eqb, ltb-false}
+use Rattle.types.specs.declared.Answer.{Answer}
+use Rattle.types.specs.declared.Name.{Name}
+use Rattle.types.specs.declared.State.{State}
+use Rattle.types.specs.declared.Operation.{Operation}
+use Rattle.types.specs.declared.Message.{Message}
+use Rattle.types.specs.declared.Message.the-variants.{Init, Set, Create, LookUp, Change, Remove, CreateArea, RemoveArea, AreaMessage, UnitDescription, Listing}
+use Rattle.types.specs.State.{areaAt}
+use Rattle.disc.specs.Words.{Words}
+use Rattle.disc.specs.Names.{unitIn}
+use Rattle.plain.specs.Unit.{Plain}
+use Rattle.plain.specs.Questions.{Outcome, answer, replies, known, done}
+use Rattle.plain.specs.Catalog.{stepLookUp}
+use Rattle.plain.specs.Step.{step, reply}
+use Rattle.plain.specs.Good.{Good}
+use Rattle.plain.proofs.Keeps.{step-keeps}
+use Rattle.state.specs.Areas.{anyOpen}
+use Rattle.users.proofs.AreaLaws.{none-open}
+use Rattle.refine.specs.Represents.{Represents}
+use Rattle.refine.specs.OnDisc.{OnDisc}
+use Rattle.refine.specs.Replies.{Replies, refused, written}
+use Rattle.refine.specs.Demands.{Performed, SameReply, SameWords, InSomeOrder}
+use Rattle.refine.proofs.StateLaws.{same-any}
+use Rattle.steps.proofs.AskLaws.{asks-yes}
+use Rattle.steps.proofs.Whole.{on-disc}
+use Rattle.unit.specs.declared.Opened.{Opened}
+use Rattle.unit.specs.Opened.{NumbersOf}
+use Rattle.unit.specs.LookUp.{LooksUp}
+use Rattle.unit.specs.Stepped.{Stepped}
+use Rattle.create.specs.Create.{Creates, Sets}
+use Rattle.create.proofs.CreateSteps.{create-represents, set-represents}
+use Rattle.remove.specs.Remove.{Removes}
+use Rattle.remove.proofs.RemoveUnit.{remove-stepped}
+use Rattle.change.specs.Change.{Changes}
+use Rattle.change.proofs.ChangeUnit.{change-stepped}
+use Rattle.areas.specs.declared.AreaDone.{AreaDone}
+use Rattle.areas.specs.Areas.{CreatesArea, AreaCreated, dummyCreate, made, RemovesArea, AreaRemoved, dummyRemove, books}
+use Rattle.areas.proofs.AreaUnits.{create-area-stepped, remove-area-stepped}
+use Rattle.reports.specs.Description.{Describes}
+use Rattle.reports.specs.Listing.{Lists}
+use Rattle.area_messages.specs.AreaMessages.{AreaMessages}
+use Rattle.sharing.specs.declared.AreaReply.{AreaReply}
+use Rattle.perform.proofs.StateKept.{Kept, state-kept}
+use Rattle.known.specs.Known.{unitMeant, Known}
+use Rattle.perform.specs.Perform.{initializedState, performed, Wrote, Obeyed, Obeys}
+
+-- equal words are the same words
+pub words-equal : (message : Message) (count : ℕ) (a b : List ℕ) → a ≡ b → SameWords message count a b
+words-equal (Init unit) count a b e = e
+words-equal (Set name) count a b e = e
+words-equal (Create name size attributes) count a b e = e
+words-equal (LookUp name) count a b e = e
+words-equal (Change name) count a b e = e
+words-equal (Remove name) count a b e = e
+words-equal (CreateArea name) count a b e = e
+words-equal (RemoveArea name) count a b e = e
+words-equal (AreaMessage name sender operation) count a b e = e
+words-equal (UnitDescription unit bytes) count a b e = e
+words-equal (Listing unit) count a b e = subst (InSomeOrder count a) e (record {
+  size = refl;
+  to = λ t. t;
+  back = λ t. t;
+  to-inside = λ t h. h;
+  back-inside = λ t h. h;
+  to-back = λ t h. refl;
+  back-to = λ t h. refl;
+  same = λ t w h l. refl;
+  rest = λ k h. refl;
+})
+
+-- "Unit known": the number meant is the state's or not
+pub known-no : (p : Plain) (unit : ℕ) → unit ≢ p .unit → known p unit ≡ false
+known-no p unit d = ap (λ (b : Bool). b && leb unit 3) (ne-eqb unit (p .unit) d)
+
+pub known-yes : (p : Plain) (unit : ℕ) → unit ≡ p .unit → unit ≤ 3 → known p unit ≡ true
+known-yes p unit e l = rw (eq-eqb unit (p .unit) e) (le-leb unit 3 l)
+
+module _ {image : List ℕ} {state : State} {p : Plain} (g : Good p) (r : Represents image state p) where
+  -- the unit that the message means is the plain unit
+  pub meant : {message : Message} → Known state message → T (known p (unitMeant message))
+  meant {message} k = rw (known-yes p (unitMeant message) (k .number ∙ r .areas .number) (omega (arith, k .number, k .low))) tt
+
+  -- the unit stays
+  stays : (message : Message) (lent : List ℕ) {a : Answer} {after : List ℕ} → state .initialized ≡ true → step p message lent ≡ record { unit = p; answer = a; lent = after }
+      → Wrote p image state message lent (performed image state a after) → Obeyed p image state message lent (record { image = image; state = state; answer = a; lent = after })
+  stays message lent {a} {after} i e w = record {
+    wrote = w;
+    same = record {
+      answer = sym (ap (λ (o : Outcome). o .answer) e);
+      words = words-equal message _ after _ (sym (ap (λ (o : Outcome). o .lent) e));
+    };
+    represents = subst (Represents image state) (sym (ap (λ (o : Outcome). o .unit) e)) r;
+    number = refl;
+    initialized = i;
+  }
+
+  -- a result word alone
+  steps : (message : Message) (lent : List ℕ) {after : List ℕ} {next : State} {result : ℕ} → next .unit ≡ state .unit → next .initialized ≡ true
+      → Wrote p image state message lent (performed after next (answer result 0 0 0) lent) → Stepped (step p message lent) lent result after next → Obeyed p image state message lent (record { image = after; state = next; answer = answer result 0 0 0; lent = lent })
+  steps message lent u i w s = record {
+    wrote = w;
+    same = record {
+      answer = sym (ap (λ (o : Outcome). o .answer) (s .answer));
+      words = words-equal message _ lent _ (sym (ap (λ (o : Outcome). o .lent) (s .answer)));
+    };
+    represents = s .represents;
+    number = u;
+    initialized = i;
+  }
+
+  replied : {o : Outcome} {lent : List ℕ} {result : ℕ} {Same : Type 0} {Written : Plain → Type 0} → Replies p o lent result Same Written → o ≡ replies (o .unit) result lent
+  replied {o} {lent} {result} (refused nz e same) = e ∙ sym (ap (λ (x : Outcome). replies (x .unit) result lent) e)
+  replied {o} {lent} {result} (written z q e w) = e ∙ ap (λ (k : ℕ). replies q k lent) (sym z) ∙ sym (ap (λ (x : Outcome). replies (x .unit) result lent) e)
+
+  pub look-up-obeyed : {o : Opened} {name : Name} {lent after : List ℕ} {result : ℕ} → NumbersOf o p → Known state (LookUp name) → LooksUp image o name lent result after
+      → Obeyed p image state (LookUp name) lent (record { image = image; state = state; answer = answer result 0 0 0; lent = after })
+  look-up-obeyed {name = name} {lent = lent} n k c = stays (LookUp name) lent (k .ready) (c .all p (on-disc g r) n (meant k)) (refl, refl)
+
+  pub describe-obeyed : {o : Opened} {unit bytes : ℕ} {lent after : List ℕ} {a : Answer} → NumbersOf o p → Known state (UnitDescription unit bytes) → Describes image o unit bytes lent a after
+      → Obeyed p image state (UnitDescription unit bytes) lent (record { image = image; state = state; answer = a; lent = after })
+  describe-obeyed {unit = unit} {bytes = bytes} {lent = lent} n k c = stays (UnitDescription unit bytes) lent (k .ready) (c .all p (on-disc g r) n (meant k)) (refl, refl)
+
+  pub list-obeyed : {o : Opened} {unit : ℕ} {lent after : List ℕ} {a : Answer} → NumbersOf o p → Known state (Listing unit) → Lists image o lent a after
+      → Obeyed p image state (Listing unit) lent (record { image = image; state = state; answer = a; lent = after })
+  list-obeyed {unit = unit} n k c =
+      let l = c .all p (on-disc g r) n unit (meant k) in
+      record { wrote = (refl, refl); same = l .same; represents = subst (Represents image state) (sym (l .stays)) r; number = refl; initialized = k .ready }
+
+  pub create-obeyed : {o : Opened} {name : Name} {size attributes : ℕ} {lent after : List ℕ} {result : ℕ} → Words lent → NumbersOf o p → Known state (Create name size attributes)
+      → Creates image o name size attributes after result → Obeyed p image state (Create name size attributes) lent (record { image = after; state = state; answer = answer result 0 0 0; lent = lent })
+  create-obeyed {name = name} {size = size} {attributes = attributes} {lent = lent} w n k c =
+      let s = c .all p (on-disc g r) n (meant k) in
+      steps (Create name size attributes) lent refl (k .ready) (s, refl)
+      (record { answer = replied (s .step lent); good = step-keeps p (Create name size attributes) lent g w; represents = create-represents s lent g r })
+
+  pub set-obeyed : {o : Opened} {name : Name} {lent after : List ℕ} {result : ℕ} → Words lent → NumbersOf o p → Known state (Set name) → Sets image o name lent after result
+      → Obeyed p image state (Set name) lent (record { image = after; state = state; answer = answer result 0 0 0; lent = lent })
+  set-obeyed {name = name} {lent = lent} w n k c =
+      let s = c .all p (on-disc g r) n (meant k) in
+      steps (Set name) lent refl (k .ready) (s, refl)
+      (record { answer = replied (s .step); good = step-keeps p (Set name) lent g w; represents = set-represents s w g r })
+
+  pub remove-obeyed : {o : Opened} {name : Name} {lent after : List ℕ} {result : ℕ} → NumbersOf o p → Known state (Remove name) → Removes image o state name after result
+      → Obeyed p image state (Remove name) lent (record { image = after; state = state; answer = answer result 0 0 0; lent = lent })
+  remove-obeyed {name = name} {lent = lent} n k c =
+      let s = c .all p g r n (meant k) in
+      steps (Remove name) lent refl (k .ready) (s, refl) (remove-stepped g r s lent)
+
+  pub change-obeyed : {o : Opened} {name : Name} {lent after : List ℕ} {result : ℕ} → Words lent → NumbersOf o p → Known state (Change name) → Changes image o state name lent after result
+      → Obeyed p image state (Change name) lent (record { image = after; state = state; answer = answer result 0 0 0; lent = lent })
+  change-obeyed {name = name} {lent = lent} w n k c =
+      let s = c .all p g r n (meant k) in
+      steps (Change name) lent refl (k .ready) (s, refl) (change-stepped g r w s)
+
+  pub create-area-obeyed : {o : Opened} {name : Name} {lent : List ℕ} {d : AreaDone} → NumbersOf o p → Known state (CreateArea name) → CreatesArea image o state name d
+      → Obeyed p image state (CreateArea name) lent (record { image = image; state = d .state; answer = answer (d .result) 0 0 0; lent = lent })
+  create-area-obeyed {name = name} {lent = lent} {d = d} n k c =
+      let s = c .all p g r n (meant k) in
+      let e = kept (s .step lent) in
+      steps (CreateArea name) lent (e .0) (e .1 ∙ k .ready) (refl, s) (create-area-stepped g r s lent)
+    where
+      kept : {o : Outcome} {n : ℕ} → Replies p o lent (d .result) (d .state ≡ state) (AreaCreated p state n (d .state)) → (d .state .unit ≡ state .unit) × (d .state .initialized ≡ state .initialized)
+      kept (refused nz e same) = (ap (λ (x : State). x .unit) same, ap (λ (x : State). x .initialized) same)
+      kept (written z q e (dummyCreate a same)) = (ap (λ (x : State). x .unit) same, ap (λ (x : State). x .initialized) same)
+      kept (written z q e (made m)) = (ap (λ (x : State). x .unit) (m .left), ap (λ (x : State). x .initialized) (m .left))
+
+  pub remove-area-obeyed : {o : Opened} {name : Name} {lent after : List ℕ} {d : AreaDone} → NumbersOf o p → Known state (RemoveArea name) → RemovesArea image o state name after d
+      → Obeyed p image state (RemoveArea name) lent (record { image = after; state = d .state; answer = answer (d .result) 0 0 0; lent = lent })
+  remove-area-obeyed {name = name} {lent = lent} {after = after} {d = d} n k c =
+      let s = c .all p g r n (meant k) in
+      let e = kept (s .step lent) in
+      steps (RemoveArea name) lent (e .0) (e .1 ∙ k .ready) s (remove-area-stepped g r s lent)
+    where
+      kept : {o : Outcome} {n : ℕ} → Replies p o lent (d .result) ((after ≡ image) × (d .state ≡ state)) (AreaRemoved p image state n after (d .state))
+          → (d .state .unit ≡ state .unit) × (d .state .initialized ≡ state .initialized)
+      kept (refused nz e same) = (ap (λ (x : State). x .unit) (same .1), ap (λ (x : State). x .initialized) (same .1))
+      kept (written z q e (dummyRemove a b same)) = (ap (λ (x : State). x .unit) same, ap (λ (x : State). x .initialized) same)
+      kept (written z q e (books m)) = (ap (λ (x : State). x .unit) (m .left), ap (λ (x : State). x .initialized) (m .left))
+
+  pub area-message-obeyed : {o : Opened} {name : Name} {sender : ℕ} {operation : Operation} {lent filled after : List ℕ} {d : AreaReply} → NumbersOf o p
+      → Known state (AreaMessage name sender operation) → AreaMessages image state o name sender operation lent d filled after
+      → Obeyed p image state (AreaMessage name sender operation) lent (record { image = after; state = d .state; answer = d .answer; lent = filled })
+  area-message-obeyed {sender = sender} {operation = operation} {d = d} n k c =
+      let a = c .all p g r n (meant k) in
+      let e : Kept state (d .state) = subst (Kept state) (sym (a .reached)) (state-kept p state sender operation (d .answer) _ _) in
+      record {
+        wrote = a;
+        same = record { answer = sym (ap (λ (o : Outcome). o .answer) (a .leaves .answered)); words = sym (ap (λ (o : Outcome). o .lent) (a .leaves .answered)) };
+        represents = a .leaves .represents;
+        number = e .unit;
+        initialized = e .initialized ∙ k .ready;
+      }
+
+  -- "Init leaves everything standing."
+  pub init-obeyed : {unit : ℕ} {lent : List ℕ} → Known state (Init unit) → Obeyed p image state (Init unit) lent (record { image = image; state = initializedState state; answer = answer 0 0 0 0; lent = lent })
+  init-obeyed {unit} {lent} k =
+      let none : eqb (length (p .areas)) 0 ≡ true = closed in
+      let e : step p (Init unit) lent ≡ done p lent = asks-yes _ _ _ (known-yes p unit (k .number ∙ r .areas .number) (omega (arith, k .number, k .low))) ∙ asks-yes _ _ _ none in
+      record {
+        wrote = (refl, refl);
+        same = record { answer = sym (ap (λ (o : Outcome). o .answer) e); words = sym (ap (λ (o : Outcome). o .lent) e) };
+        represents = subst (Represents image (initializedState state)) (sym (ap (λ (o : Outcome). o .unit) e)) ready;
+        number = refl;
+        initialized = refl;
+      }
+    where
+      ready : Represents image (initializedState state) p
+      ready = record {
+        words = r .words;
+        layout = r .layout;
+        areas = record {
+          shaped = record { eight = r .areas .shaped .eight; three = r .areas .shaped .three };
+          number = r .areas .number;
+          distinct = r .areas .distinct;
+          distinctUsers = r .areas .distinctUsers;
+          each = r .areas .each;
+        };
+      }
+
+      shut : (b : Bool) → anyOpen state ≡ b → ((j : ℕ) → j < 8 → areaAt state j .live ≡ false) → anyOpen state ≡ false
+      shut false e c = e
+      shut true e c = absurd (none-open state (r .areas .shaped .eight) .not (ap not e) c)
+
+      closed : eqb (length (p .areas)) 0 ≡ true
+      closed = eq-eqb (length (p .areas)) 0 (zero-length (length (p .areas)) (sym (same-any _ _ (r .areas) (g .areaNames)) ∙ shut (anyOpen state) refl (k .ready)))
+        where
+          zero-length : (n : ℕ) → ltb 0 n ≡ false → n ≡ 0
+          zero-length n e = omega (arith, ltb-false 0 n e)
+
+-- ---- the message in hand is one of these
+
+pub obeys : {image lent : List ℕ} {state : State} {o : Opened} {m message : Message} {r : Performed} → m ≡ message → Known state m
+    → (Known state message → (p : Plain) → Good p → Represents image state p → NumbersOf o p → Obeyed p image state message lent r) → Obeys image state o m lent r
+obeys {image} {lent} {state} {o} {m} {message} {r} e k f =
+    subst (λ (x : Message). Obeys image state o x lent r) (sym e) (record { all = f (subst (Known state) e k) })
+
+-- a result word alone and a state
+pub word-obeys : {image after lent filled : List ℕ} {state next s : State} {o : Opened} {m message : Message} {result : ℕ} {a : Answer} → m ≡ message → Known state m
+    → (a ≡ answer result 0 0 0) × (s ≡ next)
+    → (Known state message → (p : Plain) → Good p → Represents image state p → NumbersOf o p → Obeyed p image state message lent (performed after next (answer result 0 0 0) filled))
+    → Obeys image state o m lent (performed after s a filled)
+word-obeys e k w f = rw (w .0, w .1) (obeys e k f)

@@ -1,0 +1,41 @@
+// The slices and blocks of an ordinary file become another number of them: Change with another length.
+
+ghost use Rattle.resize.specs.Resize.{CanReslice, Resliced, CanResize, Resized};
+use index::IndexBlock;
+use unit::Opened;
+
+// The sectors and the slices of a file.
+pub struct Extent {
+    pub size: u16,
+    pub slices: u16,
+}
+
+// Gives back slices from the end, or takes some; the index block is stored where that changes it.
+fn reslice(image: &mut [u16], o: Opened, block: IndexBlock, had: u16, has: u16) -> IndexBlock
+    requires { ⌜ CanReslice (now image) o (block .words) had has ⌝ }
+    ensures { λ r. ⌜ Resliced (now (image .entry)) o (block .words) had has (now (image .exit)) (r .words) ⌝ }
+{
+    if has <= had {
+        return writes::give_back(image, block, o.first, o.slice, has, had);
+    }
+    writes::take_more(image, block, o.first, o.slice, o.slices, has - had)
+}
+
+// The file whose index block is given, with the sectors and slices that it had and is to have; the sectors that join are zeroed.
+pub fn resize(
+    image: &mut [u16],
+    o: Opened,
+    block: IndexBlock,
+    had: Extent,
+    has: Extent,
+) -> IndexBlock
+    requires { ⌜ CanResize (now image) o (block .words) had has ⌝ }
+    ensures { λ r. ⌜ Resized (now (image .entry)) o (block .words) had has (now (image .exit)) (r .words) ⌝ }
+{
+    let after = reslice(image, o, block, had.slices, has.slices);
+    if has.size <= had.size {
+        return after;
+    }
+    writes::zero_sectors(image, after, had.size + 1, has.size - had.size);
+    after
+}

@@ -1,0 +1,122 @@
+// The writes of Change: a file's slices and blocks, and its entry in its own place or, under another name, in one of the new key.
+
+ghost use mathlib.Core.Path.{_≡_};
+ghost use mathlib.Core.Bool.{cond};
+ghost use Prim.Native.Nat.{_+_, _≤_};
+ghost use lib.ListN.{length, take, drop};
+ghost use Rattle.disc.specs.Names.{pack};
+ghost use Rattle.disc.specs.Entries.{entryWords};
+ghost use Rattle.catalog.specs.Catalog.{placeStart, entryAt};
+ghost use Rattle.rewrite.specs.Move.{CanMove, Moved};
+ghost use Rattle.rewrite.specs.Rewrite.{CanRewrite, Rewritten};
+use catalog::Found;
+use catalog::Place;
+use index::IndexBlock;
+use resize::Extent;
+use types::Block;
+use types::Name;
+use types::Sector;
+use unit::Opened;
+
+// A file as it stands: the place of its entry, its attributes, length and number of slices, its index block.
+pub struct Standing {
+    pub place: Place,
+    pub attributes: u16,
+    pub size: u16,
+    pub slices: u16,
+    pub block: IndexBlock,
+}
+
+// The file as it is to be: its name, whether that is another one, its attributes, length and number of slices.
+pub struct Wanted {
+    pub name: Name,
+    pub moves: bool,
+    pub attributes: u16,
+    pub size: u16,
+    pub slices: u16,
+}
+
+// The 16 words of an entry.
+pub struct Entry {
+    pub words: [u16; 16],
+}
+
+// The words from which optional and tail are taken: the entry in the place, or the first 16 lent.
+fn source_words(image: &[u16], place: Place, stays: bool, lent: &[u16]) -> Entry
+    requires { ⌜ (16 ≤ length (now lent)) × (placeStart place + 16 ≤ length (now image)) ⌝ }
+    ensures { λ r. ⌜ r .words ≡ cond stays (entryAt (now (image .entry)) place) (take 16 (now (lent .entry))) ⌝ }
+{
+    let mut own = [0u16; 16];
+    if stays {
+        catalog::read_entry(image, place, &mut own);
+        return Entry { words: own };
+    }
+    words::copy_words(lent, 0, &mut own, 0, 16);
+    Entry { words: own }
+}
+
+// The entry of the file as it is to be, with optional and tail from the words given.
+fn new_entry(source: Entry, w: Wanted, index: Sector, reserved: u16) -> Entry
+    requires { ⌜ length (source .words) ≡ 16 ⌝ }
+    ensures { λ r. ⌜ r .words ≡ entryWords (pack (w .name .0) (w .name .1) (w .name .2)) (take 3 (drop 3 (source .words))) (w .attributes) (w .size) (index .0) reserved (take 6 (drop 10 (source .words))) ⌝ }
+{
+    let name = w.name;
+    let old = source.words;
+    let own = [
+        name.0,
+        name.1,
+        name.2,
+        old[3],
+        old[4],
+        old[5],
+        w.attributes,
+        w.size,
+        index.0,
+        reserved,
+        old[10],
+        old[11],
+        old[12],
+        old[13],
+        old[14],
+        old[15],
+    ];
+    Entry { words: own }
+}
+
+// Empties a place, and stores the entry in the first place of the key that is unused then. There is one.
+fn move_entry(image: &mut [u16], o: Opened, place: Place, key: u16, entry: Entry)
+    requires { ⌜ CanMove (now image) o place key (entry .words) ⌝ }
+    ensures { λ _. ⌜ Moved (now (image .entry)) o place key (entry .words) (now (image .exit)) ⌝ }
+{
+    catalog::clear_place(image, place);
+    let Found::At(free) = unit::find_unused(image, o, key) else {
+        return;
+    };
+    catalog::write_entry(image, free, &entry.words);
+}
+
+// The file as it stands becomes the file as it is to be. For a permanent file optional and tail stay.
+pub fn rewrite(image: &mut [u16], o: Opened, f: Standing, w: Wanted, lent: &[u16])
+    requires { ⌜ CanRewrite (now image) o f w (now lent) ⌝ }
+    ensures { λ _. ⌜ Rewritten (now (image .entry)) o f w (now (lent .entry)) (now (image .exit)) ⌝ }
+{
+    let source = source_words(image, f.place, numbers::bit(11, f.attributes), lent);
+    let had = Extent {
+        size: f.size,
+        slices: f.slices,
+    };
+    let has = Extent {
+        size: w.size,
+        slices: w.slices,
+    };
+    let block = resize::resize(image, o, f.block, had, has);
+    let index = index::block_sector(block, 0, Block(0));
+    let entry = new_entry(source, w, index, o.slice * w.slices);
+    if w.moves {
+        move_entry(image, o, f.place, numbers::key(w.name, o.keys), entry);
+        writes::count_free(image, o.slice);
+        return;
+    }
+    catalog::write_entry(image, f.place, &entry.words);
+    writes::count_free(image, o.slice);
+}
