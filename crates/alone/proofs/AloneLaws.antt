@@ -1,29 +1,35 @@
--- Laws of the scan: one place more, by what its first word, the filter and the search say of it.
+-- Laws of the scan: one place more, by what its judgement, the filter and the search say of it.
 use mathlib.Core.Path.{_≡_, refl, sym, ap, _∙_, subst}
 use mathlib.Core.Bool.{Bool, true, false}
 use mathlib.Core.Bool as B
 use mathlib.Core.List.{List}
-use Prim.Native.Nat.{ℕ, _+_, _/_, _≤_, _<_}
+use Prim.Native.Nat.{ℕ, _+_, _/_, _%_, _≤_, _<_}
 use native.Mathlib.Omega.{arith}
+use lib.ListN.{length}
 use borrow.Author.Tests.{not-true, not-false}
 use Rattle.types.specs.declared.Name.{Name}
+use Rattle.disc.specs.Decide.{Decides}
 use Rattle.disc.specs.Names.{pack, keyOf}
 use Rattle.disc.specs.Entries.{nameAt}
 use Rattle.disc.proofs.Compare.{below-or}
-use Rattle.disc.proofs.DecideLaws.{true≢false}
-use Rattle.sound.specs.Places.{Used, LegalPlace}
+use Rattle.disc.proofs.DecideLaws.{true≢false, refutes}
+use Rattle.sound.specs.Places.{Used}
 use Rattle.kit.specs.declared.Geometry.{Geometry}
-use Rattle.entries.specs.Legal.{NameIn}
+use Rattle.entries.specs.declared.Catalog.{Catalog}
+use Rattle.entries.specs.Legal.{NameIn, PlaceLegal, PlacesLegal}
 use Rattle.entries.specs.Found.{Stands, FirstAt, NoneAt}
 use Rattle.entries.specs.Names.{NamesAlone}
 use Rattle.entries.proofs.PlaceLaws.{legal-first, name-packed, first-used}
 use Rattle.entries.proofs.NamesLaws.{named-used}
 use Rattle.alone.specs.Filter.{Has, Noted}
-use Rattle.alone.specs.Scan.{LegalSys, Passed, Scanned}
+use Rattle.alone.specs.Scan.{Judging, Passed, Scanned}
 
 module _ {P : ℕ → ℕ → ℕ} where
-  pub alone-less : {t u : ℕ} → t ≤ u → NamesAlone P u → NamesAlone P t
+  alone-less : {t u : ℕ} → t ≤ u → NamesAlone P u → NamesAlone P t
   alone-less h a = record { alone = λ x y p q. a .alone x y (omega arith) (omega arith) }
+
+  legal-less : {H t u : ℕ} {sys : List ℕ} → t ≤ u → PlacesLegal P H sys u → PlacesLegal P H sys t
+  legal-less h l = record { each = λ x p. l .each x (omega arith) }
 
   -- one place more, whose name no place before it has
   alone-more : (t : ℕ) → NamesAlone P t → ((u : ℕ) → u < t → Used P u → Used P t → nameAt P u ≡ nameAt P t → ⊥) → NamesAlone P (t + 1)
@@ -40,35 +46,43 @@ module _ {P : ℕ → ℕ → ℕ} where
           (λ k. absurd (new y k v (subst (λ (i : ℕ). Used P i) w u) (sym e ∙ ap (nameAt P) w)))
           (λ k. omega arith))
 
-  pub passed-none : (filter : List ℕ) → Passed P filter 0
-  passed-none filter = record { alone = record { alone = λ x y p. absurd (omega arith) }; has = λ u h. absurd (omega arith) }
+  module _ {H : ℕ} {sys : List ℕ} where
+    pub passed-none : (filter : List ℕ) → length filter ≡ 4096 → Passed P H sys filter 0
+    passed-none filter size =
+        record { legal = record { each = λ x p. absurd (omega arith) }; alone = record { alone = λ x y p. absurd (omega arith) }; size = size; has = λ u h. absurd (omega arith) }
 
-  module _ {f : List ℕ} {t : ℕ} (p : Passed P f t) where
-    passed-more : {h : List ℕ} → ((m : ℕ) → Has f m → Has h m) → (Used P t → Has h (nameAt P t))
-        → ((u : ℕ) → u < t → Used P u → Used P t → nameAt P u ≡ nameAt P t → ⊥) → Passed P h (t + 1)
-    passed-more {h} kept now new =
-        record {
-          alone = alone-more t (p .alone) new;
-          has = λ u l used. below-or u t
-              (λ k. kept (nameAt P u) (p .has u k used))
-              (λ k. let z : u ≡ t = omega arith in subst (λ (i : ℕ). Has h (nameAt P i)) (sym z) (now (subst (λ (i : ℕ). Used P i) z used)));
-        }
+    module _ {f : List ℕ} {t : ℕ} (p : Passed P H sys f t) (legal : PlaceLegal P H (t / 16 % H) sys t) where
+      passed-more : {h : List ℕ} → length h ≡ 4096 → ((m : ℕ) → Has f m → Has h m) → (Used P t → Has h (nameAt P t))
+          → ((u : ℕ) → u < t → Used P u → Used P t → nameAt P u ≡ nameAt P t → ⊥) → Passed P H sys h (t + 1)
+      passed-more {h} size kept now new =
+          record {
+            legal = record {
+              each = λ u l. below-or u t
+                  (λ k. p .legal .each u k)
+                  (λ k. let z : u ≡ t = omega arith in subst (λ (i : ℕ). PlaceLegal P H (i / 16 % H) sys i) (sym z) legal);
+            };
+            alone = alone-more t (p .alone) new;
+            size = size;
+            has = λ u l used. below-or u t
+                (λ k. kept (nameAt P u) (p .has u k used))
+                (λ k. let z : u ≡ t = omega arith in subst (λ (i : ℕ). Has h (nameAt P i)) (sym z) (now (subst (λ (i : ℕ). Used P i) z used)));
+          }
 
-    -- an unused place
-    pub passed-unused : (Used P t → ⊥) → Passed P f (t + 1)
-    passed-unused none = passed-more (λ m k. k) (λ u. absurd (none u)) (λ u l x used. absurd (none used))
+      -- an unused place
+      pub passed-unused : (Used P t → ⊥) → Passed P H sys f (t + 1)
+      passed-unused none = passed-more (p .size) (λ m k. k) (λ u. absurd (none u)) (λ u l x used. absurd (none used))
 
-    -- a name that is not in the filter
-    pub passed-new : {n : ℕ} {h : List ℕ} → nameAt P t ≡ n → Noted false f h n → Passed P h (t + 1)
-    passed-new {n} {h} e k =
-        passed-more (k .kept) (λ _. subst (λ (m : ℕ). Has h m) (sym e) (k .has))
-        (λ u l x _ same. k .new refl (subst (λ (m : ℕ). Has f m) (same ∙ e) (p .has u l x)))
+      -- a name that is not in the filter
+      pub passed-new : {n : ℕ} {h : List ℕ} → nameAt P t ≡ n → Noted false f h n → Passed P H sys h (t + 1)
+      passed-new {n} {h} e k =
+          passed-more (k .size) (k .kept) (λ _. subst (λ (m : ℕ). Has h m) (sym e) (k .has))
+          (λ u l x _ same. k .new refl (subst (λ (m : ℕ). Has f m) (same ∙ e) (p .has u l x)))
 
-    -- a name that the search finds nowhere before this place
-    pub passed-first : {n H : ℕ} {r : Bool} {h : List ℕ} → nameAt P t ≡ n → Noted r f h n → ((u : ℕ) → u < t → Used P u → LegalPlace P H u) → NoneAt P H n t → Passed P h (t + 1)
-    passed-first {n} {H} {h = h} e k legal none =
-        passed-more (k .kept) (λ _. subst (λ (m : ℕ). Has h m) (sym e) (k .has))
-        (λ u l x _ same. none .none u l (record { key = legal u l x .key ∙ ap (keyOf H) (same ∙ e); named = same ∙ e }))
+      -- a name that the search finds nowhere before this place
+      pub passed-first : {n : ℕ} {r : Bool} {h : List ℕ} → nameAt P t ≡ n → Noted r f h n → NoneAt P H n t → Passed P H sys h (t + 1)
+      passed-first {n} {h = h} e k none =
+          passed-more (k .size) (k .kept) (λ _. subst (λ (m : ℕ). Has h m) (sym e) (k .has))
+          (λ u l x _ same. none .none u l (record { key = p .legal .each u l .key x ∙ ap (keyOf H) (same ∙ e); named = same ∙ e }))
 
   -- a name that it finds
   pub not-alone : {n H t : ℕ} → nameAt P t ≡ n → 1 ≤ n → (NoneAt P H n t → ⊥) → NamesAlone P (t + 1) → ⊥
@@ -78,23 +92,28 @@ module _ {P : ℕ → ℕ → ℕ} where
             omega (arith, a .alone u t (omega arith) (omega arith) (named-used P u (omega (arith, s .named))) (named-used P t (omega arith)) (s .named ∙ sym e));
       })
 
-pub scanned : {P : ℕ → ℕ → ℕ} {filter : List ℕ} {t : ℕ} → Passed P filter t → Scanned true P filter t
-scanned p = record { yes = λ _. p; not = λ e. absurd (true≢false e) }
+module _ {P : ℕ → ℕ → ℕ} {H : ℕ} {sys : List ℕ} where
+  pub scanned : {filter : List ℕ} {t : ℕ} → Passed P H sys filter t → Scanned true P H sys filter t
+  scanned p = record { yes = λ _. p; not = λ e. absurd (true≢false e) }
 
--- the same place, written otherwise
-pub passed-at : {P : ℕ → ℕ → ℕ} {filter : List ℕ} {t u : ℕ} → t ≡ u → Passed P filter t → Passed P filter u
-passed-at {P} {filter} e p = subst (Passed P filter) e p
+  -- the same place, written otherwise
+  pub passed-at : {filter : List ℕ} {t u : ℕ} → t ≡ u → Passed P H sys filter t → Passed P H sys filter u
+  passed-at {filter} e p = subst (Passed P H sys filter) e p
 
--- after `if !f(..)`: refused, here and further on, and granted
-pub refused : {r : Bool} {P : ℕ → ℕ → ℕ} {f h : List ℕ} {t u : ℕ} → Scanned r P f t → B.not r ≡ true → t ≤ u → Scanned false P h u
-refused {r} s e l = record { yes = λ z. absurd (true≢false (sym z)); not = λ _ a. s .not (not-true r e) (alone-less l a) }
+  -- a place that is not legal
+  pub not-legal : {r : Bool} {f : List ℕ} {t : ℕ} → Decides r (PlaceLegal P H (t / 16 % H) sys t) → B.not r ≡ true → Scanned false P H sys f (t + 1)
+  not-legal {r} {t = t} d e = record { yes = λ z. absurd (true≢false (sym z)); not = λ _ l a. refutes r d e (l .each t (omega arith)) }
 
-pub granted : {r : Bool} {P : ℕ → ℕ → ℕ} {f : List ℕ} {t : ℕ} → Scanned r P f t → B.not r ≡ false → Passed P f t
-granted {r} s e = s .yes (not-false r e)
+  -- after `if !f(..)`: refused, here and further on, and granted
+  pub refused : {r : Bool} {f h : List ℕ} {t u : ℕ} → Scanned r P H sys f t → B.not r ≡ true → t ≤ u → Scanned false P H sys h u
+  refused {r} s e h = record { yes = λ z. absurd (true≢false (sym z)); not = λ _ l a. s .not (not-true r e) (legal-less h l) (alone-less h a) }
+
+  pub granted : {r : Bool} {f : List ℕ} {t : ℕ} → Scanned r P H sys f t → B.not r ≡ false → Passed P H sys f t
+  granted {r} s e = s .yes (not-false r e)
 
 -- fewer sectors
-pub legal-less : {image : List ℕ} {g : Geometry} {m n : ℕ} → m ≤ n → LegalSys image g n → LegalSys image g m
-legal-less h l = record { sys = l .sys; room = omega (arith, l .room); legal = λ t k. l .legal t (omega arith) }
+pub fewer : {image : List ℕ} {g : Geometry} {catalog : Catalog} {m n : ℕ} → m ≤ n → Judging image g catalog n → Judging image g catalog m
+fewer h l = record { sys = l .sys; room = omega (arith, l .room); keys = l .keys }
 
 -- ---- one place, as the code meets it
 
@@ -102,21 +121,21 @@ legal-less h l = record { sys = l .sys; room = omega (arith, l .room); legal = �
 pub not-noted : {r : Bool} {f h : List ℕ} {n : ℕ} → B.not r ≡ true → Noted r f h n → Noted false f h n
 not-noted {r} {f} {h} {n} e k = subst (λ (x : Bool). Noted x f h n) (not-true r e) k
 
-module _ {P : ℕ → ℕ → ℕ} {t : ℕ} {name : Name} (n : NameIn P t name) where
+module _ {P : ℕ → ℕ → ℕ} {t : ℕ} {name : Name} (n : NameIn P t name) {H : ℕ} {sys : List ℕ} (legal : PlaceLegal P H (t / 16 % H) sys t) where
   -- where the first word is 0, no legal name stands
-  pub zero-unused : {H : ℕ} → name .0 ≡ 0 → (Used P t → LegalPlace P H t) → Used P t → ⊥
-  zero-unused z legal used =
+  pub zero-unused : name .0 ≡ 0 → Used P t → ⊥
+  zero-unused z used =
       let e : nameAt P t / 0x10000000000 ≡ 0 = omega (arith, n .first, n .second, n .third, n .second-word, n .third-word) in
-      legal-first (nameAt P t) (legal used .name) e
-
-  pub some-name : (name .0 ≡ 0 → ⊥) → 1 ≤ pack (name .0) (name .1) (name .2)
-  some-name d = omega arith
+      legal-first (nameAt P t) (legal .name used) e
 
   -- it stands in a sector of its key
-  pub stands-here : {H : ℕ} → (name .0 ≡ 0 → ⊥) → (Used P t → LegalPlace P H t) → Stands P H (pack (name .0) (name .1) (name .2)) t
-  stands-here {H} d legal =
+  pub stands-here : (name .0 ≡ 0 → ⊥) → Stands P H (pack (name .0) (name .1) (name .2)) t
+  stands-here d =
       let e = name-packed n in
-      record { key = legal (first-used n d) .key ∙ ap (keyOf H) (sym e); named = sym e }
+      record { key = legal .key (first-used n d) ∙ ap (keyOf H) (sym e); named = sym e }
+
+pub some-name : (name : Name) → (name .0 ≡ 0 → ⊥) → 1 ≤ pack (name .0) (name .1) (name .2)
+some-name name d = omega arith
 
 -- ---- what the search says of a place that has the name
 

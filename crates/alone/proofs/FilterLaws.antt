@@ -1,85 +1,72 @@
--- Laws of the filter: a bit that is set, and the two bits of a name.
-use mathlib.Core.Path.{_≡_, sym, ap, _∙_, subst}
-use mathlib.Core.Bool.{Bool, true, false}
+-- Laws of the filter: the bits of one name are added to its word, and those of other names stay.
+use mathlib.Core.Path.{_≡_, sym, ap, ap₂, _∙_, subst}
 use mathlib.Core.List.{List}
-use Prim.Native.Nat.{ℕ, _+_, _*_, _/_, _%_, _^_, _<_}
+use Prim.Native.Nat.{ℕ, _+_, _*_, _/_, _%_, _^_, _<_, min, max}
 use native.Mathlib.Omega.{arith}
-use lib.Pow.{shl-exact}
-use lib.ListN.{length, getD, set}
+use native.Mathlib.Nat.{div-add-mod'}
+use lib.Arith.{bin-ind}
+use lib.Bits.{bitAnd, bitOr, and-step, or-step, and-zero-r, and-self, or-comm}
+use lib.Dec.{eqb}
+use lib.ListN.{length, getD, set, length-set}
 use lib.Seq.{getD-set-same, getD-set-other}
+use borrow.Author.Tests.{eqb-false}
 use Rattle.disc.specs.Names.{pack}
 use Rattle.disc.proofs.Compare.{same-or}
-use Rattle.disc.proofs.DecideLaws.{true≢false}
 use Rattle.disc.proofs.NameLaws.{pack-first, pack-second, pack-third}
-use Rattle.map.proofs.Digits.{digit, withDigit, with-same, with-other, with-lt}
-use Rattle.alone.specs.Filter.{bitAt, mixed, Has, BitNoted, Noted}
+use Rattle.alone.specs.Filter.{mixed, cellBy, maskBy, Has, Noted}
 
 -- the number that the code mixes
 pub mixed-words : (a b c : ℕ) → b < 65536 → c < 65536 → a * 173961102589770 + b * 9202655381969 + c * 836226975143 ≡ mixed (pack a b c)
 mixed-words a b c p q =
     omega (arith, ap (λ (x : ℕ). x * 173961102589770) (pack-first a b c p q), ap (λ (x : ℕ). x * 9202655381969) (pack-second a b c p q), ap (λ (x : ℕ). x * 836226975143) (pack-third a b c q))
 
--- ---- a word with one bit more
+-- ---- a word with some bits more
 
-module _ (w b : ℕ) (low : b < 16) (clear : digit w b ≡ 1 → ⊥) where
-  pub one-more : w + 1 * 2 ^ b % 65536 ≡ withDigit b 1 w
-  one-more =
-      let e : 1 * 2 ^ b % 65536 ≡ 1 * 2 ^ b = shl-exact {a = 1} 1 b 16 (omega arith) (omega arith) in
-      let z : digit w b ≡ 0 = omega arith in
-      omega (arith, ap (λ (d : ℕ). d * 2 ^ b) z)
+-- bits that are set stay set
+still-set : (p w m : ℕ) → bitAnd w p ≡ p → bitAnd (bitOr w m) p ≡ p
+still-set = bin-ind (λ (p : ℕ). (w m : ℕ) → bitAnd w p ≡ p → bitAnd (bitOr w m) p ≡ p) (λ w m h. and-zero-r (bitOr w m)) step
+  where
+    step : (p : ℕ) → ((w m : ℕ) → bitAnd w (p / 2) ≡ p / 2 → bitAnd (bitOr w m) (p / 2) ≡ p / 2) → (w m : ℕ) → bitAnd w p ≡ p → bitAnd (bitOr w m) p ≡ p
+    step p ih w m h =
+        let a = and-step w p in
+        let o = or-step w m in
+        let high : bitAnd (w / 2) (p / 2) ≡ p / 2 = omega arith in
+        let half : bitOr w m / 2 ≡ bitOr (w / 2) (m / 2) = omega arith in
+        let low : min (bitOr w m % 2) (p % 2) ≡ p % 2 = omega arith in
+        and-step (bitOr w m) p ∙ ap₂ (λ (x y : ℕ). x * 2 + y) (ap (λ (x : ℕ). bitAnd x (p / 2)) half ∙ ih (w / 2) (m / 2) high) low ∙ div-add-mod' p 2
 
-  pub one-more-fits : w < 65536 → w + 1 * 2 ^ b % 65536 < 65536
-  one-more-fits h = omega (arith, one-more, with-lt 1 (omega arith) b 16 w low h)
+-- bits that are added are set
+now-set : (w m : ℕ) → bitAnd (bitOr w m) m ≡ m
+now-set w m = ap (λ (x : ℕ). bitAnd x m) (or-comm w m) ∙ still-set m m w (and-self m)
 
--- ---- a filter with one bit more
+-- ---- a filter with one name more
 
-pub bit-set : (filter : List ℕ) (p : ℕ) → bitAt filter p ≡ 1 → BitNoted true filter filter p
-bit-set filter p h = record { new = λ e. absurd (true≢false e); set = h; kept = λ q k. k }
+module _ (filter : List ℕ) (size : length filter ≡ 4096) (x : ℕ) where
+  abbrev after : List ℕ
+  after = set filter (cellBy x) (bitOr (getD filter (cellBy x) 0) (maskBy x))
 
-module _ (filter : List ℕ) (p : ℕ) (small : p < 262144) (size : length filter ≡ 16384) (clear : bitAt filter p ≡ 1 → ⊥) where
-  abbrev v : ℕ
-  v = getD filter (p / 16) 0 + 1 * 2 ^ (p % 16) % 65536
+  here : getD after (cellBy x) 0 ≡ bitOr (getD filter (cellBy x) 0) (maskBy x)
+  here = getD-set-same filter (cellBy x) _ 0 (omega arith)
 
-  here : getD (set filter (p / 16) v) (p / 16) 0 ≡ withDigit (p % 16) 1 (getD filter (p / 16) 0)
-  here = getD-set-same filter (p / 16) v 0 (omega arith) ∙ one-more (getD filter (p / 16) 0) (p % 16) (omega arith) clear
+  has-now : bitAnd (getD after (cellBy x) 0) (maskBy x) ≡ maskBy x
+  has-now = ap (λ (w : ℕ). bitAnd w (maskBy x)) here ∙ now-set (getD filter (cellBy x) 0) (maskBy x)
 
-  now-set : bitAt (set filter (p / 16) v) p ≡ 1
-  now-set = ap (λ (x : ℕ). digit x (p % 16)) here ∙ with-same 1 (omega arith) (p % 16) (getD filter (p / 16) 0)
+  kept-now : (m : ℕ) → Has filter m → Has after m
+  kept-now m h = record {
+    bits = same-or (cellBy (mixed m)) (cellBy x)
+        (λ e. ap (λ (i : ℕ). bitAnd (getD after i 0) (maskBy (mixed m))) e ∙ ap (λ (w : ℕ). bitAnd w (maskBy (mixed m))) here
+        ∙ still-set (maskBy (mixed m)) (getD filter (cellBy x) 0) (maskBy x) (ap (λ (i : ℕ). bitAnd (getD filter i 0) (maskBy (mixed m))) (sym e) ∙ h .bits))
+        (λ e. ap (λ (w : ℕ). bitAnd w (maskBy (mixed m))) (getD-set-other filter (cellBy x) (cellBy (mixed m)) _ 0 e) ∙ h .bits);
+  }
 
-  still-set : (q : ℕ) → bitAt filter q ≡ 1 → bitAt (set filter (p / 16) v) q ≡ 1
-  still-set q h = same-or (q / 16) (p / 16)
-      (λ e. same-or (q % 16) (p % 16)
-      (λ f. let g : q ≡ p = omega arith in ap (bitAt (set filter (p / 16) v)) g ∙ now-set)
-      (λ f.
-      ap (λ (i : ℕ). digit (getD (set filter (p / 16) v) i 0) (q % 16)) e ∙ ap (λ (x : ℕ). digit x (q % 16)) here
-      ∙ with-other 1 (omega arith) (p % 16) (q % 16) (getD filter (p / 16) 0) f
-      ∙ ap (λ (i : ℕ). digit (getD filter i 0) (q % 16)) (sym e) ∙ h))
-      (λ e. ap (λ (x : ℕ). digit x (q % 16)) (getD-set-other filter (p / 16) (q / 16) v 0 e) ∙ h)
+  noted-by : (n : ℕ) → x ≡ mixed n → Noted (eqb (bitAnd (getD filter (cellBy x) 0) (maskBy x)) (maskBy x)) filter after n
+  noted-by n e = record {
+    size = length-set filter (cellBy x) _ ∙ size;
+    new = λ z h. eqb-false _ _ z (subst (λ (y : ℕ). bitAnd (getD filter (cellBy y) 0) (maskBy y) ≡ maskBy y) (sym e) (h .bits));
+    has = record { bits = subst (λ (y : ℕ). bitAnd (getD after (cellBy y) 0) (maskBy y) ≡ maskBy y) e has-now };
+    kept = kept-now;
+  }
 
-  pub bit-new : BitNoted false filter (set filter (p / 16) v) p
-  bit-new = record { new = λ _. clear; set = now-set; kept = still-set }
-
--- ---- the two bits of a name
-
-module _ (n : ℕ) {first second : Bool} {f g h : List ℕ} {x : ℕ} (e : x ≡ mixed n) (one : BitNoted first f g (x / 1048576 % 262144)) (two : BitNoted second g h (x / 128 % 262144)) where
-  a : BitNoted first f g (mixed n / 1048576 % 262144)
-  a = subst (λ (y : ℕ). BitNoted first f g (y / 1048576 % 262144)) e one
-
-  b : BitNoted second g h (mixed n / 128 % 262144)
-  b = subst (λ (y : ℕ). BitNoted second g h (y / 128 % 262144)) e two
-
-  in-both : Has h n
-  in-both = record { first = b .kept (mixed n / 1048576 % 262144) (a .set); second = b .set }
-
-  all-kept : (m : ℕ) → Has f m → Has h m
-  all-kept m k =
-      record {
-        first = b .kept (mixed m / 1048576 % 262144) (a .kept (mixed m / 1048576 % 262144) (k .first));
-        second = b .kept (mixed m / 128 % 262144) (a .kept (mixed m / 128 % 262144) (k .second));
-      }
-
-  pub noted-second : Noted second f h n
-  noted-second = record { new = λ z k. b .new z (a .kept (mixed n / 128 % 262144) (k .second)); has = in-both; kept = all-kept }
-
-  pub noted-first : first ≡ false → Noted false f h n
-  noted-first z = record { new = λ _ k. a .new z (k .first); has = in-both; kept = all-kept }
+  pub noted : {mask : ℕ} (n : ℕ) → x ≡ mixed n → mask ≡ maskBy x
+      → Noted (eqb (bitAnd (getD filter (cellBy x) 0) mask) mask) filter (set filter (cellBy x) (bitOr (getD filter (cellBy x) 0) mask)) n
+  noted {mask} n e f = subst (λ (y : ℕ). Noted (eqb (bitAnd (getD filter (cellBy x) 0) y) y) filter (set filter (cellBy x) (bitOr (getD filter (cellBy x) 0) y)) n) (sym f) (noted-by n e)

@@ -34,7 +34,7 @@ use Rattle.steps.proofs.ChangeUnit.{grownTo, not-grown, entry-grown, changeLaye
 use Rattle.steps.proofs.ChangeMessage.{change-kept, change-areas}
 use Rattle.unit.specs.Stepped.{Stepped}
 use Rattle.unit.proofs.StepLaws.{stepped}
-use Rattle.grow.specs.Grow.{grownUnit}
+use Rattle.grow.specs.Grow.{grownUnit, GrownFrom}
 use Rattle.rewrite.specs.Move.{FirstUnused}
 use Rattle.rewrite.specs.Rewrite.{Rewrites, stayed, moved}
 use Rattle.change.specs.Change.{sizeThen, attributesThen, fileAfter, layersThen, Changed, stays, grows, ChangeDone, ChangeStep}
@@ -59,6 +59,19 @@ done-as p name f lent file =
     (record { told = λ z. (rec, change-yes p n (newName n lent) (sizeThen f lent) (attributesThen f lent) f lent z, refl) })))))
 
 -- ---- the image afterwards
+
+-- SYS is grown first
+on-grown : (p : Plain) (n : ℕ) (f : File) (lent : List ℕ) → ChangeAsked p n (newName n lent) (sizeThen f lent) (attributesThen f lent) f lent → {image i : List ℕ}
+    → layersThen p n lent ≡ suc (p .layers) → OnDisc image p → GrownFrom image p i → OnDisc i (grownUnit p)
+on-grown p n f lent asked next o gf = subst (λ (j : List ℕ). OnDisc j (grownUnit p)) (sym (gf .written)) (grow-on o room few (gf .place) (gf .inside) (gf .named))
+  where
+    room : taking p (suc (p .layers)) 0 0 .forSys ≤ freeSlices p
+    room =
+        let h : taking p (layersThen p n lent) 0 0 .forSys + (slicesAfter (p .s) (sizeThen f lent) f - length (f .slices)) ≤ freeSlices p = leb→le _ _ (asked .room) in
+        subst (λ (l : ℕ). taking p l 0 0 .forSys ≤ freeSlices p) next (omega arith)
+
+    few : stretchCount (p .sys ++ taking p (suc (p .layers)) 0 0 .sysNew) ≤ 127
+    few = subst (λ (l : ℕ). stretchCount (p .sys ++ taking p l 0 0 .sysNew) ≤ 127) next (leb→le _ _ (asked .sysFew))
 
 module _ (p : Plain) (n : ℕ) (f : File) (lent : List ℕ) (g : Good p) (found : tableFind n (p .files) ≡ some f) (words : Words lent) (rec : T (isRecord lent))
     (asked : ChangeAsked p n (newName n lent) (sizeThen f lent) (attributesThen f lent) f lent) where
@@ -112,24 +125,18 @@ module _ (p : Plain) (n : ℕ) (f : File) (lent : List ℕ) (g : Good p) (found 
       grown-unit : changeGrown p n (newName n lent) (sizeThen f lent) (attributesThen f lent) f lent ≡ grownUnit p
       grown-unit = ap (grownTo p) next
 
-      room : taking p (suc (p .layers)) 0 0 .forSys ≤ freeSlices p
-      room =
-          let h : taking p (layersThen p n lent) 0 0 .forSys + (slicesAfter (p .s) sz f - length (f .slices)) ≤ freeSlices p = leb→le _ _ (asked .room) in
-          subst (λ (l : ℕ). taking p l 0 0 .forSys ≤ freeSlices p) next (omega arith)
-
-      few : stretchCount (p .sys ++ taking p (suc (p .layers)) 0 0 .sysNew) ≤ 127
-      few = subst (λ (l : ℕ). stretchCount (p .sys ++ taking p l 0 0 .sysNew) ≤ 127) next (leb→le _ _ (asked .sysFew))
-
-      on-grown : OnDisc i (grownUnit p)
-      on-grown = subst (λ (j : List ℕ). OnDisc j (grownUnit p)) (sym (gf .written)) (grow-on o room few (gf .place) (gf .inside) (gf .named))
-
       go : Rewrites i (grownUnit p) (c .t) n (newName n lent) f (fileAfter (grownUnit p) f lent) after → OnDisc after unit
       go (stayed e w) =
           let z : layersThen p n lent ≡ p .layers = ap (λ (b : Bool). cond b (p .layers) (layersFor p m (tableRemove n (p .files)))) (eq-eqb m n e) in
           absurd (omega (arith, next))
-      go (moved d u first w) = subst (λ (j : List ℕ). OnDisc j unit) (sym w) (moved-at d (grownUnit p) grown-unit i on-grown (c .t) (c .inside) (c .stands) u first)
+      go (moved d u first w) = subst (λ (j : List ℕ). OnDisc j unit) (sym w) (moved-at d (grownUnit p) grown-unit i (on-grown p n f lent asked next o gf) (c .t) (c .inside) (c .stands) u first)
 
 -- ---- the message
+
+-- the unit with SYS grown is on the image that a Change with result word 0 grew first
+pub change-grown : {p : Plain} (name : Name) {f : File} (lent : List ℕ) {image i : List ℕ} → stepChange p name lent .answer .result ≡ 0 → tableFind (named name) (p .files) ≡ some f
+    → layersThen p (named name) lent ≡ suc (p .layers) → OnDisc image p → GrownFrom image p i → OnDisc i (grownUnit p)
+change-grown {p} name {f} lent z file next o gf = on-grown p (named name) f lent (done-as p name f lent file .told z .1) next o gf
 
 module _ {image : List ℕ} {state : State} {p : Plain} (g : Good p) (r : Represents image state p) where
   pub change-stepped : {name : Name} {lent after : List ℕ} {result : ℕ} → Words lent → ChangeStep p image name lent after result → Stepped (stepChange p name lent) lent result after state

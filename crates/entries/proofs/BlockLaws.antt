@@ -1,8 +1,8 @@
--- Laws of the blocks of SYS: the places of a block are those of its sector, and the blocks of a stretch are walked in order.
+-- Laws of the blocks of SYS: the places of a block are those of its sector.
 use mathlib.Core.Path.{_≡_, sym, ap, _∙_, subst}
 use mathlib.Core.Bool.{Bool}
 use mathlib.Core.List.{List}
-use Prim.Native.Nat.{ℕ, _+_, _*_, _-_, _/_, _%_, _≤_, _<_}
+use Prim.Native.Nat.{ℕ, _+_, _*_, _/_, _%_, _<_}
 use native.Mathlib.Omega.{arith}
 use native.Mathlib.Nat.{add-zero, mod-add-mod}
 use lib.Dec.{lit<}
@@ -10,17 +10,9 @@ use Rattle.types.specs.declared.Name.{Name}
 use Rattle.disc.specs.Decide.{Decides}
 use Rattle.disc.specs.Words.{word}
 use Rattle.disc.specs.Stretches.{sectorIn}
-use Rattle.disc.proofs.Compare.{below-or}
 use Rattle.sound.specs.Sound.{sysPlaces}
-use Rattle.entries.specs.Legal.{sectorPlaces, NameIn, PlaceLegal, SectorLegal, StretchLegal, PlacesLegal}
+use Rattle.entries.specs.Legal.{sectorPlaces, NameIn, PlaceLegal}
 use Rattle.entries.proofs.PlaceLaws.{SameWords, same-back, place-moved}
-
--- the same with a key, or a number of keys, that is written otherwise
-pub sector-key : {r : Bool} {image : List ℕ} {q H k l : ℕ} {sys : List ℕ} → k ≡ l → Decides r (SectorLegal image q H k sys) → Decides r (SectorLegal image q H l sys)
-sector-key {r} {image} {q} {H} {sys = sys} e d = subst (λ (x : ℕ). Decides r (SectorLegal image q H x sys)) e d
-
-pub stretch-keys : {r : Bool} {image : List ℕ} {q n H G k : ℕ} {sys : List ℕ} → H ≡ G → Decides r (StretchLegal image q n H k sys) → Decides r (StretchLegal image q n G k sys)
-stretch-keys {r} {image} {q} {n} {k = k} {sys} e d = subst (λ (x : ℕ). Decides r (StretchLegal image q n x k sys)) e d
 
 -- the next key, where the key of block b + c is counted up from that of block b
 pub key-next : {k n : ℕ} (key H c : ℕ) → k ≡ (key + c) % H → n ≡ (k + 1) % H → n ≡ (key + (c + 1)) % H
@@ -57,39 +49,13 @@ module _ (image : List ℕ) (F s : ℕ) (slices : List ℕ) where
         third-word = m .third-word;
       }
 
-  -- the first n blocks of SYS have legal places
-  pub record BlocksLegal (H : ℕ) (sys : List ℕ) (n : ℕ) : Type 0 where
-    pub each : (b : ℕ) → b < n → SectorLegal image (sectorIn F s slices b) H (b % H) sys
-
-  module _ {H : ℕ} {sys : List ℕ} where
-    pub blocks-none : BlocksLegal H sys 0
-    blocks-none = record { each = λ b h. absurd (omega arith) }
-
-    pub blocks-places : {n : ℕ} → BlocksLegal H sys n → PlacesLegal (sysPlaces image F s slices) H sys (16 * n)
-    blocks-places l = record { each = λ t h. place-moved (same-back (in-sector t)) (l .each (t / 16) (omega arith) .each (t % 16) (omega arith)) }
-
-    pub places-blocks : {n : ℕ} → PlacesLegal (sysPlaces image F s slices) H sys (16 * n) → BlocksLegal H sys n
-    places-blocks {n} l = record { each = λ b h. record { each = λ i k. by b i h k } }
-      where
-        by : (b i : ℕ) → b < n → i < 16 → PlaceLegal (sectorPlaces image (sectorIn F s slices b)) H (b % H) sys i
-        by b i h k =
-            let x : (16 * b + i) / 16 ≡ b = omega arith in
-            rw x at (place-moved (in-block b i k) (l .each (16 * b + i) (omega arith)))
-
-    -- n sectors from sector q on, which are the blocks from block b on
-    module _ (q b n : ℕ) (walk : (c : ℕ) → c < n → sectorIn F s slices (b + c) ≡ q + c) where
-      at-walk : (c : ℕ) → c < n → SectorLegal image (q + c) H ((b % H + c) % H) sys ≡ SectorLegal image (sectorIn F s slices (b + c)) H ((b + c) % H) sys
-      at-walk c h = rw (walk c h, mod-add-mod b H c)
-
-      pub blocks-more : BlocksLegal H sys b → StretchLegal image q n H (b % H) sys → BlocksLegal H sys (b + n)
-      blocks-more l m = record {
-        each = λ x h. below-or x b
-            (λ y. l .each x y)
-            (λ y.
-            let e : b + (x - b) ≡ x = omega arith in
-            let r : SectorLegal image (sectorIn F s slices (b + (x - b))) H ((b + (x - b)) % H) sys = subst (λ (A : Type 0). A) (at-walk (x - b) (omega arith)) (m .each (x - b) (omega arith)) in
-            rw e at r);
-      }
-
-      pub blocks-stretch : {m : ℕ} → b + n ≤ m → BlocksLegal H sys m → StretchLegal image q n H (b % H) sys
-      blocks-stretch k l = record { each = λ c h. subst (λ (A : Type 0). A) (sym (at-walk c h)) (l .each (b + c) (omega arith)) }
+  -- a place that was judged there, in a sector of its key
+  pub place-block : {r : Bool} {H G key : ℕ} {sys : List ℕ} (b i q : ℕ) → i < 16 → q ≡ sectorIn F s slices b → H ≡ G → key ≡ b % G
+      → Decides r (PlaceLegal (sectorPlaces image q) H key sys i) → Decides r (PlaceLegal (sysPlaces image F s slices) G ((16 * b + i) / 16 % G) sys (16 * b + i))
+  place-block {r} {H} {G} {key} {sys} b i q h e f k d =
+      let x : (16 * b + i) / 16 ≡ b = omega arith in
+      let d′ = subst (λ (y : ℕ). Decides r (PlaceLegal (sectorPlaces image q) G y sys i)) k (subst (λ (y : ℕ). Decides r (PlaceLegal (sectorPlaces image q) y key sys i)) f d) in
+      let m : Decides r (PlaceLegal (sectorPlaces image (sectorIn F s slices b)) G ((16 * b + i) / 16 % G) sys i) =
+      rw x (subst (λ (y : ℕ). Decides r (PlaceLegal (sectorPlaces image y) G (b % G) sys i)) e d′) in
+      let same = in-block b i h in
+      record { yes = λ y. place-moved (same-back same) (m .yes y); not = λ y p. m .not y (place-moved same p) }

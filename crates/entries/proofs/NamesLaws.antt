@@ -1,16 +1,12 @@
 -- The names are sound exactly if every place is legal, SYS and MAP were met, and every name is alone.
 use mathlib.Core.Path.{_≡_, sym, ap, _∙_}
-use mathlib.Core.Bool.{Bool, true, false}
-use mathlib.Core.Bool as B
 use mathlib.Core.List.{List}
 use mathlib.Core.Logic.{_↔_}
 use Prim.Native.Nat.{ℕ, _≤_, _<_}
 use native.Mathlib.Omega.{arith}
 use lib.Dec.{lit<}
-use Rattle.disc.specs.Decide.{Decides}
 use Rattle.disc.specs.Names.{keyOf, SYS, MAP}
 use Rattle.disc.specs.Entries.{nameAt, sysEntry, mapEntry}
-use Rattle.disc.proofs.DecideLaws.{holds, grants}
 use Rattle.sound.specs.Places.{Used}
 use Rattle.sound.specs.Parts.{SoundNames}
 use Rattle.entries.specs.Legal.{HoldsEntry, PlacesLegal}
@@ -98,8 +94,3 @@ module _ {P : ℕ → ℕ → ℕ} {H : ℕ} {count : ℕ} {n x : ℕ} (e : n �
         key = l .each (m .place) (m .inside) .key (named-used P (m .place) (omega (arith, m .named))) ∙ ap (keyOf H) (m .named ∙ sym e);
         named = m .named ∙ sym e;
       })
-
--- all places are legal, and both names were met
-pub all-met : {P : ℕ → ℕ → ℕ} {H : ℕ} {sys : List ℕ} {count : ℕ} {r : Bool} → Decides r (PlacesLegal P H sys count) → B.not r ≡ false
-    → Met P SYS count → Met P MAP count → Decides true (NamesLegal P H sys count)
-all-met {r = r} d e x y = holds (record { places = grants r d e; sysMet = x; mapMet = y })

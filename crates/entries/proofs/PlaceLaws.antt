@@ -99,17 +99,17 @@ module _ {P : ℕ → ℕ → ℕ} {t : ℕ} where
       pub judged-name : {r : Bool} → r ≡ legalName (pack (name .0) (name .1) (name .2)) → B.not r ≡ true → PlaceLegal P H k sys t → ⊥
       judged-name e f p = T-not (ap legalName (sym (name-packed n)) ∙ sym e ∙ not-true _ f) (p .name used)
 
-      pub judged-key : {x : ℕ} → x ≡ keyOf H (pack (name .0) (name .1) (name .2)) → (x ≡ k → ⊥) → PlaceLegal P H k sys t → ⊥
-      judged-key e d p = d (e ∙ ap (keyOf H) (name-packed n) ∙ sym (p .key used))
+      pub judged-key : (k ≡ keyOf H (pack (name .0) (name .1) (name .2)) → ⊥) → PlaceLegal P H k sys t → ⊥
+      judged-key d p = d (p .key used ∙ ap (keyOf H) (sym (name-packed n)))
 
-      pub judged-rest : {l r : Bool} {x : ℕ} → l ≡ legalName (pack (name .0) (name .1) (name .2)) → B.not l ≡ false
-          → x ≡ keyOf H (pack (name .0) (name .1) (name .2)) → x ≡ k → Decides r (SystemLegal P sys t) → Decides r (PlaceLegal P H k sys t)
-      judged-rest e f g i d =
+      pub judged-rest : {l r : Bool} → l ≡ legalName (pack (name .0) (name .1) (name .2)) → B.not l ≡ false
+          → k ≡ keyOf H (pack (name .0) (name .1) (name .2)) → Decides r (SystemLegal P sys t) → Decides r (PlaceLegal P H k sys t)
+      judged-rest e f g d =
           record {
             yes = λ y.
                 record {
                   name = λ _. T-of (ap legalName (sym (name-packed n)) ∙ sym e ∙ not-false _ f);
-                  key = λ _. sym i ∙ g ∙ ap (keyOf H) (name-packed n);
+                  key = λ _. g ∙ ap (keyOf H) (name-packed n);
                   system = d .yes y;
                 };
             not = λ y p. d .not y (p .system);

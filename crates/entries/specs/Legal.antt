@@ -45,14 +45,6 @@ pub record PlaceLegal (P : ℕ → ℕ → ℕ) (H k : ℕ) (sys : List ℕ) (t 
   pub key : Used P t → k ≡ keyOf H (nameAt P t)
   pub system : SystemLegal P sys t
 
--- The places of sector q, a sector of key k.
-pub record SectorLegal (image : List ℕ) (q H k : ℕ) (sys : List ℕ) : Type 0 where
-  pub each : (i : ℕ) → i < 16 → PlaceLegal (sectorPlaces image q) H k sys i
-
--- The places of n sectors from sector q on, the first of key k: "key k lives in sectors k, k + H, k + 2H and so on".
-pub record StretchLegal (image : List ℕ) (q n H k : ℕ) (sys : List ℕ) : Type 0 where
-  pub each : (c : ℕ) → c < n → SectorLegal image (q + c) H ((k + c) % H) sys
-
 -- The first `count` places of SYS.
 pub record PlacesLegal (P : ℕ → ℕ → ℕ) (H : ℕ) (sys : List ℕ) (count : ℕ) : Type 0 where
   pub each : (t : ℕ) → t < count → PlaceLegal P H (t / 16 % H) sys t

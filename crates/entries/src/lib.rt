@@ -1,18 +1,17 @@
-// The names in SYS, as a sound unit has them: every used place has a legal name, in a sector of its key, alone of that name, and
-// SYS and MAP are entered. SYS is walked by its stretches and sectors.
+// The names in SYS, as a sound unit has them: every used place has a legal name, in a sector of its key, and SYS and MAP are entered.
 
 ghost use mathlib.Core.Path.{_≡_};
 ghost use Prim.Native.Nat.{_+_, _*_, _%_, _≤_, _<_, min};
 ghost use lib.ListN.{length};
 ghost use Rattle.disc.specs.Decide.{Decides};
-ghost use Rattle.disc.specs.Names.{pack};
+ghost use Rattle.disc.specs.Names.{pack, keyOf};
 ghost use Rattle.disc.specs.Kit.{sysIndexSector};
 ghost use Rattle.disc.specs.Stretches.{sectorIn};
 ghost use Rattle.disc.specs.Pairs.{pairLength, pairStart};
 ghost use Rattle.disc.specs.Entries.{systemEntry};
 ghost use Rattle.names.specs.Classes.{ClassesOf};
 ghost use Rattle.sound.specs.Places.{Unused};
-ghost use Rattle.entries.specs.Legal.{sectorPlaces, NameIn, HoldsEntry, ownEntry, SystemLegal, PlaceLegal, SectorLegal, StretchLegal, PlacesLegal};
+ghost use Rattle.entries.specs.Legal.{sectorPlaces, NameIn, HoldsEntry, ownEntry, SystemLegal, PlaceLegal, PlacesLegal};
 ghost use Rattle.entries.specs.Found.{FoundIs, SlotIs};
 ghost use Rattle.entries.specs.Names.{NamesLegal, LayersOf};
 ghost use Rattle.entries.specs.Sys.{sysSlices, placesIn, SysOf};
@@ -21,9 +20,11 @@ use types::Block;
 use types::Name;
 use types::Sector;
 
-// What the places of SYS are judged by: the number of keys, and the length and the reserved sectors that SYS's entry must say.
+// What the places of SYS are judged by: the number of keys, 2147483648 divided by it, and the length and the reserved sectors that
+// SYS's entry must say.
 pub struct Catalog {
     pub keys: u16,
+    pub inverse: u32,
     pub size: u16,
     pub reserved: u16,
 }
@@ -81,20 +82,20 @@ fn sector_of(image: &[u16], g: Geometry, b: Block) -> Sector
     Sector(pair_start(image, j).0 + rest)
 }
 
-// Whether the sixteen words of place i of sector q are 0; their sum is read, with no exit on the way.
+// Whether the sixteen words of place i of sector q are 0; the bits of all are gathered, with no exit on the way.
 fn is_unused(image: &[u16], q: Sector, i: usize) -> bool
     requires { ⌜ (q .0 * 256 + 256 ≤ length (now image)) × (i < 16) ⌝ }
     ensures { λ r. ⌜ Decides r (Unused (sectorPlaces (now (image .entry)) (q .0)) i) ⌝ }
 {
     let at = q.0 as usize * 256;
     let from = i * 16;
-    let mut sum: u32 = 0;
+    let mut bits: u16 = 0;
     let mut w = 0;
     while w < 16 {
-        sum += image[at + (from + w)] as u32;
+        bits = bits | image[at + (from + w)];
         w += 1;
     }
-    sum == 0
+    bits == 0
 }
 
 // The name in place i of sector q.
@@ -158,7 +159,7 @@ fn is_entry(
 }
 
 // Whether place i of sector q, if its name is SYS or MAP, holds that entry.
-fn system_legal(image: &[u16], q: Sector, i: usize, name: Name, catalog: Catalog) -> bool
+fn named_legal(image: &[u16], q: Sector, i: usize, name: Name, catalog: Catalog) -> bool
     requires { ⌜ (q .0 * 256 + 256 ≤ length (now image)) × (i < 16) × NameIn (sectorPlaces (now image) (q .0)) i name ⌝ }
     ensures { λ r. ⌜ Decides r (SystemLegal (sectorPlaces (now (image .entry)) (q .0)) (ownEntry catalog) i) ⌝ }
 {
@@ -171,8 +172,37 @@ fn system_legal(image: &[u16], q: Sector, i: usize, name: Name, catalog: Catalog
     true
 }
 
+// The same: by the first word, as few other names begin with that of SYS or MAP.
+fn system_legal(image: &[u16], q: Sector, i: usize, name: Name, catalog: Catalog) -> bool
+    requires { ⌜ (q .0 * 256 + 256 ≤ length (now image)) × (i < 16) × NameIn (sectorPlaces (now image) (q .0)) i name ⌝ }
+    ensures { λ r. ⌜ Decides r (SystemLegal (sectorPlaces (now (image .entry)) (q .0)) (ownEntry catalog) i) ⌝ }
+{
+    if name.0 == 0x5359 {
+        return named_legal(image, q, i, name, catalog);
+    }
+    if name.0 == 0x4D41 {
+        return named_legal(image, q, i, name, catalog);
+    }
+    true
+}
+
+// Whether a name is of the key. A product with the inverse guesses the quotient; the sum is divided only if the guess does not
+// show the key.
+fn has_key(name: Name, key: u16, catalog: Catalog) -> bool
+    requires { ⌜ key < catalog .keys ⌝ }
+    ensures { λ r. ⌜ Decides r (key ≡ keyOf (catalog .keys) (pack (name .0) (name .1) (name .2))) ⌝ }
+{
+    let keys = catalog.keys;
+    let sum = std::num::wrapping_add_u16(std::num::wrapping_add_u16(name.0, name.1), name.2);
+    let quotient = sum as u64 * catalog.inverse as u64 / 2147483648;
+    if quotient * keys as u64 + key as u64 == sum as u64 {
+        return true;
+    }
+    numbers::key(name, keys) == key
+}
+
 // Whether place i of sector q, a sector of the key, is unused or has a legal name of that key; SYS and MAP have their entries.
-fn place_legal(
+pub fn place_legal(
     image: &[u16],
     q: Sector,
     i: usize,
@@ -180,7 +210,7 @@ fn place_legal(
     catalog: Catalog,
     classes: &[u8; 256],
 ) -> bool
-    requires { ⌜ (q .0 * 256 + 256 ≤ length (now image)) × (i < 16) × (1 ≤ catalog .keys) × ClassesOf (now classes) ⌝ }
+    requires { ⌜ (q .0 * 256 + 256 ≤ length (now image)) × (i < 16) × (key < catalog .keys) × ClassesOf (now classes) ⌝ }
     ensures { λ r. ⌜ Decides r (PlaceLegal (sectorPlaces (now (image .entry)) (q .0)) (catalog .keys) key (ownEntry catalog) i) ⌝ }
 {
     let name = place_name(image, q, i);
@@ -190,29 +220,14 @@ fn place_legal(
     if !names::legal_by(name, classes) {
         return false;
     }
-    if numbers::key(name, catalog.keys) != key {
+    if !has_key(name, key, catalog) {
         return false;
     }
     system_legal(image, q, i, name, catalog)
 }
 
-// Whether the sixteen places of sector q, a sector of the key, are legal.
-fn sector_legal(image: &[u16], q: Sector, key: u16, catalog: Catalog, classes: &[u8; 256]) -> bool
-    requires { ⌜ (q .0 * 256 + 256 ≤ length (now image)) × (1 ≤ catalog .keys) × ClassesOf (now classes) ⌝ }
-    ensures { λ r. ⌜ Decides r (SectorLegal (now (image .entry)) (q .0) (catalog .keys) key (ownEntry catalog)) ⌝ }
-{
-    let mut i = 0;
-    while i < 16 {
-        if !place_legal(image, q, i, key, catalog, classes) {
-            return false;
-        }
-        i += 1;
-    }
-    true
-}
-
 // The key after a key, 0 after the last.
-fn next_key(key: u16, keys: u16) -> u16
+pub fn next_key(key: u16, keys: u16) -> u16
     requires { ⌜ key < keys ⌝ }
     ensures { λ r. ⌜ r ≡ (key + 1) % keys ⌝ }
 {
@@ -220,32 +235,6 @@ fn next_key(key: u16, keys: u16) -> u16
         return 0;
     }
     key + 1
-}
-
-// Whether the places of n sectors from sector q on are legal, the first of them a sector of the key.
-fn stretch_legal(
-    image: &[u16],
-    q: Sector,
-    n: u16,
-    key: u16,
-    catalog: Catalog,
-    classes: &[u8; 256],
-) -> bool
-    requires { ⌜ (256 * (q .0 + n) ≤ length (now image)) × (q .0 + n < 65536) × (key < catalog .keys) × ClassesOf (now classes) ⌝ }
-    ensures { λ r. ⌜ Decides r (StretchLegal (now (image .entry)) (q .0) n (catalog .keys) key (ownEntry catalog)) ⌝ }
-{
-    let first = q.0;
-    let keys = catalog.keys;
-    let mut k = key;
-    let mut c = 0;
-    while c < n {
-        if !sector_legal(image, Sector(first + c), k, catalog, classes) {
-            return false;
-        }
-        k = next_key(k, keys);
-        c += 1;
-    }
-    true
 }
 
 // The lesser of two numbers.
@@ -256,25 +245,6 @@ pub fn lesser(a: u16, b: u16) -> u16
         return a;
     }
     b
-}
-
-// Whether all places of SYS are legal, stretch by stretch.
-fn all_legal(image: &[u16], g: Geometry, catalog: Catalog, classes: &[u8; 256]) -> bool
-    requires { ⌜ SysOf (now image) g × (catalog .keys ≡ g .keys) × (catalog .size ≤ g .slice * length (sysSlices (now image) g)) × ClassesOf (now classes) ⌝ }
-    ensures { λ r. ⌜ Decides r (PlacesLegal (placesIn (now (image .entry)) g) (g .keys) (ownEntry catalog) (16 * catalog .size)) ⌝ }
-{
-    let size = catalog.size;
-    let mut b = 0;
-    let mut j = 0;
-    while b < size {
-        let n = lesser(pair_length(image, j), size - b);
-        if !stretch_legal(image, pair_start(image, j), n, b % g.keys, catalog, classes) {
-            return false;
-        }
-        b += n;
-        j += 1;
-    }
-    true
 }
 
 // The first place of sector q that has the name, or 16.
@@ -309,15 +279,11 @@ pub fn find(image: &[u16], g: Geometry, name: Name, blocks: u16) -> Found
     Found::Nothing
 }
 
-// Whether every place of SYS is legal, and SYS and MAP are entered.
-pub fn names_legal(image: &[u16], g: Geometry, catalog: Catalog) -> bool
-    requires { ⌜ SysOf (now image) g × (catalog .keys ≡ g .keys) × (catalog .size ≤ g .slice * length (sysSlices (now image) g)) ⌝ }
+// Whether SYS and MAP are entered too, where every place of SYS is legal.
+pub fn system_entered(image: &[u16], g: Geometry, catalog: Catalog) -> bool
+    requires { ⌜ SysOf (now image) g × (catalog .size ≤ g .slice * length (sysSlices (now image) g)) × PlacesLegal (placesIn (now image) g) (g .keys) (ownEntry catalog) (16 * catalog .size) ⌝ }
     ensures { λ r. ⌜ Decides r (NamesLegal (placesIn (now (image .entry)) g) (g .keys) (ownEntry catalog) (16 * catalog .size)) ⌝ }
 {
-    let classes = names::classes();
-    if !all_legal(image, g, catalog, &classes) {
-        return false;
-    }
     let Found::At(_) = find(image, g, names::sys_name(), catalog.size) else {
         return false;
     };

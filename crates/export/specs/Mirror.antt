@@ -1,4 +1,4 @@
--- The state that a mirror stands for: the numbers of a C program as the values of the declared types.
+-- The state that a mirror stands for (the numbers of a C program as the values of the declared types), and the mirror of a state.
 use mathlib.Core.Bool.{Bool, not, cond}
 use mathlib.Core.List.{List, [], _∷_}
 use Prim.Native.Nat.{ℕ}
@@ -9,6 +9,7 @@ use Rattle.types.specs.declared.Role.the-variants.{Sharing, ExclusiveWriter, Ex
 use Rattle.types.specs.declared.User.{User}
 use Rattle.types.specs.declared.Area.{Area}
 use Rattle.types.specs.declared.State.{State}
+use Rattle.types.specs.State.{areaAt, userAt}
 use Rattle.export.specs.declared.UserState.{UserState}
 use Rattle.export.specs.declared.AreaState.{AreaState}
 use Rattle.export.specs.declared.UnitState.{UnitState}
@@ -46,4 +47,33 @@ stateOf m = record {
   initialized = isSet (m .initialized);
   areas = areaOf (mirrorArea m 0) ∷ areaOf (mirrorArea m 1) ∷ areaOf (mirrorArea m 2) ∷ areaOf (mirrorArea m 3)
       ∷ areaOf (mirrorArea m 4) ∷ areaOf (mirrorArea m 5) ∷ areaOf (mirrorArea m 6) ∷ areaOf (mirrorArea m 7) ∷ [];
+}
+
+-- The mirror of a state: yes is 1, and each role its number.
+abbrev pub setWord : Bool → ℕ
+setWord set = cond set 1 0
+
+abbrev pub roleNumber : Role → ℕ
+roleNumber Sharing = 0
+roleNumber ExclusiveWriter = 1
+roleNumber ExclusiveUser = 2
+
+abbrev pub mirrorOfUser : User → UserState
+mirrorOfUser u = record { id = u .id; role = roleNumber (u .role); opens = u .opens; position = u .position .0 }
+
+abbrev pub mirrorOfArea : Area → AreaState
+mirrorOfArea a = record {
+  live = setWord (a .live);
+  name = a .name .0 ∷ a .name .1 ∷ a .name .2 ∷ [];
+  index = a .index .0;
+  length = a .length;
+  users = mirrorOfUser (userAt a 0) ∷ mirrorOfUser (userAt a 1) ∷ mirrorOfUser (userAt a 2) ∷ [];
+}
+
+abbrev pub mirrorOf : State → UnitState
+mirrorOf s = record {
+  unit = s .unit;
+  initialized = setWord (s .initialized);
+  areas = mirrorOfArea (areaAt s 0) ∷ mirrorOfArea (areaAt s 1) ∷ mirrorOfArea (areaAt s 2) ∷ mirrorOfArea (areaAt s 3)
+      ∷ mirrorOfArea (areaAt s 4) ∷ mirrorOfArea (areaAt s 5) ∷ mirrorOfArea (areaAt s 6) ∷ mirrorOfArea (areaAt s 7) ∷ [];
 }

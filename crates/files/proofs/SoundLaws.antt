@@ -1,13 +1,13 @@
 -- The rules of all places are those of a sound unit's ordinary files, and the slices that they hold are the files'.
 use mathlib.Core.Path.{_≡_, refl, sym, ap, ap₂, _∙_, subst}
-use mathlib.Core.Bool.{Bool}
+use mathlib.Core.Bool.{Bool, true, false}
 use mathlib.Core.List.{List, _++_}
-use Prim.Native.Nat.{ℕ, zero, suc, _<_}
+use Prim.Native.Nat.{ℕ, zero, suc, _≤_, _<_}
 use native.Mathlib.Omega.{arith}
 use lib.Dec.{T}
 use lib.ListN.{length}
 use Rattle.types.specs.declared.State.{State}
-use Rattle.disc.specs.Names.{legalName}
+use Rattle.disc.specs.Names.{legalName, isSystem}
 use Rattle.disc.specs.Entries.{nameAt}
 use Rattle.kit.specs.declared.Geometry.{Geometry}
 use Rattle.marks.specs.Marked.{Marked}
@@ -19,7 +19,7 @@ use Rattle.sound.specs.Parts.{Marking}
 use Rattle.files.specs.declared.Live.{Live}
 use Rattle.files.specs.Live.{liveOf, indexBy, liveIn, FlatOf, OpenUpto}
 use Rattle.files.specs.Rules.{entryOf, FileRules}
-use Rattle.files.specs.Walk.{placeSlices, joined, PlaceRules, PlacesMarking, NamesKnown, SoundFiles}
+use Rattle.files.specs.Walk.{placeSlices, joined, PlaceRules, PlacesMarking, NamesKnown, OrdinaryPlaces, SoundFiles}
 use Rattle.files.proofs.LiveLaws.{live-state, index-of}
 use Rattle.files.proofs.FileLaws.{rules-sound, sound-rules}
 use Rattle.files.proofs.SequenceLaws.{marking-map}
@@ -30,6 +30,17 @@ legal-some n t e = subst (λ (x : ℕ). T (legalName x)) e t
 
 unused-name : {P : ℕ → ℕ → ℕ} {t : ℕ} → Unused P t → nameAt P t ≡ 0
 unused-name u = omega (arith, u .zero 0 (omega arith), u .zero 1 (omega arith), u .zero 2 (omega arith))
+
+-- a place with a data sector as its index sector is used, and not SYS's or MAP's
+pub ordinary-known : {image : List ℕ} {g : Geometry} {count : ℕ} → NamesKnown image g count → OrdinaryPlaces (placesIn image g) count
+ordinary-known {image} {g} known t h = record {
+  named = λ far z. legal-some (nameAt (placesIn image g) t) (known .legal t h (λ u. omega (arith, u .zero 8 (omega arith)))) z;
+  ordinary = λ far. by far (isSystem (nameAt (placesIn image g) t)) refl;
+}
+  where
+    by : 10 ≤ placesIn image g t 8 → (b : Bool) → isSystem (nameAt (placesIn image g) t) ≡ b → b ≡ false
+    by far true e = absurd (omega (arith, known .system t h e))
+    by far false e = refl
 
 held-same : (n : ℕ) {a b : List ℕ} → ((n ≡ 0 → ⊥) → a ≡ b) → heldBy n a ≡ heldBy n b
 held-same zero e = refl

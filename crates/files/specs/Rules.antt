@@ -2,11 +2,11 @@
 use mathlib.Core.Path.{_≡_}
 use mathlib.Core.Bool.{Bool, true, false}
 use mathlib.Core.List.{List}
-use Prim.Native.Nat.{ℕ, _+_, _*_, _≤_}
+use Prim.Native.Nat.{ℕ, _+_, _*_, _≤_, _<_}
 use lib.ListN.{length, getD}
 use lib.Dec.{T}
 use Rattle.disc.specs.Numbers.{need}
-use Rattle.disc.specs.Attributes.{legalAttributes, legalWith}
+use Rattle.disc.specs.Attributes.{legalAttributes, legalWith, entryOnly}
 use Rattle.sound.specs.Places.{slicesFrom, OwnIndex, Booked}
 use Rattle.sound.specs.Parts.{Marking}
 use Rattle.kit.specs.declared.Geometry.{Geometry}
@@ -61,3 +61,15 @@ pub record OwnMarking (image : List ℕ) (g : Geometry) (q : ℕ) (before after 
 pub record FileMarking (image : List ℕ) (g : Geometry) (entry : Entry) (live : Live) (before after : List ℕ) (answer : Bool) : Type 0 where
   pub marking : (held : List ℕ) → Marked (g .slices) before held
       → Marking answer (FileRules image (g .first) (g .slice) entry live) (g .slices) after held (fileSlices image (g .first) (g .slice) entry live)
+
+-- What the numbers of the entry of a closed file with some slices say beside its index block.
+pub record PlainNumbers (entry : Entry) : Type 0 where
+  pub allowed : legalAttributes (entry .attributes) ≡ true
+  pub slices : entryOnly (entry .attributes) ≡ false
+  pub short : entry .size < entry .reserved
+
+-- The answer true says that the file keeps all rules if no area process of it is open, and that its slices are marked now; false
+-- says only that nothing was changed.
+pub record ClosedMarking (image : List ℕ) (g : Geometry) (entry : Entry) (before after : List ℕ) (answer : Bool) : Type 0 where
+  pub yes : answer ≡ true → (live : Live) → live .opened ≡ false → FileMarking image g entry live before after true
+  pub not : answer ≡ false → after ≡ before

@@ -1,6 +1,6 @@
 -- The places of SYS as they are judged one after the other: the rules of each, and the slices that they hold.
 use mathlib.Core.Path.{_≡_}
-use mathlib.Core.Bool.{Bool}
+use mathlib.Core.Bool.{Bool, true, false}
 use mathlib.Core.List.{List, [], _++_}
 use Prim.Native.Nat.{ℕ, zero, suc, _+_, _*_, _≤_, _<_}
 use lib.ListN.{length}
@@ -56,9 +56,30 @@ pub record SysKnown (image : List ℕ) (g : Geometry) (marks : List ℕ) (blocks
   pub marked : Marked (g .slices) marks (sysSlices image g)
   pub room : blocks ≤ g .slice * length (sysSlices image g)
 
--- "Every used entry has a legal name".
+-- "Every used entry has a legal name"; "SYS and MAP are entered with .. index 6 and 7", before the data sectors.
 pub record NamesKnown (image : List ℕ) (g : Geometry) (count : ℕ) : Type 0 where
   pub legal : (t : ℕ) → t < count → Used (placesIn image g) t → T (legalName (nameAt (placesIn image g) t))
+  pub system : (t : ℕ) → t < count → isSystem (nameAt (placesIn image g) t) ≡ true → placesIn image g t 8 < 10
+
+-- A place whose index sector is a data sector is that of an ordinary file, and so is each of the first n places of a sequence.
+pub record OrdinaryPlace (w : ℕ → ℕ) : Type 0 where
+  pub named : 10 ≤ w 8 → nameBy w ≡ 0 → ⊥
+  pub ordinary : 10 ≤ w 8 → isSystem (nameBy w) ≡ false
+
+abbrev pub OrdinaryPlaces : (ℕ → ℕ → ℕ) → ℕ → Type 0
+OrdinaryPlaces P n = (t : ℕ) → t < n → OrdinaryPlace (P t)
+
+-- The answer true says that the place is legal if no area process of its name is open, and that its slices are marked now; false
+-- says only that nothing was changed.
+pub record PlainMarking (image : List ℕ) (g : Geometry) (w : ℕ → ℕ) (before after : List ℕ) (answer : Bool) : Type 0 where
+  pub yes : answer ≡ true → (lives : ℕ → Live) → lives (nameBy w) .opened ≡ false → PlaceMarking image g lives w before after true
+  pub not : answer ≡ false → after ≡ before
+
+-- So many of the first `count` places of a sequence are legal, if none of the `upto` area processes is open, and their slices
+-- marked.
+pub record PlainPlaces (image : List ℕ) (g : Geometry) (P : ℕ → ℕ → ℕ) (count upto : ℕ) (before after : List ℕ) (answer : ℕ) : Type 0 where
+  pub high : answer ≤ count
+  pub marking : (lives : ℕ → Live) → (upto ≡ 0 → (n : ℕ) → lives n .opened ≡ false) → PlacesMarking image g lives P answer before after true
 
 -- The ordinary files of a sound unit.
 abbrev pub SoundFiles : List ℕ → State → Geometry → ℕ → Type 0

@@ -2,6 +2,7 @@
 // stretches, and the slices that the files have are marked.
 
 ghost use mathlib.Core.Path.{_≡_};
+ghost use mathlib.Core.Bool.{true};
 ghost use Prim.Native.Nat.{_+_, _*_, _≤_};
 ghost use lib.ListN.{length};
 ghost use Rattle.disc.specs.Decide.{Decides};
@@ -16,8 +17,8 @@ ghost use Rattle.files.specs.Live.{indexBy, lengthBy, liveIn, openName, 
 ghost use Rattle.kit.specs.Geometry.{UnitOf};
 ghost use Rattle.marks.specs.Marked.{SomeMarked};
 ghost use Rattle.entries.specs.Sys.{sysSlices, placesIn};
-ghost use Rattle.files.specs.Walk.{nameBy, placesFrom, PlaceMarking, PlacesMarking, SysKnown, NamesKnown, SoundFiles};
-ghost use Rattle.files.specs.Rules.{wordsAt, entryAt, FileNumbers, OwnMarking, FileMarking};
+ghost use Rattle.files.specs.Walk.{nameBy, placesFrom, PlaceMarking, PlacesMarking, SysKnown, NamesKnown, OrdinaryPlace, OrdinaryPlaces, PlainMarking, PlainPlaces, SoundFiles};
+ghost use Rattle.files.specs.Rules.{wordsAt, entryAt, FileNumbers, OwnMarking, FileMarking, PlainNumbers, ClosedMarking};
 use kit::Geometry;
 use marks::Indexed;
 use types::Area;
@@ -266,6 +267,45 @@ fn file_sound(image: &[u16], at: usize, live: Live, g: Geometry, marks: &mut [u8
     numbers_legal(entry, live, found.slices, g.slice)
 }
 
+// Whether the numbers of an entry are those of a closed file with some slices, where so many sectors are reserved.
+fn plain_numbers(entry: Entry) -> bool
+    ensures { λ r. ⌜ (r ≡ true → PlainNumbers entry) ⌝ }
+{
+    if entry.reserved <= entry.size {
+        return false;
+    }
+    if entry_only(entry.attributes) {
+        return false;
+    }
+    legal_attributes(entry.attributes)
+}
+
+// The same of a closed file of few slices, all in one stretch. Of any other file it says false and marks nothing.
+fn plain_file(image: &[u16], at: usize, g: Geometry, marks: &mut [u8; 4096]) -> bool
+    requires { ⌜ UnitOf (now image) g × SomeMarked (g .slices) (now marks) × (at + 16 ≤ length (now image)) ⌝ }
+    ensures { λ r. ⌜ ClosedMarking (now (image .entry)) g (entryAt (now (image .entry)) at) (now (marks .entry)) (now (marks .exit)) r ⌝ }
+{
+    let entry = entry_at(image, at);
+    if !plain_numbers(entry) {
+        return false;
+    }
+    marks::mark_single(image, entry.index, entry.reserved, g, marks)
+}
+
+// The same of any file, the quick way where that will do.
+fn any_file(image: &[u16], at: usize, live: Live, g: Geometry, marks: &mut [u8; 4096]) -> bool
+    requires { ⌜ UnitOf (now image) g × SomeMarked (g .slices) (now marks) × (at + 16 ≤ length (now image)) ⌝ }
+    ensures { λ r. ⌜ FileMarking (now (image .entry)) g (entryAt (now (image .entry)) at) live (now (marks .entry)) (now (marks .exit)) r ⌝ }
+{
+    if live.opened {
+        return file_sound(image, at, live, g, marks);
+    }
+    if plain_file(image, at, g, marks) {
+        return true;
+    }
+    file_sound(image, at, live, g, marks)
+}
+
 // The name that stands at a word of the image, as one number.
 fn name_at(image: &[u16], at: usize) -> u64
     requires { ⌜ at + 16 ≤ length (now image) ⌝ }
@@ -303,7 +343,45 @@ fn place_sound(
         return true;
     }
     let live = live_of(names, indexes, lengths, upto, name);
-    file_sound(image, at, live, g, marks)
+    any_file(image, at, live, g, marks)
+}
+
+// Judges the place that stands at a word of the image, if it is unused or that of a closed file of few slices, all in one stretch,
+// and marks the slices. Of any other place it says false and marks nothing.
+fn plain_place(image: &[u16], at: usize, g: Geometry, marks: &mut [u8; 4096]) -> bool
+    requires { ⌜ UnitOf (now image) g × SomeMarked (g .slices) (now marks) × (at + 16 ≤ length (now image)) × OrdinaryPlace (wordsAt (now image) at) ⌝ }
+    ensures { λ r. ⌜ PlainMarking (now (image .entry)) g (wordsAt (now (image .entry)) at) (now (marks .entry)) (now (marks .exit)) r ⌝ }
+{
+    if image[at + 8] < g.first {
+        return name_at(image, at) == 0;
+    }
+    plain_file(image, at, g, marks)
+}
+
+// Judges places from a word of the image on up to the first that `plain_place` leaves, and says how many; none where area
+// processes are open. The loop is short, so that the index blocks of many files are read at once.
+fn plain_run(
+    image: &[u16],
+    at: usize,
+    count: usize,
+    upto: usize,
+    g: Geometry,
+    marks: &mut [u8; 4096],
+) -> usize
+    requires { ⌜ UnitOf (now image) g × SomeMarked (g .slices) (now marks) × (at + 16 * count ≤ length (now image)) × OrdinaryPlaces (placesFrom (now image) at) count ⌝ }
+    ensures { λ r. ⌜ PlainPlaces (now (image .entry)) g (placesFrom (now (image .entry)) at) count upto (now (marks .entry)) (now (marks .exit)) r ⌝ }
+{
+    if upto != 0 {
+        return 0;
+    }
+    let mut i: usize = 0;
+    while i < count {
+        if !plain_place(image, at + 16 * i, g, marks) {
+            return i;
+        }
+        i += 1;
+    }
+    i
 }
 
 // Judges so many places, which stand one after the other from a word of the image on.
@@ -318,11 +396,15 @@ fn run_sound(
     g: Geometry,
     marks: &mut [u8; 4096],
 ) -> bool
-    requires { ⌜ UnitOf (now image) g × SomeMarked (g .slices) (now marks) × (at + 16 * count ≤ length (now image)) × (upto ≤ 8) ⌝ }
+    requires { ⌜ UnitOf (now image) g × SomeMarked (g .slices) (now marks) × (at + 16 * count ≤ length (now image)) × (upto ≤ 8) × OrdinaryPlaces (placesFrom (now image) at) count ⌝ }
     ensures { λ r. ⌜ PlacesMarking (now (image .entry)) g (liveIn (now (names .entry)) (now (indexes .entry)) (now (lengths .entry)) upto) (placesFrom (now (image .entry)) at) count (now (marks .entry)) (now (marks .exit)) r ⌝ }
 {
     let mut i: usize = 0;
     while i < count {
+        i += plain_run(image, at + 16 * i, count - i, upto, g, marks);
+        if i == count {
+            return true;
+        }
         if !place_sound(image, at + 16 * i, names, indexes, lengths, upto, g, marks) {
             return false;
         }
@@ -342,7 +424,7 @@ fn stretches_sound(
     g: Geometry,
     marks: &mut [u8; 4096],
 ) -> bool
-    requires { ⌜ SysKnown (now image) g (now marks) size × (upto ≤ 8) ⌝ }
+    requires { ⌜ SysKnown (now image) g (now marks) size × (upto ≤ 8) × OrdinaryPlaces (placesIn (now image) g) (16 * size) ⌝ }
     ensures { λ r. ⌜ PlacesMarking (now (image .entry)) g (liveIn (now (names .entry)) (now (indexes .entry)) (now (lengths .entry)) upto) (placesIn (now (image .entry)) g) (16 * size) (now (marks .entry)) (now (marks .exit)) r ⌝ }
 {
     let mut b: u16 = 0;

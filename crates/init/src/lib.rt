@@ -25,7 +25,7 @@ fn allowed(state: State, unit: u16) -> bool
 }
 
 // The state of an accepted unit.
-fn accepted(state: State) -> State
+pub fn accepted(state: State) -> State
     ensures { λ r. ⌜ r ≡ initialized state ⌝ }
 {
     let mut next = state;

@@ -4,3 +4,4 @@ pub mod AgreeLaws
 pub mod MarkLaws
 pub mod PairLaws
 pub mod IndexMarks
+pub mod FewLaws

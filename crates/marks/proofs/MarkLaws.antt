@@ -78,10 +78,10 @@ span-snoc (suc n) x =
     ap (λ (l : List ℕ). x ∷ l) (span-snoc n (suc x) ∙ ap (λ (y : ℕ). span (suc x) n ++ (y ∷ [])) (let e : suc x + n ≡ x + suc n = omega arith in e))
 
 module _ (m from : ℕ) (held : List ℕ) where
-  run-none : {marks : List ℕ} → Marked m marks held → Marked m marks (held ++ span (suc from) 0)
+  pub run-none : {marks : List ℕ} → Marked m marks held → Marked m marks (held ++ span (suc from) 0)
   run-none marked = rw append-nil marked
 
-  run-more : {marks : List ℕ} (n : ℕ) → from + n < m → from + n < 4096 → getD marks (from + n) 0 ≡ 0 → Marked m marks (held ++ span (suc from) n)
+  pub run-more : {marks : List ℕ} (n : ℕ) → from + n < m → from + n < 4096 → getD marks (from + n) 0 ≡ 0 → Marked m marks (held ++ span (suc from) n)
       → Marked m (set marks (from + n) 1) (held ++ span (suc from) (n + 1))
   run-more {marks} n below high none marked =
       let next : suc from + n ≡ suc (from + n) = omega arith in

@@ -1,8 +1,8 @@
 -- What is promised of marking the slices that an index block describes.
 use mathlib.Core.Path.{_≡_}
-use mathlib.Core.Bool.{true, false}
+use mathlib.Core.Bool.{Bool, true, false}
 use mathlib.Core.List.{List}
-use Prim.Native.Nat.{ℕ, _+_, _-_, _/_, _%_, _≤_}
+use Prim.Native.Nat.{ℕ, _+_, _-_, _*_, _/_, _%_, _≤_}
 use lib.Dec.{ltb}
 use lib.ListN.{length}
 use Rattle.disc.specs.Numbers.{sliceStart}
@@ -38,3 +38,13 @@ pub record IndexMarking (image : List ℕ) (g : Geometry) (q : ℕ) (before afte
   pub slices : answer .good ≡ true → answer .slices ≡ length (slicesAt image (g .first) (g .slice) q)
   pub start : answer .good ≡ true → answer .start ≡ sliceStart (g .first) (g .slice) (firstOf (slicesAt image (g .first) (g .slice) q))
   pub none : answer .good ≡ false → (answer .slices ≡ 0) × (answer .start ≡ 0)
+
+-- The answer true says that the index block in sector q is legal, begins there and has one pair, of so many sectors, and that its
+-- slices are marked now; false says only that nothing was changed.
+pub record SingleMarking (image : List ℕ) (g : Geometry) (q sectors : ℕ) (before after : List ℕ) (answer : Bool) : Type 0 where
+  pub yes : answer ≡ true → IndexMarking image g q before after (record { good = true; slices = sectors / g .slice; start = q })
+  pub whole : answer ≡ true → sectors / g .slice * g .slice ≡ sectors
+  pub some : answer ≡ true → 1 ≤ sectors
+  pub low : answer ≡ true → g .first ≤ q
+  pub high : answer ≡ true → q + sectors ≤ g .sectors
+  pub not : answer ≡ false → after ≡ before

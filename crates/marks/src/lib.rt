@@ -1,9 +1,9 @@
 // The marks of the slices that files have, one for each slice of a unit: set from index blocks, and compared with the map.
 
 ghost use mathlib.Core.Path.{_≡_};
-ghost use mathlib.Core.Bool.{false};
+ghost use mathlib.Core.Bool.{true, false};
 ghost use mathlib.Core.List.{List};
-ghost use Prim.Native.Nat.{ℕ, _+_, _*_, _≤_};
+ghost use Prim.Native.Nat.{ℕ, _+_, _*_, _/_, _≤_, _<_};
 ghost use lib.ListN.{length, getD};
 ghost use Rattle.disc.specs.Decide.{Decides};
 ghost use Rattle.disc.specs.Numbers.{sliceCount};
@@ -13,8 +13,10 @@ ghost use Rattle.disc.specs.Stretches.{span};
 ghost use Rattle.sound.specs.Sound.{SoundMap};
 ghost use Rattle.sound.specs.Parts.{MarksOf, Marking};
 ghost use Rattle.kit.specs.Geometry.{UnitOf};
-ghost use Rattle.marks.specs.Indexed.{PairMarking, IndexMarking};
-ghost use Rattle.marks.specs.Marked.{Marked, SomeMarked};
+ghost use Rattle.disc.specs.Pairs.{pairLength, pairStart};
+ghost use Rattle.disc.specs.Words.{word};
+ghost use Rattle.marks.specs.Indexed.{PairMarking, IndexMarking, SingleMarking};
+ghost use Rattle.marks.specs.Marked.{Marked, SomeMarked, FewMarking};
 ghost use Rattle.marks.specs.Packed.{packed, Filled, Cleared};
 use kit::Geometry;
 
@@ -183,4 +185,126 @@ pub fn mark_index(image: &[u16], q: u16, g: Geometry, marks: &mut [u8; 4096]) ->
         slices: slices,
         start: image[at + 2],
     }
+}
+
+// The number of whole slices that so many sectors are; 0 where they are none. One slice, the usual number, needs no division.
+fn whole_slices(sectors: u16, slice: u16) -> u32
+    requires { ⌜ 1 ≤ slice ⌝ }
+    ensures { λ r. ⌜ (1 ≤ r → (r ≡ sectors / slice) × (r * slice ≡ sectors)) × (r ≤ 65535) ⌝ }
+{
+    if sectors == slice {
+        return 1;
+    }
+    let count = sectors as u32 / slice as u32;
+    if count * slice as u32 != sectors as u32 {
+        return 0;
+    }
+    count
+}
+
+// Whether the index block in sector q has one pair, of so many sectors from sector q on.
+fn one_pair(image: &[u16], q: u16, sectors: u16) -> bool
+    requires { ⌜ q * 256 + 256 ≤ length (now image) ⌝ }
+    ensures { λ r. ⌜ (r ≡ true → (word (now (image .entry)) q 0 ≡ 1) × (pairLength (now (image .entry)) q 0 ≡ sectors) × (pairStart (now (image .entry)) q 0 ≡ q)) ⌝ }
+{
+    let at = q as usize * 256;
+    if image[at] != 1 {
+        return false;
+    }
+    if image[at + 1] != sectors {
+        return false;
+    }
+    image[at + 2] == q
+}
+
+// Marks slice from + 1, unless it is marked already.
+fn mark_slice(marks: &mut [u8; 4096], from: usize) -> bool
+    requires { ⌜ from < 4096 ⌝ }
+    ensures { λ r. ⌜ FewMarking r from 1 (now (marks .entry)) (now (marks .exit)) ⌝ }
+{
+    if marks[from] != 0 {
+        return false;
+    }
+    marks[from] = 1;
+    true
+}
+
+// The lesser of two numbers.
+fn lesser(a: usize, b: usize) -> usize
+    ensures { λ r. ⌜ (r ≤ b) × (a ≤ b → r ≡ a) × (b ≤ a → r ≡ b) ⌝ }
+{
+    if a < b {
+        return a;
+    }
+    b
+}
+
+// Marks the slices from + 1 to from + count, two to four, unless one of them is marked already. Fewer than four are tried and
+// marked twice, which needs no branch on their number.
+fn mark_four(marks: &mut [u8; 4096], from: usize, count: usize) -> bool
+    requires { ⌜ (2 ≤ count) × (count ≤ 4) × (from + count ≤ 4096) ⌝ }
+    ensures { λ r. ⌜ FewMarking r from count (now (marks .entry)) (now (marks .exit)) ⌝ }
+{
+    let last = from + (count - 1);
+    let third = lesser(from + 2, last);
+    if marks[from] != 0 {
+        return false;
+    }
+    if marks[from + 1] != 0 {
+        return false;
+    }
+    if marks[third] != 0 {
+        return false;
+    }
+    if marks[last] != 0 {
+        return false;
+    }
+    marks[from] = 1;
+    marks[from + 1] = 1;
+    marks[third] = 1;
+    marks[last] = 1;
+    true
+}
+
+// Marks the slices from + 1 to from + count if they are at most four, unless one of them is marked already.
+fn mark_few(marks: &mut [u8; 4096], from: usize, count: usize) -> bool
+    requires { ⌜ (1 ≤ count) × (from + count ≤ 4096) ⌝ }
+    ensures { λ r. ⌜ FewMarking r from count (now (marks .entry)) (now (marks .exit)) ⌝ }
+{
+    if count == 1 {
+        return mark_slice(marks, from);
+    }
+    if 4 < count {
+        return false;
+    }
+    mark_four(marks, from, count)
+}
+
+// Marks the slices of a file whose index block, in its first sector q, has one pair of so many sectors, at most four slices, of
+// which none is marked. For any other file it says false, and nothing is marked. All but the block is known from the file's
+// entry, so that nothing has to wait for the block's words but the comparison with them.
+pub fn mark_single(image: &[u16], q: u16, sectors: u16, g: Geometry, marks: &mut [u8; 4096]) -> bool
+    requires { ⌜ UnitOf (now image) g × SomeMarked (g .slices) (now marks) ⌝ }
+    ensures { λ r. ⌜ SingleMarking (now (image .entry)) g q sectors (now (marks .entry)) (now (marks .exit)) r ⌝ }
+{
+    if q < g.first {
+        return false;
+    }
+    let offset = (q - g.first) as u32;
+    let slice = g.slice as u32;
+    let from = offset / slice;
+    if from * slice != offset {
+        return false;
+    }
+    let count = whole_slices(sectors, g.slice);
+    if count == 0 {
+        return false;
+    }
+    if (g.slices as u32) < from + count {
+        return false;
+    }
+    if !one_pair(image, q, sectors) {
+        return false;
+    }
+    mark_few(marks, from as usize, count as usize)
 }

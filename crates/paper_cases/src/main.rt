@@ -26,7 +26,7 @@ fn number(value: u16) {
 fn call(image: &mut Disc, state: State, message: Message, first: u16, text: &[u8]) -> State {
     let mut lent = [0u16; 256];
     lent[0] = first;
-    let done = perform::perform(image, state, message, &mut lent);
+    let done = lent::drive(state, image, &mut lent, message);
     let answer = done.answer;
     io::write_all(1, text);
     number(answer.result);

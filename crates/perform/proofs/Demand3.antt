@@ -1,13 +1,12 @@
 -- Demand 3: one claim over every list of calls, by induction over the list.
-use mathlib.Core.Path.{_≡_, refl, sym, ap, _∙_, subst}
-use mathlib.Core.Bool.{Bool, true, false, not, _&&_}
-use mathlib.Core.List.{List, [], _∷_}
+use mathlib.Core.Path.{_≡_, refl, sym, ap, _∙_}
+use mathlib.Core.Bool.{Bool, true, false, not}
+use mathlib.Core.List.{List}
 use mathlib.Core.Logic.{_≢_}
-use Prim.Native.Nat.{ℕ, zero, suc, _≤_, _<_}
+use Prim.Native.Nat.{ℕ, _≤_, _<_}
 use native.Mathlib.Omega.{arith}
-use lib.Dec.{leb, ltb, eqb}
+use lib.Dec.{ltb, eqb}
 use lib.ListN.{length}
-use borrow.Author.Tests.{le-leb, eq-eqb, ne-eqb}
 use Rattle.types.specs.declared.State.{State}
 use Rattle.types.specs.declared.Message.{Message}
 use Rattle.types.specs.declared.Message.the-variants.{Init, Set, Create, LookUp, Change, Remove, CreateArea, RemoveArea, AreaMessage, UnitDescription, Listing}
@@ -15,23 +14,23 @@ use Rattle.types.specs.State.{areaAt}
 use Rattle.disc.proofs.Compare.{same-or}
 use Rattle.disc.specs.Words.{Words}
 use Rattle.plain.specs.Unit.{Plain, M, held}
-use Rattle.plain.specs.Questions.{Outcome, replies, known, done}
+use Rattle.plain.specs.Questions.{Outcome, replies, known}
 use Rattle.plain.specs.Reports.{stepListing, stepDescription}
 use Rattle.plain.specs.Step.{Call, Reply, step, reply, after, answers}
 use Rattle.plain.specs.Good.{Good}
 use Rattle.plain.specs.Claims.{LentWords}
-use Rattle.plain.proofs.Keeps.{step-keeps, list-keeps, good-adds}
+use Rattle.plain.proofs.Keeps.{step-keeps, good-adds}
 use Rattle.state.specs.Areas.{anyOpen}
 use Rattle.users.proofs.AreaLaws.{none-open}
 use Rattle.refine.specs.Represents.{Represents}
-use Rattle.refine.specs.Demands.{empty, then, Performed, Run, SameReply, SameReplies, SameWords, InSomeOrder, AcceptedState, Demand3After, Demand3}
+use Rattle.refine.specs.Demands.{empty, then, Performed, Run, SameReply, SameReplies, Demand3}
 use Rattle.refine.proofs.SoundRepresents.{sound-represents}
 use Rattle.map.proofs.CountLaws.{ones-free}
 use Rattle.refine.proofs.StateLaws.{same-any}
 use Rattle.steps.proofs.AskLaws.{asks-yes, asks-no}
-use Rattle.known.specs.Known.{unitMeant, unknownWord, Known}
+use Rattle.known.specs.Known.{unknownWord, Known}
 use Rattle.perform.proofs.ObeyLaws.{words-equal, known-no, known-yes}
-use Rattle.perform.specs.Perform.{Untouched, Obeyed, Performs, unknown, unsound, obeyed}
+use Rattle.perform.specs.Perform.{Performs, unknown, unsound, obeyed}
 
 -- ---- a refused first question in the plain unit
 

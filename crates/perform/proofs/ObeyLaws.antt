@@ -16,22 +16,20 @@ use Rattle.types.specs.declared.Message.{Message}
 use Rattle.types.specs.declared.Message.the-variants.{Init, Set, Create, LookUp, Change, Remove, CreateArea, RemoveArea, AreaMessage, UnitDescription, Listing}
 use Rattle.types.specs.State.{areaAt}
 use Rattle.disc.specs.Words.{Words}
-use Rattle.disc.specs.Names.{unitIn}
 use Rattle.plain.specs.Unit.{Plain}
 use Rattle.plain.specs.Questions.{Outcome, answer, replies, known, done}
-use Rattle.plain.specs.Catalog.{stepLookUp}
-use Rattle.plain.specs.Step.{step, reply}
+use Rattle.plain.specs.Step.{step}
 use Rattle.plain.specs.Good.{Good}
 use Rattle.plain.proofs.Keeps.{step-keeps}
 use Rattle.state.specs.Areas.{anyOpen}
 use Rattle.users.proofs.AreaLaws.{none-open}
 use Rattle.refine.specs.Represents.{Represents}
-use Rattle.refine.specs.OnDisc.{OnDisc}
 use Rattle.refine.specs.Replies.{Replies, refused, written}
-use Rattle.refine.specs.Demands.{Performed, SameReply, SameWords, InSomeOrder}
+use Rattle.refine.specs.Demands.{SameWords, InSomeOrder}
 use Rattle.refine.proofs.StateLaws.{same-any}
 use Rattle.steps.proofs.AskLaws.{asks-yes}
 use Rattle.steps.proofs.Whole.{on-disc}
+use Rattle.init.specs.Init.{initialized}
 use Rattle.unit.specs.declared.Opened.{Opened}
 use Rattle.unit.specs.Opened.{NumbersOf}
 use Rattle.unit.specs.LookUp.{LooksUp}
@@ -51,7 +49,7 @@ use Rattle.area_messages.specs.AreaMessages.{AreaMessages}
 use Rattle.sharing.specs.declared.AreaReply.{AreaReply}
 use Rattle.perform.proofs.StateKept.{Kept, state-kept}
 use Rattle.known.specs.Known.{unitMeant, Known}
-use Rattle.perform.specs.Perform.{initializedState, performed, Wrote, Obeyed, Obeys}
+use Rattle.perform.specs.Perform.{performed, Wrote, Obeyed, Obeys}
 
 -- equal words are the same words
 pub words-equal : (message : Message) (count : ℕ) (a b : List ℕ) → a ≡ b → SameWords message count a b
@@ -201,19 +199,31 @@ module _ {image : List ℕ} {state : State} {p : Plain} (g : Good p) (r : Repres
       }
 
   -- "Init leaves everything standing."
-  pub init-obeyed : {unit : ℕ} {lent : List ℕ} → Known state (Init unit) → Obeyed p image state (Init unit) lent (record { image = image; state = initializedState state; answer = answer 0 0 0 0; lent = lent })
+  pub init-done : {unit : ℕ} (lent : List ℕ) → Known state (Init unit) → step p (Init unit) lent ≡ done p lent
+  init-done {unit} lent k = asks-yes _ _ _ (known-yes p unit (k .number ∙ r .areas .number) (omega (arith, k .number, k .low))) ∙ asks-yes _ _ _ closed
+    where
+      shut : (b : Bool) → anyOpen state ≡ b → ((j : ℕ) → j < 8 → areaAt state j .live ≡ false) → anyOpen state ≡ false
+      shut false e c = e
+      shut true e c = absurd (none-open state (r .areas .shaped .eight) .not (ap not e) c)
+
+      zero-length : (n : ℕ) → ltb 0 n ≡ false → n ≡ 0
+      zero-length n e = omega (arith, ltb-false 0 n e)
+
+      closed : eqb (length (p .areas)) 0 ≡ true
+      closed = eq-eqb (length (p .areas)) 0 (zero-length (length (p .areas)) (sym (same-any _ _ (r .areas) (g .areaNames)) ∙ shut (anyOpen state) refl (k .ready)))
+
+  pub init-obeyed : {unit : ℕ} {lent : List ℕ} → Known state (Init unit) → Obeyed p image state (Init unit) lent (record { image = image; state = initialized state; answer = answer 0 0 0 0; lent = lent })
   init-obeyed {unit} {lent} k =
-      let none : eqb (length (p .areas)) 0 ≡ true = closed in
-      let e : step p (Init unit) lent ≡ done p lent = asks-yes _ _ _ (known-yes p unit (k .number ∙ r .areas .number) (omega (arith, k .number, k .low))) ∙ asks-yes _ _ _ none in
+      let e = init-done lent k in
       record {
         wrote = (refl, refl);
         same = record { answer = sym (ap (λ (o : Outcome). o .answer) e); words = sym (ap (λ (o : Outcome). o .lent) e) };
-        represents = subst (Represents image (initializedState state)) (sym (ap (λ (o : Outcome). o .unit) e)) ready;
+        represents = subst (Represents image (initialized state)) (sym (ap (λ (o : Outcome). o .unit) e)) ready;
         number = refl;
         initialized = refl;
       }
     where
-      ready : Represents image (initializedState state) p
+      ready : Represents image (initialized state) p
       ready = record {
         words = r .words;
         layout = r .layout;
@@ -226,26 +236,10 @@ module _ {image : List ℕ} {state : State} {p : Plain} (g : Good p) (r : Repres
         };
       }
 
-      shut : (b : Bool) → anyOpen state ≡ b → ((j : ℕ) → j < 8 → areaAt state j .live ≡ false) → anyOpen state ≡ false
-      shut false e c = e
-      shut true e c = absurd (none-open state (r .areas .shaped .eight) .not (ap not e) c)
+-- ---- the message in hand is one of these, and so are answer and state
 
-      closed : eqb (length (p .areas)) 0 ≡ true
-      closed = eq-eqb (length (p .areas)) 0 (zero-length (length (p .areas)) (sym (same-any _ _ (r .areas) (g .areaNames)) ∙ shut (anyOpen state) refl (k .ready)))
-        where
-          zero-length : (n : ℕ) → ltb 0 n ≡ false → n ≡ 0
-          zero-length n e = omega (arith, ltb-false 0 n e)
-
--- ---- the message in hand is one of these
-
-pub obeys : {image lent : List ℕ} {state : State} {o : Opened} {m message : Message} {r : Performed} → m ≡ message → Known state m
-    → (Known state message → (p : Plain) → Good p → Represents image state p → NumbersOf o p → Obeyed p image state message lent r) → Obeys image state o m lent r
-obeys {image} {lent} {state} {o} {m} {message} {r} e k f =
-    subst (λ (x : Message). Obeys image state o x lent r) (sym e) (record { all = f (subst (Known state) e k) })
-
--- a result word alone and a state
-pub word-obeys : {image after lent filled : List ℕ} {state next s : State} {o : Opened} {m message : Message} {result : ℕ} {a : Answer} → m ≡ message → Known state m
-    → (a ≡ answer result 0 0 0) × (s ≡ next)
-    → (Known state message → (p : Plain) → Good p → Represents image state p → NumbersOf o p → Obeyed p image state message lent (performed after next (answer result 0 0 0) filled))
+pub answer-obeys : {image after lent filled : List ℕ} {state next s : State} {o : Opened} {m message : Message} {a b : Answer} → m ≡ message → Known state m → (a ≡ b) × (s ≡ next)
+    → (Known state message → (p : Plain) → Good p → Represents image state p → NumbersOf o p → Obeyed p image state message lent (performed after next b filled))
     → Obeys image state o m lent (performed after s a filled)
-word-obeys e k w f = rw (w .0, w .1) (obeys e k f)
+answer-obeys {image} {after} {lent} {filled} {state} {next} {o = o} {b = b} e k w f =
+    rw (w .0, w .1) (subst (λ (x : Message). Obeys image state o x lent (performed after next b filled)) (sym e) (record { all = f (subst (Known state) e k) }))

@@ -14,6 +14,7 @@ use Rattle.plain.specs.Step.{step, reply}
 use Rattle.sound.specs.Sound.{SoundUnit}
 use Rattle.refine.specs.Represents.{Represents}
 use Rattle.refine.specs.Demands.{Performed, SameReply}
+use Rattle.init.specs.Init.{initialized}
 use Rattle.unit.specs.declared.Opened.{Opened}
 use Rattle.unit.specs.Opened.{NumbersOf, Represented}
 use Rattle.create.specs.Create.{CreateStep, SetStep}
@@ -30,10 +31,6 @@ pub record Untouched (word : ℕ) (image : List ℕ) (state : State) (lent : Lis
   pub same-state : r .state ≡ state
   pub same-lent : r .lent ≡ lent
 
--- The state of a unit that Init accepted: "Init leaves everything standing".
-abbrev pub initializedState : State → State
-initializedState state = record { unit = state .unit; initialized = true; areas = state .areas }
-
 -- Image and state as the call left them, with its answer and lent words.
 abbrev pub performed : List ℕ → State → Answer → List ℕ → Performed
 performed image state answer lent = record { image = image; state = state; answer = answer; lent = lent }
@@ -41,7 +38,7 @@ performed image state answer lent = record { image = image; state = state; answe
 -- Every word of the image and the state after a call that was obeyed: where a question is answered no they are as they were, and
 -- where none is, they are those that the message's own contract says.
 abbrev pub Wrote : Plain → List ℕ → State → Message → List ℕ → Performed → Type 0
-Wrote p image state (Init unit) lent r = (r .image ≡ image) × (r .state ≡ initializedState state)
+Wrote p image state (Init unit) lent r = (r .image ≡ image) × (r .state ≡ initialized state)
 Wrote p image state (Set name) lent r = SetStep p image name lent (r .image) (r .answer .result) × (r .state ≡ state)
 Wrote p image state (Create name size attributes) lent r = CreateStep p image name size attributes (r .image) (r .answer .result) × (r .state ≡ state)
 Wrote p image state (LookUp name) lent r = (r .image ≡ image) × (r .state ≡ state)

@@ -2,7 +2,9 @@
 
 ghost use mathlib.Core.Path.{_≡_};
 ghost use Rattle.plain.specs.Questions.{answer};
-ghost use Rattle.perform.specs.Perform.{initializedState, performed, CanObey, Obeys, Performs};
+ghost use Rattle.perform.specs.Perform.{performed, CanObey, Obeys, Performs};
+use areas::AreaDone;
+use sharing::AreaReply;
 use types::Answer;
 use types::Block;
 use types::Message;
@@ -31,13 +33,31 @@ fn word_alone(result: u16, state: State) -> Outcome
     }
 }
 
-// The state of a unit that Init accepted.
-fn initialized(state: State) -> State
-    ensures { λ r. ⌜ r ≡ initializedState state ⌝ }
+// A whole answer and a state.
+fn answered(whole: Answer, state: State) -> Outcome
+    ensures { λ r. ⌜ (r .answer ≡ whole) × (r .state ≡ state) ⌝ }
 {
-    let mut next = state;
-    next.initialized = true;
-    next
+    Outcome {
+        answer: whole,
+        state: state,
+    }
+}
+
+// What area create and area remove leave.
+fn area_done(done: AreaDone) -> Outcome
+    ensures { λ r. ⌜ (r .answer ≡ answer (done .result) 0 0 0) × (r .state ≡ done .state) ⌝ }
+{
+    let next = done.state;
+    word_alone(done.result, next)
+}
+
+// What a message to an area process leaves.
+fn area_replied(reply: AreaReply) -> Outcome
+    ensures { λ r. ⌜ (r .answer ≡ reply .answer) × (r .state ≡ reply .state) ⌝ }
+{
+    let whole = reply.answer;
+    let next = reply.state;
+    answered(whole, next)
 }
 
 // A message to a unit that is known and sound.
@@ -46,7 +66,7 @@ fn obey(image: &mut [u16], o: Opened, state: State, message: Message, lent: &mut
     ensures { λ r. ⌜ Obeys (now (image .entry)) state o message (now (lent .entry)) (performed (now (image .exit)) (r .state) (r .answer) (now (lent .exit))) ⌝ }
 {
     match message {
-        Message::Init { unit: _ } => word_alone(0, initialized(state)),
+        Message::Init { unit: _ } => word_alone(0, init::accepted(state)),
         Message::Set { name } => word_alone(create::set(image, o, name, lent), state),
         Message::Create {
             name,
@@ -56,43 +76,26 @@ fn obey(image: &mut [u16], o: Opened, state: State, message: Message, lent: &mut
         Message::LookUp { name } => word_alone(unit::look_up(image, o, name, lent), state),
         Message::Change { name } => word_alone(change::change(image, o, state, name, lent), state),
         Message::Remove { name } => word_alone(remove::remove(image, o, state, name), state),
-        Message::CreateArea { name } => {
-            let made = areas::create_area(image, o, state, name);
-            let next = made.state;
-            word_alone(made.result, next)
-        }
-        Message::RemoveArea { name } => {
-            let gone = areas::remove_area(image, o, state, name);
-            let next = gone.state;
-            word_alone(gone.result, next)
-        }
+        Message::CreateArea { name } => area_done(areas::create_area(image, o, state, name)),
+        Message::RemoveArea { name } => area_done(areas::remove_area(image, o, state, name)),
         Message::AreaMessage {
             name,
             sender,
             operation,
-        } => {
-            let reply = area_messages::area_message(image, o, state, name, sender, operation, lent);
-            let answer = reply.answer;
-            let next = reply.state;
-            Outcome {
-                answer: answer,
-                state: next,
-            }
-        }
-        Message::UnitDescription { unit, bytes } => {
-            let answer = reports::describe(image, o, unit, bytes, lent);
-            Outcome {
-                answer: answer,
-                state: state,
-            }
-        }
-        Message::Listing { unit: _ } => {
-            let answer = reports::list(image, o, lent);
-            Outcome {
-                answer: answer,
-                state: state,
-            }
-        }
+        } => area_replied(area_messages::area_message(
+            image,
+            o,
+            state,
+            name,
+            sender,
+            operation,
+            lent,
+        )),
+        Message::UnitDescription { unit, bytes } => answered(
+            reports::describe(image, o, unit, bytes, lent),
+            state,
+        ),
+        Message::Listing { unit: _ } => answered(reports::list(image, o, lent), state),
     }
 }
 

@@ -1,19 +1,24 @@
 -- The rules once SYS's layers are known, as they are decided one after the other: names, areas, files, map.
-use mathlib.Core.Path.{_≡_}
+use mathlib.Core.Path.{_≡_, sym, _∙_}
 use mathlib.Core.Bool.{Bool, true, false}
 use mathlib.Core.Bool as B
 use mathlib.Core.List.{List}
-use Prim.Native.Nat.{ℕ, _*_}
-use borrow.Author.Tests.{not-true, not-false}
+use Prim.Native.Nat.{ℕ, _*_, _<_}
+use native.Mathlib.Omega.{arith}
+use lib.Dec.{lit<}
+use borrow.Author.Tests.{not-true, not-false, ne-eqb}
 use Rattle.types.specs.declared.State.{State}
 use Rattle.disc.specs.Decide.{Decides}
 use Rattle.disc.specs.Slices.{InRangeOnce}
-use Rattle.disc.specs.Entries.{placeCount}
-use Rattle.disc.proofs.DecideLaws.{fails}
+use Rattle.disc.specs.Names.{SYS, MAP, isSystem}
+use Rattle.disc.specs.Entries.{placeCount, nameAt}
+use Rattle.disc.proofs.Compare.{same-or}
+use Rattle.disc.proofs.DecideLaws.{true≢false, fails}
 use Rattle.sound.specs.Sound.{SoundMap, slicesBelow}
 use Rattle.sound.specs.Parts.{SoundNames, MarksOf, Marking}
 use Rattle.kit.specs.declared.Geometry.{Geometry}
 use Rattle.entries.specs.Sys.{sysSlices, placesIn}
+use Rattle.entries.proofs.NamesLaws.{sound-legal}
 use Rattle.alone.specs.Scan.{LegalSys}
 use Rattle.files.specs.Walk.{SysKnown, NamesKnown, SoundFiles}
 use Rattle.soundness.specs.Areas.{AreasEntered}
@@ -28,8 +33,23 @@ module _ {image : List ℕ} {g : Geometry} {L : ℕ} where
       legal = names .legal;
     }
 
+    abbrev P : ℕ → ℕ → ℕ
+    P = placesIn image g
+
+    -- "SYS and MAP are entered with .. index 6 and 7"
+    system-low : (t : ℕ) → t < placeCount (g .keys) L → isSystem (nameAt P t) ≡ true → P t 8 < 10
+    system-low t h e =
+        let words = sound-legal P (g .keys) (g .slice) L (sysSlices image g) (placeCount (g .keys) L) names .places .each t h .system in
+        same-or (nameAt P t) SYS
+        (λ y. omega (arith, words .sysWords y .at 8 (lit< tt)))
+        (λ d. same-or (nameAt P t) MAP
+        (λ y. omega (arith, words .mapWords y .at 8 (lit< tt)))
+        (λ f.
+        let z : isSystem (nameAt P t) ≡ false = rw (ne-eqb (nameAt P t) SYS d, ne-eqb (nameAt P t) MAP f) in
+        absurd (true≢false (sym e ∙ z))))
+
     pub names-known : NamesKnown image g (placeCount (g .keys) L)
-    names-known = record { legal = λ t h u. names .legal t h u .name }
+    names-known = record { legal = λ t h u. names .legal t h u .name; system = system-low }
 
   -- the files or their slices are not those of a sound unit, or the map decides
   module _ {state : State} {r : Bool} {marks : List ℕ}

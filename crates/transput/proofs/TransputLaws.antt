@@ -81,7 +81,7 @@ module _ (p : Plain) (f : File) (k : ℕ) where
       go true = image-refused p f k image lent word d
       go false = refl
 
-  kept-state : (state : State) (j u operation word : ℕ) → word ≢ 0 → atPosition state j u k ≡ transputState p f state j u operation word k
+  pub kept-state : (state : State) (j u operation word : ℕ) → word ≢ 0 → atPosition state j u k ≡ transputState p f state j u operation word k
   unfolding transputState inputState
   kept-state state j u operation word d = go (isOutput operation)
     where

@@ -4,7 +4,8 @@
 //!   (surplus slices, files in any order, several layers), [`crowded`] one whose indexes and
 //!   free slices lie in close to 127 stretches; [`open_areas`] opens area processes on it,
 //!   [`fill_vacant`] fills what is vacant in its state, and [`unit()`] does some of all this.
-//! * [`shaped`] writes a unit of a given shape, for measurements.
+//! * [`shaped`] writes a unit of a given shape, for measurements; [`add_file`] adds a file with
+//!   given slices.
 //! * [`Caller`] makes calls, most of them accepted.
 //! * [`format_call`] makes calls of Format, [`damage`] breaks an image or a state.
 //!
@@ -26,7 +27,7 @@ use crate::layout::*;
 use crate::random::Random;
 use crate::sound::survey;
 use crate::types::{Area, Message, Name, Operation, Role, State, User};
-use crate::unit::{format, perform};
+use crate::unit::{book, count_free, enter, format, mark, perform, write_index};
 
 /// An image with its state.
 #[derive(Clone, PartialEq, Eq, Debug)]
@@ -716,6 +717,25 @@ pub fn shaped(random: &mut Random, shape: &Shape) -> Unit {
         }
     }
     builder.finish(0)
+}
+
+/// Adds a file with these free slices to a sound unit, in the first unused place of its key;
+/// its blocks keep the words that stand there.
+pub fn add_file(unit: &mut Unit, name: Name, attributes: u16, length: u16, slices: &[usize]) {
+    let survey = survey(&unit.image, &unit.state).expect("a sound unit");
+    let (image, kit) = (&mut unit.image, &survey.kit);
+    let mut entry = [0; ENTRY];
+    entry[..3].copy_from_slice(&name);
+    entry[6] = attributes;
+    book(&mut entry, kit, length, slices);
+    if let Some(&first) = slices.first() {
+        write_index(image, kit, kit.first_sector(first), slices);
+    }
+    for &slice in slices {
+        mark(image, slice, false);
+    }
+    enter(image, kit, &survey.sys, survey.layers, &entry);
+    count_free(image, kit);
 }
 
 /// Opens area processes with users on a sound unit, some with more than is booked.
@@ -1494,7 +1514,7 @@ fn damage_together(random: &mut Random, unit: &mut Unit) -> String {
     let image = &mut unit.image;
     let entry = &survey.entries[random.below(survey.entries.len())];
     let from = entry.sector * SECTOR + entry.place * ENTRY;
-    match random.below(10) {
+    match random.below(11) {
         0 => {
             // A slice becomes free or used in the map and the free sectors; at times one
             // past the last.
@@ -1637,6 +1657,18 @@ fn damage_together(random: &mut Random, unit: &mut Unit) -> String {
             // Attributes and length.
             image[from + 6] = random.pick(&[0x0004, 0x0005, 0x8010, 0x0002, 0x0000, 0x401D]);
             "attributes changed".into()
+        }
+        9 => {
+            // SYS's entry is moved to where a further layer would have it.
+            let block = key(SYS, kit.h) + kit.h * survey.layers;
+            if kit.h * (survey.layers + 1) > kit.s * survey.sys.len() {
+                return "nothing".into();
+            }
+            let sys = survey.find(SYS).expect("SYS is entered");
+            image[sys.sector * SECTOR + sys.place * ENTRY..][..ENTRY].fill(0);
+            let slack = kit.sys_sector(&survey.sys, block);
+            image[slack * SECTOR..][..ENTRY].copy_from_slice(&sys.words);
+            "SYS is entered in the slack".into()
         }
         _ => {
             // The first or last slice of SYS's slack, read as entries: none.

@@ -7,12 +7,14 @@
 //! * [`soundness`] says whether an image is a sound unit with a state, and if not, why;
 //!   [`is_sound`] only whether.
 //! * [`plain::Plain`] is the plain unit: a separate account with no map, index or place.
+//! * [`pairs`] says which result words document 01 allows to each call.
 //! * [`generate`] makes units, lists of calls and damage from a seed.
 
 #![warn(missing_docs)]
 
 pub mod generate;
 pub mod layout;
+pub mod pairs;
 pub mod plain;
 pub mod random;
 mod sound;

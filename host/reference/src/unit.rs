@@ -243,7 +243,7 @@ fn zero_sector(image: &mut [u16], sector: usize) {
     image[sector * SECTOR..(sector + 1) * SECTOR].fill(0);
 }
 
-fn mark(image: &mut [u16], slice: usize, free: bool) {
+pub(crate) fn mark(image: &mut [u16], slice: usize, free: bool) {
     let word = &mut image[MAP_SECTOR * SECTOR + (slice - 1) / 16];
     let bit = BITS[(slice - 1) % 16];
     if free {
@@ -254,12 +254,12 @@ fn mark(image: &mut [u16], slice: usize, free: bool) {
 }
 
 /// Sets the kit's free sectors to s times the ones in the map.
-fn count_free(image: &mut [u16], kit: &Kit) {
+pub(crate) fn count_free(image: &mut [u16], kit: &Kit) {
     image[KIT * SECTOR + 3] = (kit.s * ones_in_map(image)) as u16;
 }
 
 /// Writes an index block whole.
-fn write_index(image: &mut [u16], kit: &Kit, sector: usize, slices: &[usize]) {
+pub(crate) fn write_index(image: &mut [u16], kit: &Kit, sector: usize, slices: &[usize]) {
     zero_sector(image, sector);
     let block = &mut image[sector * SECTOR..(sector + 1) * SECTOR];
     let stretches = stretches(slices);
@@ -293,7 +293,13 @@ fn unused_place(
 }
 
 /// Writes an entry into the first unused place of its key, which there is.
-fn enter(image: &mut [u16], kit: &Kit, sys: &[usize], layers: usize, entry: &[u16; ENTRY]) {
+pub(crate) fn enter(
+    image: &mut [u16],
+    kit: &Kit,
+    sys: &[usize],
+    layers: usize,
+    entry: &[u16; ENTRY],
+) {
     let key = key([entry[0], entry[1], entry[2]], kit.h);
     let (sector, place) =
         unused_place(image, kit, sys, layers, key, None).expect("a place was made");
@@ -451,7 +457,7 @@ fn resize(
 }
 
 /// Entry words 7 to 9 for a file of so many sectors and these slices.
-fn book(entry: &mut [u16; ENTRY], kit: &Kit, length: u16, slices: &[usize]) {
+pub(crate) fn book(entry: &mut [u16; ENTRY], kit: &Kit, length: u16, slices: &[usize]) {
     entry[7] = length;
     entry[8] = slices
         .first()

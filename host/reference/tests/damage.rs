@@ -316,6 +316,7 @@ fn damaged_units_are_judged_alike_and_never_panic() {
         "SysIndex PairsJoin",
         "SysMissing",
         "SysLength",
+        "SysInSlack",
         "MapMissing",
         "CatalogWord",
         "MapIndex",

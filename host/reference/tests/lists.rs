@@ -2,114 +2,14 @@
 
 mod common;
 
-use common::{check_refusal, kind, run_list, Tally};
+use common::{check_refusal, run_list, Tally};
 use reference::generate::{
     self, aged, crowded, damage, fill_vacant, format_call, formatted, fresh, large_record,
     open_areas, Caller,
 };
+use reference::pairs::{call_name, FORMAT};
 use reference::random::Random;
-use reference::{explain, explain_format, soundness, Question};
-
-/// Every pair of call and result word that document 01 allows.
-fn allowed() -> Vec<(&'static str, Vec<u16>)> {
-    let entering = vec![0, 0x1200, 0x9000, 0x1010, 0x1100, 0x1008];
-    let message = [0x0A00, 0x8800, 0x4800, 0x0200, 0x0810];
-    let with = |more: &[u16]| [&message[..], more].concat();
-    let output = [0, 0x0880, 0x0C00, 0x0900, 0x0808];
-    vec![
-        ("Format", vec![0, 0x1080, 0x1200]),
-        ("Init", vec![0, 0x1200, 0x9000]),
-        ("Set", entering.clone()),
-        ("Create", entering.clone()),
-        ("LookUp", vec![0, 0x1200, 0x9000, 0x5000]),
-        ("Change", [&entering[..], &[0x5000]].concat()),
-        ("Remove", vec![0, 0x1200, 0x9000, 0x5000]),
-        ("CreateArea", vec![0, 0x0A00, 0x8800, 0x4800, 0x0900]),
-        ("RemoveArea", vec![0, 0x0A00, 0x8800]),
-        ("Reserve 0", with(&[0])),
-        ("Reserve 2", with(&[0, 0x0808])),
-        ("Reserve 3", with(&[0, 0x0808])),
-        ("Reserve 4", with(&[0, 0x0808])),
-        ("Reserve ?", with(&[])),
-        ("Position", with(&[0])),
-        ("Sense", with(&[0])),
-        ("Transput  1", with(&[0, 0x0880])),
-        ("Transput  5", with(&[0, 0x0880])),
-        ("Transput  3", with(&output)),
-        ("Transput  7", with(&output)),
-        ("Transput 19", with(&output)),
-        ("Transput ?", with(&[])),
-        ("Other", with(&[])),
-        ("UnitDescription", vec![0, 0x1200, 0x9000]),
-        ("Listing", vec![0, 0x1200, 0x9000]),
-    ]
-}
-
-/// Every question that can be answered no, by call.
-fn askable() -> Vec<(&'static str, Vec<Question>)> {
-    use Question::*;
-    let catalog = [UnitKnown, UnitSound];
-    let entering = [Legal, NameUnused, EnoughFree, FewStretches];
-    let message = [
-        AreaUnitKnown,
-        AreaUnitSound,
-        Open,
-        NoExclusiveUser,
-        SenderNotZero,
-    ];
-    let with = |first: &[Question], more: &[Question]| [first, more].concat();
-    let position = [PositionNotNegative, PositionNotPast];
-    let input = [SenderUser, TransputRoom, InputBelowLength];
-    let output = [
-        SenderUser,
-        TransputRoom,
-        OutputAllowed,
-        NotProtected,
-        Extendable,
-        SliceFree,
-        AppendStretches,
-    ];
-    vec![
-        ("Format", vec![FormatRoom, FormatLegal]),
-        ("Init", catalog.to_vec()),
-        ("Set", with(&catalog, &entering)),
-        ("Create", with(&catalog, &entering)),
-        ("LookUp", with(&catalog, &[NameStands, Legal])),
-        (
-            "Change",
-            with(&with(&catalog, &entering), &[NameStands, Changeable]),
-        ),
-        ("Remove", with(&catalog, &[NameStands, Changeable])),
-        (
-            "CreateArea",
-            vec![
-                AreaUnitKnown,
-                AreaUnitSound,
-                Entered,
-                NotSystem,
-                DescriptorVacant,
-            ],
-        ),
-        ("RemoveArea", vec![AreaUnitKnown, AreaUnitSound, NotSystem]),
-        ("Reserve 0", with(&message, &[SenderUser])),
-        ("Reserve 2", with(&message, &[NoOtherWriter, UserEntry])),
-        ("Reserve 3", with(&message, &[UserEntry])),
-        ("Reserve 4", with(&message, &[NoOtherUser, UserEntry])),
-        ("Reserve ?", with(&message, &[OperationKnown])),
-        ("Position", with(&with(&message, &[SenderUser]), &position)),
-        ("Sense", with(&message, &[SenderUser])),
-        ("Transput  1", with(&message, &input)),
-        // After Position has passed, input can still stand at the length.
-        ("Transput  5", with(&with(&message, &input), &position)),
-        ("Transput  3", with(&message, &output)),
-        ("Transput  7", with(&with(&message, &output), &position)),
-        ("Transput 19", with(&message, &output)),
-        ("Transput ?", with(&message, &[OperationKnown])),
-        ("Other", with(&message, &[OperationKnown])),
-        ("UnitDescription", with(&catalog, &[DescriptionRoom])),
-        ("Listing", with(&catalog, &[ListingRoom])),
-    ]
-}
+use reference::{explain, explain_format, soundness};
 
 #[test]
 fn random_lists_and_the_table_of_pairs() {
@@ -153,7 +53,9 @@ fn random_lists_and_the_table_of_pairs() {
                 Some(question) => check_refusal(&before, &unit, &call, &lent, &answer, question),
                 None => assert_eq!(answer.result, 0),
             }
-            tally.add(kind(&call.message), answer.result, question);
+            tally
+                .counts
+                .add(call_name(&call.message), answer.result, question);
         }
     }
     // Format.
@@ -166,47 +68,19 @@ fn random_lists_and_the_table_of_pairs() {
             Ok(()) => {
                 assert!(!state.initialized);
                 assert_eq!(soundness(image, state), Ok(1));
-                tally.add("Format".into(), 0, None);
+                tally.counts.add(FORMAT, 0, None);
             }
             Err(question) => {
                 assert!(before == call.unit);
-                tally.add("Format".into(), question.word(), Some(question));
+                tally.counts.add(FORMAT, question.word(), Some(question));
             }
         }
     }
     tally.print();
-    for (kind, words) in allowed() {
-        for word in &words {
-            let pair = (kind.to_string(), *word);
-            assert!(
-                tally.words.contains_key(&pair),
-                "{kind} {word:04X}h is missing"
-            );
-        }
-        for (other, word) in tally.words.keys() {
-            assert!(
-                other != kind || words.contains(word),
-                "{kind} answered {word:04X}h"
-            );
-        }
-    }
+    assert_eq!(tally.counts.missing(), [""; 0]);
+    assert_eq!(tally.counts.foreign(), [""; 0]);
     for event in EVENTS {
         assert!(tally.events.contains_key(event), "{event} is missing");
-    }
-    for (kind, questions) in askable() {
-        for question in &questions {
-            let pair = (kind.to_string(), *question);
-            assert!(
-                tally.questions.contains_key(&pair),
-                "{kind} {question:?} is missing"
-            );
-        }
-        for (other, question) in tally.questions.keys() {
-            assert!(
-                other != kind || questions.contains(question),
-                "{kind} asked {question:?}"
-            );
-        }
     }
 }
 
@@ -264,5 +138,5 @@ fn lists_on_large_units() {
         let mut unit = formatted(random, &record);
         run_list(random, &mut unit, 25, &mut tally);
     }
-    assert_eq!(tally.calls, 50);
+    assert_eq!(tally.counts.calls, 50);
 }

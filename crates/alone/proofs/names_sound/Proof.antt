@@ -1,44 +1,60 @@
 -- `alone::names_sound` meets its contract. Assumes nothing.
 use mathlib.Core.Path.{refl}
+use native.Mathlib.Nat.{div-le-self}
 use native.Mathlib.Omega.{arith}
 use borrow.Author.Needs.{needs}
+use Rattle.disc.proofs.DecideLaws.{grants}
 use Rattle.entries.proofs.SysLaws.{sys-small}
-use Rattle.alone.proofs.SoundLaws.{not-legal, legal-sys, judged-alone}
+use Rattle.alone.proofs.SoundLaws.{not-sound, judged-entered}
 use Rattle.alone.proofs.names_sound.Statement.{statement}
 use Rattle.alone.proofs.names_sound.Tie as tie
 
-mul-size : tie.Need-mul-size
-mul-size c = let start = c .before .before in record { fits = omega (arith, start .pre .1, sys-small (start .pre .0), start .pre .0 .unit .limits .sectors) }
+cast-t5 : tie.Need-cast-t5
+cast-t5 c = search needs
+
+div-t6 : tie.Need-div-t6
+div-t6 c = search needs
+
+add-t7 : tie.Need-add-t7
+add-t7 c = record { fits = omega (arith, div-le-self 2147483648 (c .before .before .args .g .keys)) }
+
+mul-t8 : tie.Need-mul-t8
+mul-t8 c = let pre = c .before .before .before .pre in record { fits = omega (arith, pre .1, sys-small (pre .0), pre .0 .unit .limits .sectors) }
 
 sys-sectors-requires : tie.Need-sys-sectors-requires
 sys-sectors-requires c κs = search needs
 
-names-legal-requires : tie.Need-names-legal-requires
-names-legal-requires c κs = search needs
+places-sound-requires : tie.Need-places-sound-requires
+places-sound-requires c κs = search needs
 
 returns : tie.Need-returns
 returns c =
-    let start = c .before .before .before .before .before in
-    not-legal (start .args .image .now) (start .args .g) (start .args .layers) _ refl (c .before .before .sys-sectors .ensures) (c .before .names-legal .ensures) (c .if1 .taken)
+    let read = c .before .before in
+    let start = read .before .before .before .before in
+    not-sound (start .args .image .now) (start .args .g) (start .args .layers) _ refl (read .sys-sectors .ensures) (c .before .places-sound .ensures) (c .if1 .taken)
 
-names-alone-requires : tie.Need-names-alone-requires
-names-alone-requires c κs =
-    let start = c .before .before .before .before .before in
-    legal-sys (start .args .image .now) (start .args .g) (start .args .layers) _ refl (c .before .before .sys-sectors .ensures) (c .before .names-legal .ensures) (start .pre .0) (start .pre .1) (c .if1 .left)
+system-entered-requires : tie.Need-system-entered-requires
+system-entered-requires c κs =
+    let pre = c .before .before .before .before .before .before .pre in
+    (pre .0, pre .1, grants _ (c .before .places-sound .ensures) (c .if1 .left) .0)
 
 returns-2 : tie.Need-returns-2
 returns-2 c =
-    let legal = c .before .before in
-    let start = legal .before .before .before .before in
-    judged-alone (start .args .image .now) (start .args .g) (start .args .layers) _ refl (legal .before .sys-sectors .ensures) (legal .names-legal .ensures) (c .before .if1 .left) (c .names-alone .ensures)
+    let places = c .before .before in
+    let read = places .before in
+    let start = read .before .before .before .before in
+    judged-entered (start .args .image .now) (start .args .g) (start .args .layers) _ refl (read .sys-sectors .ensures) (places .places-sound .ensures) (c .before .if1 .left) (c .system-entered .ensures)
 
 pub names-sound-spec : {M : Type 1} → statement M
 names-sound-spec =
     tie.close
     (tie.spec
-    mul-size
+    cast-t5
+    div-t6
+    add-t7
+    mul-t8
     sys-sectors-requires
-    names-legal-requires
+    places-sound-requires
     returns
-    names-alone-requires
+    system-entered-requires
     returns-2)

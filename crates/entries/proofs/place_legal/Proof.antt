@@ -1,6 +1,6 @@
 -- `entries::place_legal` meets its contract. Assumes nothing.
 use borrow.Author.Needs.{needs}
-use Rattle.disc.proofs.DecideLaws.{fails}
+use Rattle.disc.proofs.DecideLaws.{fails, refutes, grants}
 use Rattle.entries.proofs.PlaceLaws.{first-used, judged-unused, judged-name, judged-key, judged-rest}
 use Rattle.entries.proofs.place_legal.Statement.{statement}
 use Rattle.entries.proofs.place_legal.Tie as tie
@@ -23,14 +23,14 @@ returns-2 c =
     let n = first .before .before .place-name .ensures in
     fails (judged-name n (first-used n (first .if1 .left)) (c .before .legal-by .ensures) (c .if2 .taken))
 
-key-requires : tie.Need-key-requires
-key-requires c κs = search needs
+has-key-requires : tie.Need-has-key-requires
+has-key-requires c κs = search needs
 
 returns-3 : tie.Need-returns-3
 returns-3 c =
     let first = c .before .before .before .before in
     let n = first .before .before .place-name .ensures in
-    fails (judged-key n (first-used n (first .if1 .left)) (c .before .key .ensures) (c .if3 .taken))
+    fails (judged-key n (first-used n (first .if1 .left)) (refutes _ (c .before .has-key .ensures) (c .if3 .taken)))
 
 system-legal-requires : tie.Need-system-legal-requires
 system-legal-requires c κs = search needs
@@ -41,7 +41,7 @@ returns-4 c =
     let legal = key .before .before in
     let first = legal .before in
     let n = first .before .before .place-name .ensures in
-    judged-rest n (first-used n (first .if1 .left)) (legal .legal-by .ensures) (key .before .if2 .left) (key .key .ensures) (c .before .if3 .left) (c .system-legal .ensures)
+    judged-rest n (first-used n (first .if1 .left)) (legal .legal-by .ensures) (key .before .if2 .left) (grants _ (key .has-key .ensures) (c .before .if3 .left)) (c .system-legal .ensures)
 
 pub place-legal-spec : {M : Type 1} → statement M
 place-legal-spec =
@@ -52,7 +52,7 @@ place-legal-spec =
     returns
     legal-by-requires
     returns-2
-    key-requires
+    has-key-requires
     returns-3
     system-legal-requires
     returns-4)

@@ -4,7 +4,7 @@ use native.Mathlib.Omega.{arith}
 use Rattle.state.proofs.ShapeLaws.{areas-length}
 use Rattle.entries.proofs.SysLaws.{sys-small}
 use Rattle.files.proofs.SysLaws.{known-sys}
-use Rattle.files.proofs.SoundLaws.{files-marked}
+use Rattle.files.proofs.SoundLaws.{ordinary-known, files-marked}
 use borrow.Author.Needs.{needs}
 use Rattle.files.proofs.files_sound.Statement.{statement}
 use Rattle.files.proofs.files_sound.Tie as tie
@@ -25,7 +25,8 @@ stretches-sound-requires : tie.Need-stretches-sound-requires
 stretches-sound-requires c κs =
     let upto = c .before .before .before .before .before in
     let flat = upto .before .before in
-    (flat .before .before .before .before .before .pre .0, upto .open-upto .ensures .eight)
+    let pre = flat .before .before .before .before .before .pre in
+    (pre .0, upto .open-upto .ensures .eight, ordinary-known (pre .1))
 
 returns : tie.Need-returns
 returns c =

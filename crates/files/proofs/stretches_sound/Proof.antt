@@ -1,6 +1,6 @@
 -- `files::stretches_sound` meets its contract: the places of the blocks before block b are legal and their slices marked, and the
 -- blocks are those of the pairs before pair j. Assumes nothing.
-use mathlib.Core.Path.{_≡_, refl, subst}
+use mathlib.Core.Path.{_≡_, refl, sym, subst}
 use Prim.Native.Nat.{ℕ, _+_, _*_, _-_, _≤_, _<_}
 use native.Mathlib.Omega.{arith}
 use borrow.Author.Needs.{needs}
@@ -11,6 +11,7 @@ use Rattle.entries.specs.Sys.{placesIn}
 use Rattle.entries.proofs.SysLaws.{Turn, turn}
 use Rattle.files.specs.declared.Live.{Live}
 use Rattle.files.specs.Live.{liveIn}
+use Rattle.files.specs.Walk.{placesFrom, OrdinaryPlace, OrdinaryPlaces}
 use Rattle.files.proofs.WalkLaws.{PlacesPassed, places-none, places-some, places-more, places-stop, places-all}
 use Rattle.files.proofs.SysLaws.{known-sys, some-sys, turn-places}
 use Rattle.files.proofs.stretches_sound.Statement.{statement}
@@ -68,7 +69,10 @@ run-sound-requires c κs =
     let at = read .before .before .before .before in
     let pre = at .before .before .pre in
     let known = pre .0 in
-    (known .unit, places-some _ _ _ _ _ (at .loop .inv .3) (some-sys known), omega (arith, turn-of read .fits), pre .1)
+    let t = turn-of read in
+    let ordinary : OrdinaryPlaces (placesFrom (at .before .before .args .image .now) (read .pair-start .result .0 * 256)) (16 * read .before .lesser .result) = λ i h.
+    subst OrdinaryPlace (sym (turn-places t i h)) (pre .2 (16 * at .loop .b + i) (omega (arith, t .high))) in
+    (known .unit, places-some _ _ _ _ _ (at .loop .inv .3) (some-sys known), omega (arith, t .fits), pre .1, ordinary)
 
 returns : tie.Need-returns Inv-loop μ-loop
 returns c =

@@ -4,7 +4,7 @@ use native.Mathlib.Omega.{arith}
 use borrow.Author.Needs.{needs}
 use Rattle.disc.specs.Words.{Words}
 use Rattle.known.specs.Known.{Known}
-use Rattle.perform.proofs.ObeyLaws.{obeys, word-obeys, init-obeyed, set-obeyed, create-obeyed, look-up-obeyed, change-obeyed, remove-obeyed, create-area-obeyed, remove-area-obeyed, area-message-obeyed, describe-obeyed, list-obeyed}
+use Rattle.perform.proofs.ObeyLaws.{answer-obeys, init-obeyed, set-obeyed, create-obeyed, look-up-obeyed, change-obeyed, remove-obeyed, create-area-obeyed, remove-area-obeyed, area-message-obeyed, describe-obeyed, list-obeyed}
 use Rattle.perform.proofs.obey.Statement.{statement}
 use Rattle.perform.proofs.obey.Tie as tie
 
@@ -15,8 +15,8 @@ words c = record { each = λ k. c .slice-known2 .given k .fits }
 enum-told : tie.Need-enum-told
 enum-told c = search needs
 
-initialized-requires : tie.Need-initialized-requires
-initialized-requires c κs = search needs
+accepted-requires : tie.Need-accepted-requires
+accepted-requires c κs = search needs
 
 word-alone-requires : tie.Need-word-alone-requires
 word-alone-requires c κs = search needs
@@ -72,8 +72,8 @@ enum-known-message-6 c = search needs
 create-area-requires : tie.Need-create-area-requires
 create-area-requires c κs = search needs
 
-word-alone-requires-7 : tie.Need-word-alone-requires-7
-word-alone-requires-7 c κs = search needs
+area-done-requires : tie.Need-area-done-requires
+area-done-requires c κs = search needs
 
 enum-known-message-7 : tie.Need-enum-known-message-7
 enum-known-message-7 c = search needs
@@ -81,14 +81,17 @@ enum-known-message-7 c = search needs
 remove-area-requires : tie.Need-remove-area-requires
 remove-area-requires c κs = search needs
 
-word-alone-requires-8 : tie.Need-word-alone-requires-8
-word-alone-requires-8 c κs = search needs
+area-done-requires-2 : tie.Need-area-done-requires-2
+area-done-requires-2 c κs = search needs
 
 enum-known-message-8 : tie.Need-enum-known-message-8
 enum-known-message-8 c = search needs
 
 area-message-requires : tie.Need-area-message-requires
 area-message-requires c κs = search needs
+
+area-replied-requires : tie.Need-area-replied-requires
+area-replied-requires c κs = search needs
 
 enum-known-message-9 : tie.Need-enum-known-message-9
 enum-known-message-9 c = search needs
@@ -98,15 +101,21 @@ describe-requires c κs =
     let k = subst (Known _) (c .before .before .before .message9 .given .1) (c .before .before .before .before .before .before .before .pre .known) in
     omega (arith, k .number, k .low)
 
+answered-requires : tie.Need-answered-requires
+answered-requires c κs = search needs
+
 enum-told-2 : tie.Need-enum-told-2
 enum-told-2 c = search needs
 
 list-requires : tie.Need-list-requires
 list-requires c κs = search needs
 
+answered-requires-2 : tie.Need-answered-requires-2
+answered-requires-2 c κs = search needs
+
 returns : tie.Need-returns
 returns c =
-    word-obeys (c .before .before .enum-told .given .1) (c .before .before .before .before .before .before .pre .known) (c .word-alone .ensures .0, c .word-alone .ensures .1 ∙ c .before .initialized .ensures)
+    answer-obeys (c .before .before .enum-told .given .1) (c .before .before .before .before .before .before .pre .known) (c .word-alone .ensures .0, c .word-alone .ensures .1 ∙ c .before .accepted .ensures)
     (λ k p g r n. init-obeyed g r k)
 
 same-length : tie.Need-same-length
@@ -117,7 +126,7 @@ same-length-2 c = search needs
 
 returns-2 : tie.Need-returns-2
 returns-2 c =
-    word-obeys (c .before .before .before .before .before .before .before .message .given .1) (c .before .before .before .before .before .before .before .before .before .before .before .pre .known) (c .word-alone2 .ensures)
+    answer-obeys (c .before .before .before .before .before .before .before .message .given .1) (c .before .before .before .before .before .before .before .before .before .before .before .pre .known) (c .word-alone2 .ensures)
     (λ k p g r n. set-obeyed g r (words (c .before .before .before .before .before .before .before .before .before)) n k (c .before .before .before .set .ensures))
 
 same-length-3 : tie.Need-same-length-3
@@ -125,7 +134,7 @@ same-length-3 c = search needs
 
 returns-3 : tie.Need-returns-3
 returns-3 c =
-    word-obeys (c .before .before .before .before .before .before .message2 .given .1) (c .before .before .before .before .before .before .before .before .before .before .pre .known) (c .word-alone3 .ensures)
+    answer-obeys (c .before .before .before .before .before .before .message2 .given .1) (c .before .before .before .before .before .before .before .before .before .before .pre .known) (c .word-alone3 .ensures)
     (λ k p g r n. create-obeyed g r (words (c .before .before .before .before .before .before .before .before)) n k (c .before .before .before .create .ensures))
 
 same-length-4 : tie.Need-same-length-4
@@ -136,7 +145,7 @@ same-length-5 c = search needs
 
 returns-4 : tie.Need-returns-4
 returns-4 c =
-    word-obeys (c .before .before .before .before .before .before .before .message3 .given .1) (c .before .before .before .before .before .before .before .before .before .before .before .pre .known) (c .word-alone4 .ensures)
+    answer-obeys (c .before .before .before .before .before .before .before .message3 .given .1) (c .before .before .before .before .before .before .before .before .before .before .before .pre .known) (c .word-alone4 .ensures)
     (λ k p g r n. look-up-obeyed g r n k (c .before .before .before .look-up .ensures))
 
 same-length-6 : tie.Need-same-length-6
@@ -147,7 +156,7 @@ same-length-7 c = search needs
 
 returns-5 : tie.Need-returns-5
 returns-5 c =
-    word-obeys (c .before .before .before .before .before .before .before .message4 .given .1) (c .before .before .before .before .before .before .before .before .before .before .before .pre .known) (c .word-alone5 .ensures)
+    answer-obeys (c .before .before .before .before .before .before .before .message4 .given .1) (c .before .before .before .before .before .before .before .before .before .before .before .pre .known) (c .word-alone5 .ensures)
     (λ k p g r n. change-obeyed g r (words (c .before .before .before .before .before .before .before .before .before)) n k (c .before .before .before .change .ensures))
 
 same-length-8 : tie.Need-same-length-8
@@ -155,7 +164,7 @@ same-length-8 c = search needs
 
 returns-6 : tie.Need-returns-6
 returns-6 c =
-    word-obeys (c .before .before .before .before .before .before .message5 .given .1) (c .before .before .before .before .before .before .before .before .before .before .pre .known) (c .word-alone6 .ensures)
+    answer-obeys (c .before .before .before .before .before .before .message5 .given .1) (c .before .before .before .before .before .before .before .before .before .before .pre .known) (c .word-alone6 .ensures)
     (λ k p g r n. remove-obeyed g r n k (c .before .before .before .remove .ensures))
 
 same-length-9 : tie.Need-same-length-9
@@ -163,16 +172,16 @@ same-length-9 c = search needs
 
 returns-7 : tie.Need-returns-7
 returns-7 c =
-    word-obeys (c .before .before .before .before .before .message6 .given .1) (c .before .before .before .before .before .before .before .before .before .pre .known) (c .word-alone7 .ensures)
-    (λ k p g r n. create-area-obeyed g r n k (c .before .before .create-area .ensures))
+    answer-obeys (c .before .before .before .before .message6 .given .1) (c .before .before .before .before .before .before .before .before .pre .known) (c .area-done .ensures)
+    (λ k p g r n. create-area-obeyed g r n k (c .before .create-area .ensures))
 
 same-length-10 : tie.Need-same-length-10
 same-length-10 c = search needs
 
 returns-8 : tie.Need-returns-8
 returns-8 c =
-    word-obeys (c .before .before .before .before .before .before .before .message7 .given .1) (c .before .before .before .before .before .before .before .before .before .before .before .pre .known) (c .word-alone8 .ensures)
-    (λ k p g r n. remove-area-obeyed g r n k (c .before .before .before .before .remove-area .ensures))
+    answer-obeys (c .before .before .before .before .before .before .message7 .given .1) (c .before .before .before .before .before .before .before .before .before .before .pre .known) (c .area-done2 .ensures)
+    (λ k p g r n. remove-area-obeyed g r n k (c .before .before .before .remove-area .ensures))
 
 same-length-11 : tie.Need-same-length-11
 same-length-11 c = search needs
@@ -182,7 +191,8 @@ same-length-12 c = search needs
 
 returns-9 : tie.Need-returns-9
 returns-9 c =
-    obeys (c .before .before .before .before .before .before .before .before .before .before .message8 .given .1) (c .before .before .before .before .before .before .before .before .before .before .before .before .before .before .pre .known) (λ k p g r n. area-message-obeyed g r n k (c .before .before .before .before .before .before .area-message .ensures))
+    answer-obeys (c .before .before .before .before .before .before .before .before .before .message8 .given .1) (c .before .before .before .before .before .before .before .before .before .before .before .before .before .pre .known) (c .area-replied .ensures)
+    (λ k p g r n. area-message-obeyed g r n k (c .before .before .before .before .before .area-message .ensures))
 
 same-length-13 : tie.Need-same-length-13
 same-length-13 c = search needs
@@ -192,7 +202,8 @@ same-length-14 c = search needs
 
 returns-10 : tie.Need-returns-10
 returns-10 c =
-    obeys (c .before .before .before .before .before .before .message9 .given .1) (c .before .before .before .before .before .before .before .before .before .before .pre .known) (λ k p g r n. describe-obeyed g r n k (c .before .before .describe .ensures))
+    answer-obeys (c .before .before .before .before .before .before .before .message9 .given .1) (c .before .before .before .before .before .before .before .before .before .before .before .pre .known) (c .answered .ensures)
+    (λ k p g r n. describe-obeyed g r n k (c .before .before .before .describe .ensures))
 
 same-length-15 : tie.Need-same-length-15
 same-length-15 c = search needs
@@ -202,14 +213,15 @@ same-length-16 c = search needs
 
 returns-11 : tie.Need-returns-11
 returns-11 c =
-    obeys (c .before .before .before .before .before .enum-told2 .given .1) (c .before .before .before .before .before .before .before .before .before .pre .known) (λ k p g r n. list-obeyed g r n k (c .before .before .list .ensures))
+    answer-obeys (c .before .before .before .before .before .before .enum-told2 .given .1) (c .before .before .before .before .before .before .before .before .before .before .pre .known) (c .answered2 .ensures)
+    (λ k p g r n. list-obeyed g r n k (c .before .before .before .list .ensures))
 
 pub obey-spec : {M : Type 1} → statement M
 obey-spec =
     tie.close
     (tie.spec
     enum-told
-    initialized-requires
+    accepted-requires
     word-alone-requires
     enum-known-message
     set-requires
@@ -228,16 +240,19 @@ obey-spec =
     word-alone-requires-6
     enum-known-message-6
     create-area-requires
-    word-alone-requires-7
+    area-done-requires
     enum-known-message-7
     remove-area-requires
-    word-alone-requires-8
+    area-done-requires-2
     enum-known-message-8
     area-message-requires
+    area-replied-requires
     enum-known-message-9
     describe-requires
+    answered-requires
     enum-told-2
     list-requires
+    answered-requires-2
     returns
     same-length
     same-length-2

@@ -5,76 +5,24 @@ use std::collections::BTreeMap;
 
 use reference::generate::{Call, Caller, Unit};
 use reference::layout::{name_of, stretches};
+use reference::pairs::{call_name, Counts};
 use reference::plain::{image_after, state_after, Plain};
 use reference::random::Random;
 use reference::{explain, soundness, Answer, Message, Operation, Question, State};
 
-/// The row of a call in the table.
-pub fn kind(message: &Message) -> String {
-    match message {
-        Message::Init { .. } => "Init".into(),
-        Message::Set { .. } => "Set".into(),
-        Message::Create { .. } => "Create".into(),
-        Message::LookUp { .. } => "LookUp".into(),
-        Message::Change { .. } => "Change".into(),
-        Message::Remove { .. } => "Remove".into(),
-        Message::CreateArea { .. } => "CreateArea".into(),
-        Message::RemoveArea { .. } => "RemoveArea".into(),
-        Message::UnitDescription { .. } => "UnitDescription".into(),
-        Message::Listing { .. } => "Listing".into(),
-        Message::AreaMessage { operation, .. } => match operation {
-            Operation::Reserve(count @ (0 | 2 | 3 | 4)) => format!("Reserve {count}"),
-            Operation::Reserve(_) => "Reserve ?".into(),
-            Operation::Position(_) => "Position".into(),
-            Operation::Sense => "Sense".into(),
-            Operation::Transput {
-                operation: operation @ (1 | 3 | 5 | 7 | 19),
-                ..
-            } => format!("Transput {operation:2}"),
-            Operation::Transput { .. } => "Transput ?".into(),
-            Operation::Other(_) => "Other".into(),
-        },
-    }
-}
-
-/// Counts of what came up, by call and result word and by call and question.
+/// Counts of what came up: words, questions, and what accepted calls have done.
 #[derive(Default)]
 pub struct Tally {
-    pub words: BTreeMap<(String, u16), u64>,
-    pub questions: BTreeMap<(String, Question), u64>,
+    pub counts: Counts,
     pub events: BTreeMap<&'static str, u64>,
-    pub calls: u64,
 }
 
 impl Tally {
-    pub fn add(&mut self, kind: String, word: u16, question: Option<Question>) {
-        self.calls += 1;
-        if let Some(question) = question {
-            *self.questions.entry((kind.clone(), question)).or_default() += 1;
-        }
-        *self.words.entry((kind, word)).or_default() += 1;
-    }
-
     pub fn print(&self) {
-        println!("{} calls", self.calls);
-        let mut row = String::new();
-        for ((kind, word), count) in &self.words {
-            if row != *kind {
-                print!("{}{kind:16}", if row.is_empty() { "" } else { "\n" });
-                row.clone_from(kind);
-            }
-            print!("  {word:04X}h {count}");
+        print!("{} calls\n{}", self.counts.calls, self.counts);
+        for ((call, question), count) in &self.counts.questions {
+            println!("{count:8} {call}: {question:?}");
         }
-        println!();
-        row.clear();
-        for ((kind, question), count) in &self.questions {
-            if row != *kind {
-                print!("{}{kind:16}", if row.is_empty() { "" } else { "\n" });
-                row.clone_from(kind);
-            }
-            print!("  {question:?} {count}");
-        }
-        println!();
         for (event, count) in &self.events {
             println!("{count:8} {event}");
         }
@@ -312,7 +260,9 @@ pub fn checked(
             check_refusal(&before, unit, call, &lent, &answer, question);
         }
     }
-    tally.add(kind(&call.message), answer.result, question);
+    tally
+        .counts
+        .add(call_name(&call.message), answer.result, question);
     (answer, lent)
 }
 

@@ -1,0 +1,33 @@
+-- `alone::mask` meets its contract. Assumes nothing.
+use mathlib.Core.Path.{_≡_, ap₂, _∙_}
+use Prim.Native.Nat.{ℕ, _+_, _*_, _/_, _%_, _^_, _<_}
+use native.Mathlib.Nat.{one-mul}
+use native.Mathlib.Omega.{arith}
+use lib.Bits.{bitOr}
+use lib.Pow.{shl-exact}
+use borrow.Author.Needs.{needs}
+use Rattle.alone.specs.Filter.{maskBy}
+use Rattle.alone.proofs.mask.Statement.{statement}
+use Rattle.alone.proofs.mask.Tie as tie
+
+-- one bit
+bit : (k : ℕ) → k < 64 → 1 * 2 ^ k % 2 ^ 64 ≡ 2 ^ k
+bit k h = shl-exact {a = 1} 1 k 64 (omega arith) (omega arith) ∙ one-mul (2 ^ k)
+
+shl-result : tie.Need-shl-result
+shl-result c = search needs
+
+shl-result-2 : tie.Need-shl-result-2
+shl-result-2 c = search needs
+
+shl-result-3 : tie.Need-shl-result-3
+shl-result-3 c = search needs
+
+returns : tie.Need-returns
+unfolding maskBy
+returns c =
+    let x = c .args .x in
+    ap₂ bitOr (ap₂ bitOr (bit (x / 4294967296 % 64) (omega arith)) (bit (x / 16384 % 64) (omega arith))) (bit (x / 256 % 64) (omega arith))
+
+pub mask-spec : {M : Type 1} → statement M
+mask-spec = tie.close (tie.spec shl-result shl-result-2 shl-result-3 returns)

@@ -1,0 +1,2 @@
+pub mod MirrorLaws
+pub mod CallLaws

@@ -1,0 +1,145 @@
+-- Laws of places that are judged the quick way: what the answer true says, and that places further on in a sequence are ordinary.
+use mathlib.Core.Path.{_≡_, refl, sym, ap, _∙_, subst}
+use mathlib.Core.Bool.{Bool, true, false, cond}
+use mathlib.Core.Bool as B
+use mathlib.Core.List.{List}
+use Prim.Native.Nat.{ℕ, zero, suc, _+_, _-_, _*_, _/_, _≤_, _<_}
+use native.Mathlib.Nat.{mul-comm}
+use native.Mathlib.Omega.{arith}
+use lib.Dec.{T}
+use lib.ListN.{getD}
+use borrow.Author.Tests.{eq-eqb, eqb-true}
+use Rattle.disc.specs.Decide.{Decides}
+use Rattle.disc.specs.Numbers.{need}
+use Rattle.disc.specs.Names.{isSystem}
+use Rattle.disc.proofs.Compare.{same-or}
+use Rattle.disc.proofs.DecideLaws.{true≢false, holds}
+use Rattle.disc.proofs.NumberLaws.{need-le}
+use Rattle.kit.specs.declared.Geometry.{Geometry}
+use Rattle.kit.specs.Geometry.{UnitOf}
+use Rattle.marks.specs.declared.Indexed.{Indexed}
+use Rattle.marks.specs.Marked.{SomeMarked}
+use Rattle.marks.specs.Indexed.{SingleMarking}
+use Rattle.entries.specs.Sys.{placesIn}
+use Rattle.entries.proofs.PlaceLaws.{T-of}
+use Rattle.files.specs.declared.Live.{Live}
+use Rattle.files.specs.declared.Entry.{Entry}
+use Rattle.files.specs.Live.{closedFile, indexBy, lengthBy, liveIn, liveFrom}
+use Rattle.files.specs.Rules.{entryOf, wordsAt, FileNumbers, FileMarking, OwnMarking, PlainNumbers, ClosedMarking}
+use Rattle.files.specs.Walk.{nameBy, placesFrom, PlaceMarking, PlacesMarking, NamesKnown, OrdinaryPlace, OrdinaryPlaces, PlainMarking, PlainPlaces}
+use Rattle.files.proofs.AttributeLaws.{with-some}
+use Rattle.files.proofs.FileLaws.{own-some, file-judged}
+use Rattle.files.proofs.PlaceLaws.{place-unused, place-file}
+use Rattle.files.proofs.WalkLaws.{PlacesPassed, places-none, places-some, place-more, places-more, places-all}
+
+-- ---- one file
+
+module _ {image : List ℕ} {g : Geometry} {before : List ℕ} (entry : Entry) where
+  pub closed-left : ClosedMarking image g entry before before false
+  closed-left = record { yes = λ e. absurd (true≢false (sym e)); not = λ _. refl }
+
+  module _ {after : List ℕ} {r : Bool} (unit : UnitOf image g) (plain : PlainNumbers entry) (single : SingleMarking image g (entry .index) (entry .reserved) before after r) where
+    abbrev s : ℕ
+    s = g .slice
+
+    abbrev count : ℕ
+    count = entry .reserved / s
+
+    enough : r ≡ true → need s (entry .size) ≤ count
+    enough e = same-or (entry .size) 0
+        (λ z. rw z (omega arith))
+        (λ d. need-le s (entry .size) count (omega (arith, unit .limits .slice-low)) (omega arith) .1 (omega (arith, single .whole e, plain .short)))
+
+    some : r ≡ true → count ≡ 0 → ⊥
+    some e z = omega (arith, single .whole e, single .some e, ap (λ (n : ℕ). n * s) z)
+
+    numbers : r ≡ true → (live : Live) → live .opened ≡ false → FileNumbers s entry live count
+    numbers e live shut =
+        let long : lengthBy live (entry .size) ≡ entry .size = ap (λ (b : Bool). cond b (live .length) (entry .size)) shut in
+        record {
+          allowed = T-of (plain .allowed);
+          entryOnly = T-of (sym (with-some (entry .attributes) count (some e)) ∙ ap B.not (plain .slices));
+          short = omega (arith, long, plain .short, single .high e, unit .limits .sectors);
+          covered = subst (λ (n : ℕ). need s n ≤ count) (sym long) (enough e);
+          closed = λ _. sym (single .whole e) ∙ mul-comm count s;
+          booked = λ o. absurd (true≢false (sym o ∙ shut));
+        }
+
+    pub closed-marked : ClosedMarking image g entry before after r
+    closed-marked = record {
+      yes = λ e live shut.
+          file-judged entry live (sym (ap (λ (b : Bool). cond b (live .index) (entry .index)) shut))
+          (own-some (entry .index) (record { good = true; slices = count; start = entry .index }) (λ z. omega (arith, single .low e, unit .limits .first)) (single .yes e) (sym (eq-eqb (entry .index) (entry .index) refl)) refl)
+          refl (holds (numbers e live shut));
+      not = single .not;
+    }
+
+-- the same with an entry that is written otherwise
+pub closed-moved : {image : List ℕ} {g : Geometry} {before after : List ℕ} {r : Bool} {other entry : Entry} → other ≡ entry → ClosedMarking image g other before after r → ClosedMarking image g entry before after r
+closed-moved {image} {g} {before} {after} {r} e m = subst (λ (x : Entry). ClosedMarking image g x before after r) e m
+
+-- a file that is left is judged with the marks as they were
+pub file-moved : {image : List ℕ} {g : Geometry} {entry : Entry} {live : Live} {mid before after : List ℕ} {r : Bool} → mid ≡ before → FileMarking image g entry live mid after r → FileMarking image g entry live before after r
+file-moved {image} {g} {entry} {live} {after = after} {r} e m = subst (λ (l : List ℕ). FileMarking image g entry live l after r) e m
+
+pub some-moved : {m : ℕ} {mid before : List ℕ} → mid ≡ before → SomeMarked m before → SomeMarked m mid
+some-moved {m} e s = subst (SomeMarked m) (sym e) s
+
+-- ---- one place
+
+module _ {image : List ℕ} {g : Geometry} {w : ℕ → ℕ} where
+  pub plain-unused : {before : List ℕ} {r : Bool} (name : ℕ) → name ≡ nameBy w → (r ≡ true → name ≡ 0) → PlainMarking image g w before before r
+  plain-unused name e z = record { yes = λ t lives shut. place-unused name e (z t); not = λ _. refl }
+
+  pub plain-used : {before after : List ℕ} {r : Bool} → OrdinaryPlace w → 10 ≤ w 8 → ClosedMarking image g (entryOf w) before after r → PlainMarking image g w before after r
+  plain-used o far m = record {
+    yes = λ t lives shut. place-file (nameBy w) refl (o .named far) refl (o .ordinary far) refl (m .yes t (lives (nameBy w)) shut);
+    not = m .not;
+  }
+
+-- ---- places one after the other
+
+-- none of no area processes is open
+pub live-none : (names indexes lengths : List ℕ) {upto : ℕ} → upto ≡ 0 → (n : ℕ) → liveIn names indexes lengths upto n .opened ≡ false
+unfolding liveIn liveFrom
+live-none names indexes lengths e n = subst (λ (k : ℕ). liveIn names indexes lengths k n .opened ≡ false) (sym e) refl
+
+module _ (image : List ℕ) (g : Geometry) (P : ℕ → ℕ → ℕ) where
+  -- the first n places are legal if no area process is open, and their slices marked
+  abbrev pub ClosedPassed : List ℕ → List ℕ → ℕ → Type 0
+  ClosedPassed before mid n = (lives : ℕ → Live) → ((k : ℕ) → lives k .opened ≡ false) → PlacesPassed image g lives P before mid n
+
+  pub closed-none : (before : List ℕ) → ClosedPassed before before 0
+  closed-none before lives shut = places-none image g lives P before
+
+  module _ {before mid : List ℕ} (n : ℕ) (some : SomeMarked (g .slices) before) (pass : ClosedPassed before mid n) where
+    pub closed-some : SomeMarked (g .slices) mid
+    closed-some = places-some image g (λ _. closedFile) P n (pass (λ _. closedFile) (λ _. refl)) some
+
+    pub closed-more : {after : List ℕ} {r : Bool} → PlainMarking image g (P n) mid after r → r ≡ true → ClosedPassed before after (n + 1)
+    closed-more m e lives shut = place-more image g lives P n (pass lives shut) (m .yes e lives (shut (nameBy (P n)))) some refl
+
+    pub closed-end : {after : List ℕ} (count upto : ℕ) → n ≤ count → upto ≡ 0 → after ≡ mid → PlainPlaces image g P count upto before after n
+    closed-end {after} count upto h z e = record {
+      high = h;
+      marking = λ lives shut. subst (λ (l : List ℕ). PlacesMarking image g lives P n before l true) (sym e) (places-all image g lives P n (pass lives (shut z)) n refl some);
+    }
+
+  pub closed-open : (before : List ℕ) (count upto : ℕ) → SomeMarked (g .slices) before → PlainPlaces image g P count upto before before 0
+  closed-open before count upto some = record {
+    high = omega arith;
+    marking = λ lives shut. places-all image g lives P 0 (places-none image g lives P before) 0 refl some;
+  }
+
+  -- places that stand in another array too
+  pub plain-more : {before mid after : List ℕ} (lives : ℕ → Live) (b : ℕ) → PlacesPassed image g lives P before mid b → SomeMarked (g .slices) before → (R : ℕ → ℕ → ℕ) {count upto : ℕ} (n : ℕ)
+      → ((i : ℕ) → i < count → R i ≡ P (b + i)) → (upto ≡ 0 → (k : ℕ) → lives k .opened ≡ false) → PlainPlaces image g R count upto mid after n → PlacesPassed image g lives P before after (b + n)
+  plain-more lives b pass some R n same shut m = places-more image g lives P b pass R n (λ i h. same i (omega (arith, m .high))) (m .marking lives shut) some refl
+
+-- ---- places further on
+
+pub places-on : (image : List ℕ) (at b i : ℕ) → placesFrom image (at + 16 * b) i ≡ placesFrom image at (b + i)
+places-on image at b i = ap (wordsAt image) (let e : at + 16 * b + 16 * i ≡ at + 16 * (b + i) = omega arith in e)
+
+pub ordinary-on : (image : List ℕ) (at b : ℕ) {count : ℕ} → OrdinaryPlaces (placesFrom image at) count → OrdinaryPlaces (placesFrom image (at + 16 * b)) (count - b)
+ordinary-on image at b all t h = subst OrdinaryPlace (sym (places-on image at b t)) (all (b + t) (omega arith))

@@ -1,0 +1,32 @@
+-- `files::plain_numbers` meets its contract. Assumes nothing.
+use mathlib.Core.Path.{sym, _∙_}
+use native.Mathlib.Omega.{arith}
+use Rattle.disc.proofs.DecideLaws.{true≢false}
+use borrow.Author.Needs.{needs}
+use Rattle.files.proofs.plain_numbers.Statement.{statement}
+use Rattle.files.proofs.plain_numbers.Tie as tie
+
+returns : tie.Need-returns
+returns c = λ e. absurd (true≢false (sym e))
+
+entry-only-requires : tie.Need-entry-only-requires
+entry-only-requires c κs = search needs
+
+returns-2 : tie.Need-returns-2
+returns-2 c = λ e. absurd (true≢false (sym e))
+
+legal-attributes-requires : tie.Need-legal-attributes-requires
+legal-attributes-requires c κs = search needs
+
+returns-3 : tie.Need-returns-3
+returns-3 c = λ e.
+    let else2 = c .before in
+    record {
+      allowed = sym (c .legal-attributes .ensures) ∙ e;
+      slices = sym (else2 .before .entry-only .ensures) ∙ else2 .if2 .left;
+      short = omega (arith, else2 .before .before .if1 .left);
+    }
+
+pub plain-numbers-spec : {M : Type 1} → statement M
+plain-numbers-spec =
+    tie.close (tie.spec returns entry-only-requires returns-2 legal-attributes-requires returns-3)

@@ -1,0 +1,43 @@
+-- `files::plain_place` meets its contract. Assumes nothing.
+use native.Mathlib.Omega.{arith}
+use borrow.Author.Tests.{eqb-true}
+use Rattle.files.proofs.PlainLaws.{plain-unused, plain-used}
+use borrow.Author.Needs.{needs}
+use Rattle.files.proofs.plain_place.Statement.{statement}
+use Rattle.files.proofs.plain_place.Tie as tie
+
+add-if1 : tie.Need-add-if1
+add-if1 c = search needs
+
+mul-if1 : tie.Need-mul-if1
+mul-if1 c = search needs
+
+shared-slice-read-if1 : tie.Need-shared-slice-read-if1
+shared-slice-read-if1 c = search needs
+
+name-at-requires : tie.Need-name-at-requires
+name-at-requires c κs = search needs
+
+returns : tie.Need-returns
+returns c = plain-unused (c .name-at .result) (c .name-at .ensures) (eqb-true _ _)
+
+plain-file-requires : tie.Need-plain-file-requires
+plain-file-requires c κs = search needs
+
+returns-2 : tie.Need-returns-2
+returns-2 c =
+    let else1 = c .before .before in
+    let s = else1 .before .before .before .before in
+    plain-used (s .pre .3) (omega (arith, else1 .if1 .left, s .pre .0 .limits .first)) (c .plain-file .ensures)
+
+pub plain-place-spec : {M : Type 1} → statement M
+plain-place-spec =
+    tie.close
+    (tie.spec
+    add-if1
+    mul-if1
+    shared-slice-read-if1
+    name-at-requires
+    returns
+    plain-file-requires
+    returns-2)

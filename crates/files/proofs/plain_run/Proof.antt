@@ -1,0 +1,79 @@
+-- `files::plain_run` meets its contract: the places before place i are legal if no area process is open, and their slices marked.
+-- Assumes nothing.
+use mathlib.Core.Path.{refl}
+use Prim.Native.Nat.{_-_, _≤_}
+use native.Mathlib.Omega.{arith}
+use borrow.Author.Needs.{needs}
+use borrow.Author.Tests.{not-true, not-false}
+use Rattle.files.specs.Walk.{placesFrom}
+use Rattle.files.proofs.PlainLaws.{ClosedPassed, closed-none, closed-some, closed-more, closed-end, closed-open}
+use Rattle.files.proofs.plain_run.Statement.{statement}
+use Rattle.files.proofs.plain_run.Tie as tie
+
+abbrev Inv-loop : tie.InvT-loop
+Inv-loop image at count upto g marks₀ i₀ marks i = (i ≤ count) × ClosedPassed image g (placesFrom image at) marks₀ marks i
+
+abbrev μ-loop : tie.MeasureT-loop
+μ-loop image at count upto g marks₀ i₀ marks i = count - i
+
+returns : tie.Need-returns Inv-loop μ-loop
+returns c = let s = c .before .before in closed-open (s .args .image .now) (s .args .g) (placesFrom (s .args .image .now) (s .args .at)) _ _ _ (s .pre .1)
+
+loop-holds : tie.Need-loop-holds Inv-loop μ-loop
+loop-holds c = (omega arith, closed-none _ _ _ _)
+
+mul-plain-place : tie.Need-mul-plain-place Inv-loop μ-loop
+mul-plain-place c = search needs
+
+add-plain-place : tie.Need-add-plain-place Inv-loop μ-loop
+add-plain-place c = search needs
+
+plain-place-requires : tie.Need-plain-place-requires Inv-loop μ-loop
+plain-place-requires c κs =
+    let l = c .before .before in
+    let s = l .before .before .before in
+    (s .pre .0, closed-some (s .args .image .now) (s .args .g) (placesFrom (s .args .image .now) (s .args .at)) (l .loop .i) (s .pre .1) (l .loop .inv .1), omega arith, s .pre .3 (l .loop .i) (omega arith))
+
+returns-2 : tie.Need-returns-2 Inv-loop μ-loop
+returns-2 c =
+    let l = c .before .before .before .before in
+    let s = l .before .before .before in
+    closed-end (s .args .image .now) (s .args .g) (placesFrom (s .args .image .now) (s .args .at)) (l .loop .i) (s .pre .1) (l .loop .inv .1) _ _ (l .loop .inv .0) (l .before .if1 .left)
+    (c .before .plain-place .ensures .not (not-true _ (c .if2 .taken)))
+
+add-i : tie.Need-add-i Inv-loop μ-loop
+add-i c = search needs
+
+loop-less : tie.Need-loop-less Inv-loop μ-loop
+loop-less c = search needs
+
+loop-again : tie.Need-loop-again Inv-loop μ-loop
+loop-again c =
+    let l = c .before .before .before .before in
+    let s = l .before .before .before in (
+      omega arith,
+      closed-more (s .args .image .now) (s .args .g) (placesFrom (s .args .image .now) (s .args .at)) (l .loop .i) (s .pre .1) (l .loop .inv .1) (c .before .plain-place .ensures) (not-false _ (c .if2 .left)),
+    )
+
+returns-3 : tie.Need-returns-3 Inv-loop μ-loop
+returns-3 c =
+    let l = c .before in
+    let s = l .before .before .before in
+    closed-end (s .args .image .now) (s .args .g) (placesFrom (s .args .image .now) (s .args .at)) (l .loop .i) (s .pre .1) (l .loop .inv .1) _ _ (l .loop .inv .0) (l .before .if1 .left) refl
+
+pub plain-run-spec : {M : Type 1} → statement M
+plain-run-spec =
+    tie.close
+    (tie.spec
+    Inv-loop
+    μ-loop
+    returns
+    loop-holds
+    mul-plain-place
+    add-plain-place
+    plain-place-requires
+    returns-2
+    add-i
+    loop-less
+    loop-again
+    returns-3)

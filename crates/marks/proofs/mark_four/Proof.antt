@@ -1,0 +1,94 @@
+-- `marks::mark_four` meets its contract: fewer than four slices are marked twice. Assumes nothing.
+use native.Mathlib.Omega.{arith}
+use Rattle.marks.proofs.FewLaws.{few-left, few-four}
+use borrow.Author.Needs.{needs}
+use Rattle.marks.proofs.mark_four.Statement.{statement}
+use Rattle.marks.proofs.mark_four.Tie as tie
+
+sub-last : tie.Need-sub-last
+sub-last c = search needs
+
+add-last : tie.Need-add-last
+add-last c = search needs
+
+add-lesser : tie.Need-add-lesser
+add-lesser c = search needs
+
+lesser-requires : tie.Need-lesser-requires
+lesser-requires c κs = search needs
+
+element-copy-out-if1 : tie.Need-element-copy-out-if1
+element-copy-out-if1 c = search needs
+
+returns : tie.Need-returns
+returns c = few-left _ _
+
+add-if2 : tie.Need-add-if2
+add-if2 c = search needs
+
+element-copy-out-if2 : tie.Need-element-copy-out-if2
+element-copy-out-if2 c = search needs
+
+returns-2 : tie.Need-returns-2
+returns-2 c = few-left _ _
+
+element-copy-out-if3 : tie.Need-element-copy-out-if3
+element-copy-out-if3 c = search needs
+
+returns-3 : tie.Need-returns-3
+returns-3 c = few-left _ _
+
+element-copy-out-if4 : tie.Need-element-copy-out-if4
+element-copy-out-if4 c = search needs
+
+returns-4 : tie.Need-returns-4
+returns-4 c = few-left _ _
+
+element-write-marks : tie.Need-element-write-marks
+element-write-marks c = search needs
+
+add-marks : tie.Need-add-marks
+add-marks c = search needs
+
+element-write-marks-2 : tie.Need-element-write-marks-2
+element-write-marks-2 c = search needs
+
+element-write-marks-3 : tie.Need-element-write-marks-3
+element-write-marks-3 c = search needs
+
+element-write-marks-4 : tie.Need-element-write-marks-4
+element-write-marks-4 c = search needs
+
+returns-5 : tie.Need-returns-5
+returns-5 c =
+    let e3 = c .before .before in
+    let e2 = e3 .before .before in
+    let e1 = e2 .before .before in
+    let l = e1 .before .before in
+    let s = l .before in
+    few-four (s .args .marks .now) (s .args .from) _ _ (s .args .count) (s .pre .0) (s .pre .1) (s .pre .2) (omega arith) (l .lesser .ensures .1) (l .lesser .ensures .2)
+    (e1 .if1 .left) (e2 .if2 .left) (e3 .if3 .left) (c .if4 .left)
+
+pub mark-four-spec : {M : Type 1} → statement M
+mark-four-spec =
+    tie.close
+    (tie.spec
+    sub-last
+    add-last
+    add-lesser
+    lesser-requires
+    element-copy-out-if1
+    returns
+    add-if2
+    element-copy-out-if2
+    returns-2
+    element-copy-out-if3
+    returns-3
+    element-copy-out-if4
+    returns-4
+    element-write-marks
+    add-marks
+    element-write-marks-2
+    element-write-marks-3
+    element-write-marks-4
+    returns-5)

@@ -1,0 +1,284 @@
+//! Calls per second, each with its soundness check: the proved library and the second
+//! implementation on copies of the same unit.
+
+use std::hint::black_box;
+use std::ops::Range;
+
+use reference::generate::{self, shaped, Shape};
+use reference::random::Random;
+use ruzkemp::{Entry, Name, NameWords, Role, Unit};
+
+use crate::shapes::{FEW, MANY, MIDDLE};
+use crate::timing::{needed, read, verdict, Fastest};
+
+/// How often each call is timed on each unit; the fastest time counts.
+const ROUNDS: usize = 60;
+/// The most that the ratio to the second implementation may be.
+const TARGET: f64 = 1.0;
+/// How many files are looked up in turn.
+const LOOKED_UP: usize = 16;
+/// The sender of transputs.
+const SENDER: u16 = 7;
+
+const UNITS: [(&str, Shape); 3] = [
+    ("small: 100 files", FEW),
+    ("middle: 1,000 files", MIDDLE),
+    ("full: 3,900 files", MANY),
+];
+
+/// A message as each of the two has it.
+type Both = (ruzkemp::Message, reference::Message);
+
+/// A message written once for both.
+macro_rules! both {
+    ($($message:tt)*) => {(
+        {
+            #[allow(unused_imports)]
+            use ruzkemp::{Message, Operation};
+            Message::$($message)*
+        },
+        {
+            #[allow(unused_imports)]
+            use reference::{Message, Operation};
+            Message::$($message)*
+        },
+    )};
+}
+
+/// A kind of call: messages sent in turn, how many calls that makes, and the words lent.
+struct Calls {
+    title: &'static str,
+    messages: Vec<Both>,
+    calls: usize,
+    lent: Vec<u16>,
+}
+
+fn look_up(entries: &[Entry]) -> Calls {
+    let step = (entries.len() / LOOKED_UP).max(1);
+    let names = entries.iter().step_by(step).take(LOOKED_UP);
+    let messages: Vec<Both> = names
+        .map(|entry| entry.name().words())
+        .map(|name| both!(LookUp { name }))
+        .collect();
+    Calls {
+        title: "Look-up",
+        calls: messages.len(),
+        messages,
+        lent: vec![0; 16],
+    }
+}
+
+fn create_and_remove(name: NameWords) -> Calls {
+    let (size, attributes) = (1, 1);
+    Calls {
+        title: "Create and Remove",
+        messages: vec![
+            both!(Create {
+                name,
+                size,
+                attributes
+            }),
+            both!(Remove { name }),
+        ],
+        calls: 1,
+        lent: vec![],
+    }
+}
+
+/// Transput of a file's first block.
+fn transput(title: &'static str, name: NameWords, number: u16) -> Calls {
+    let message = both!(AreaMessage {
+        name,
+        sender: SENDER,
+        operation: Operation::Transput {
+            operation: number,
+            bytes: 512,
+            block: 0
+        }
+    });
+    Calls {
+        title,
+        messages: vec![message],
+        calls: 1,
+        lent: vec![1; 256],
+    }
+}
+
+fn listing(entries: &[Entry]) -> Calls {
+    Calls {
+        title: "Listing",
+        messages: vec![both!(Listing { unit: 0 })],
+        calls: 1,
+        lent: vec![0; 16 * entries.len()],
+    }
+}
+
+/// The unit in both implementations.
+#[derive(Clone)]
+struct Pair {
+    proved: Unit<Vec<u16>>,
+    second: generate::Unit,
+}
+
+impl Pair {
+    fn new(random: &mut Random, shape: &Shape) -> Pair {
+        let second = shaped(random, shape);
+        let mut proved = Unit::new(second.image.clone(), second.state.unit);
+        proved.init().expect("a sound unit");
+        Pair { proved, second }
+    }
+
+    /// Opens a file in both.
+    fn open(&mut self, name: NameWords) {
+        let count = Role::Sharing.count();
+        let reserve = both!(AreaMessage {
+            name,
+            sender: SENDER,
+            operation: Operation::Reserve(count)
+        });
+        for message in [both!(CreateArea { name }), reserve] {
+            self.send_checked(&message, &mut []);
+        }
+    }
+
+    fn send_proved(&mut self, message: &Both, lent: &mut [u16]) -> u16 {
+        self.proved.perform(&message.0, lent).result
+    }
+
+    fn send_second(&mut self, message: &Both, lent: &mut [u16]) -> u16 {
+        let (image, state) = (&mut self.second.image, &mut self.second.state);
+        reference::perform(image, state, &message.1, lent).result
+    }
+
+    /// Sends a message to both, which have to obey it and to agree on image and lent words.
+    fn send_checked(&mut self, message: &Both, lent: &mut [u16]) {
+        let mut copy = lent.to_vec();
+        let results = (
+            self.send_proved(message, lent),
+            self.send_second(message, &mut copy),
+        );
+        assert_eq!(results, (0, 0), "{:?} is refused", message.0);
+        let images = self.proved.image() == self.second.image;
+        assert!(
+            images && sorted(lent) == sorted(&copy),
+            "{:?} differs",
+            message.0
+        );
+    }
+}
+
+/// The lent words by entries, sorted: the listing's order is left open.
+fn sorted(lent: &[u16]) -> Vec<&[u16]> {
+    let mut entries: Vec<&[u16]> = lent.chunks(16).collect();
+    entries.sort();
+    entries
+}
+
+/// A name that is not entered and for which SYS need not grow.
+fn new_name(random: &mut Random, unit: &Unit<Vec<u16>>) -> NameWords {
+    loop {
+        let name = Name::from_words(generate::name(random));
+        let mut copy = unit.clone();
+        let before = copy.look_up(Name::SYS);
+        let created = copy.create(name, 1, ruzkemp::Attributes::EXTENDABLE);
+        if created.is_ok() && copy.look_up(Name::SYS) == before {
+            return name.words();
+        }
+    }
+}
+
+/// A row of the table: calls on a unit, and the fastest times of reading, of the second
+/// implementation and of the proved library.
+struct Row {
+    unit: &'static str,
+    calls: Calls,
+    pair: Pair,
+    parts: Vec<Range<usize>>,
+    reading: Fastest,
+    second: Fastest,
+    proved: Fastest,
+}
+
+impl Row {
+    fn measure(&mut self) {
+        let (pair, calls) = (&mut self.pair, &mut self.calls);
+        self.reading.measure(|| {
+            let image = black_box(pair.proved.image());
+            black_box(read(image, black_box(&self.parts)));
+        });
+        self.second.measure(|| {
+            for message in &calls.messages {
+                black_box(pair.send_second(black_box(message), &mut calls.lent));
+            }
+        });
+        self.proved.measure(|| {
+            for message in &calls.messages {
+                black_box(pair.send_proved(black_box(message), &mut calls.lent));
+            }
+        });
+    }
+
+    fn print(&self) {
+        let calls = self.calls.calls as f64;
+        let per_second = |fastest: Fastest| calls / fastest.0 * 1e6;
+        let (second, proved) = (per_second(self.second), per_second(self.proved));
+        let ratio = self.proved.0 / self.second.0;
+        let messages = self.calls.messages.len() as f64;
+        let to_reading = self.proved.0 / (messages * self.reading.0);
+        let verdict = verdict(ratio <= TARGET);
+        let (title, unit) = (self.calls.title, self.unit);
+        println!("| {title} | {unit} | {second:.0} | {proved:.0} | {ratio:.3} | {to_reading:.1} | at most {TARGET:.1}, {verdict} |");
+    }
+}
+
+/// The rows of a unit: every kind of call on a copy of it, after both have been seen to agree.
+fn rows(random: &mut Random, unit: &'static str, shape: &Shape) -> Vec<Row> {
+    let mut pair = Pair::new(random, shape);
+    let parts = needed(pair.proved.image(), shape);
+    let entries = pair.proved.list().expect("a sound unit");
+    let file = entries
+        .iter()
+        .find(|entry| entry.index() >= 10 && entry.length() > 0);
+    let file = file.expect("a file with a block").name().words();
+    let new = new_name(random, &pair.proved);
+    pair.open(file);
+    let kinds = [
+        look_up(&entries),
+        create_and_remove(new),
+        transput("Input", file, 5),
+        transput("Output", file, 7),
+        listing(&entries),
+    ];
+    let row = |mut calls: Calls| {
+        let mut pair = pair.clone();
+        for message in &calls.messages {
+            pair.send_checked(message, &mut calls.lent);
+        }
+        Row {
+            unit,
+            calls,
+            pair,
+            parts: parts.clone(),
+            reading: Fastest::NONE,
+            second: Fastest::NONE,
+            proved: Fastest::NONE,
+        }
+    };
+    kinds.map(row).into_iter().collect()
+}
+
+/// Measures and prints the table.
+pub fn run() {
+    let random = &mut Random::new(5);
+    let mut rows: Vec<Row> = UNITS
+        .iter()
+        .flat_map(|(unit, shape)| rows(random, unit, shape))
+        .collect();
+    for _ in 0..ROUNDS {
+        rows.iter_mut().for_each(Row::measure);
+    }
+    println!("| call | unit | second implementation, calls per second | proved, calls per second | time proved / second | time proved / reading | target |");
+    println!("|---|---|--:|--:|--:|--:|---|");
+    rows.sort_by_key(|row| row.calls.title);
+    rows.iter().for_each(Row::print);
+}

@@ -1,0 +1,172 @@
+//! Microseconds per soundness check: the proved check, a straightforward one in Rust on the
+//! same image, and the time to read SYS's words and the used index words once.
+
+use std::hint::black_box;
+use std::ops::Range;
+
+use reference::generate::{shaped, Shape, Unit};
+use reference::is_sound;
+use reference::layout::{Kit, BITS, ENTRY, KIT, MAP_SECTOR, PLACES, SECTOR, SYS_INDEX};
+use reference::random::Random;
+use ruzkemp::State;
+
+use crate::shapes::{FEW, MANY, MIDDLE};
+use crate::timing::{is_file, needed, read, verdict, Fastest};
+
+/// How often each function is timed on each unit; the fastest time counts.
+const ROUNDS: usize = 400;
+/// SYS in 100 stretches may take so many times as long as SYS in one, in these two rows.
+const STRETCHED: f64 = 1.2;
+const STRETCHES_1: usize = 3;
+const STRETCHES_100: usize = 5;
+
+/// The rows: what is measured, the most that the ratio to the Rust version may be, the unit.
+const ROWS: [(&str, f64, Shape); 7] = [
+    ("100 files of about 30 slices", 1.0, FEW),
+    (
+        "the same, files in stretches of 3 slices",
+        1.0,
+        Shape { stretch: 3, ..FEW },
+    ),
+    ("1,000 files, H = 64", 0.5, MIDDLE),
+    ("3,900 files, M = 4,096, H = 64", 0.5, MANY),
+    (
+        "the same, SYS in 10 stretches",
+        1.0,
+        Shape {
+            sys_stretches: 10,
+            ..MANY
+        },
+    ),
+    (
+        "the same, SYS in 100 stretches",
+        1.0,
+        Shape {
+            sys_stretches: 100,
+            ..MANY
+        },
+    ),
+    (
+        "one chain of 3,900 names, H = 1",
+        1.0,
+        Shape {
+            h: 1,
+            layers: 244,
+            ..MANY
+        },
+    ),
+];
+
+/// Copies of an image with one rule broken in each.
+fn damaged(image: &[u16]) -> Vec<(&'static str, Vec<u16>)> {
+    let kit = Kit::read(image);
+    let changed = |place: usize, word: u16| {
+        let mut copy = image.to_vec();
+        copy[place] = word;
+        copy
+    };
+    // Two files in the first sector of SYS.
+    let sys = image[SYS_INDEX * SECTOR + 2] as usize * SECTOR;
+    let places = (0..PLACES).map(|place| sys + place * ENTRY);
+    let files: Vec<usize> = places.filter(|&from| is_file(&image[from..])).collect();
+    let (one, other) = (files[0], files[1]);
+    let index = image[one + 8] as usize * SECTOR;
+    let mut twice = image.to_vec();
+    twice.copy_within(one..one + 3, other);
+    let mut freed = changed(KIT * SECTOR + 3, (kit.free + kit.s) as u16);
+    freed[MAP_SECTOR * SECTOR] |= BITS[0];
+    vec![
+        ("N one more", changed(KIT * SECTOR + 2, kit.n as u16 + 1)),
+        ("a name entered twice", twice),
+        ("a length past its slices", changed(one + 7, 32_767)),
+        ("a pair of one sector", changed(index + 1, 1)),
+        ("slice 1 marked free", freed),
+    ]
+}
+
+/// Says where one of the checks does not accept the unit or does not refuse a damaged copy.
+fn disagreement(unit: &Unit, state: &State) -> Option<String> {
+    let both = |image: &[u16]| {
+        let ours = ruzkemp::is_sound(image, state);
+        (ours, is_sound(image, &unit.state))
+    };
+    if both(&unit.image) != (true, true) {
+        return Some("a sound unit".into());
+    }
+    let mut copies = damaged(&unit.image).into_iter();
+    let accepted = copies.find(|(_, image)| both(image) != (false, false));
+    accepted.map(|(what, _)| format!("a unit with {what}"))
+}
+
+/// A row of the table: its unit, and the fastest times of reading, of the check in Rust and of
+/// the proved one.
+struct Row {
+    title: &'static str,
+    target: f64,
+    unit: Unit,
+    state: State,
+    parts: Vec<Range<usize>>,
+    reading: Fastest,
+    rust: Fastest,
+    proved: Fastest,
+}
+
+impl Row {
+    fn new(random: &mut Random, title: &'static str, target: f64, shape: &Shape) -> Row {
+        let unit = shaped(random, shape);
+        let state = State::new(unit.state.unit);
+        if let Some(unit) = disagreement(&unit, &state) {
+            panic!("{title}: the checks are wrong on {unit}");
+        }
+        Row {
+            title,
+            target,
+            state,
+            parts: needed(&unit.image, shape),
+            unit,
+            reading: Fastest::NONE,
+            rust: Fastest::NONE,
+            proved: Fastest::NONE,
+        }
+    }
+
+    fn measure(&mut self) {
+        let (image, state) = (&self.unit.image, &self.unit.state);
+        self.reading.measure(|| {
+            black_box(read(black_box(image), black_box(&self.parts)));
+        });
+        self.rust.measure(|| {
+            black_box(is_sound(black_box(image), black_box(state)));
+        });
+        self.proved.measure(|| {
+            black_box(ruzkemp::is_sound(black_box(image), black_box(&self.state)));
+        });
+    }
+
+    fn print(&self) {
+        let (title, target) = (self.title, self.target);
+        let (reading, rust, proved) = (self.reading.0, self.rust.0, self.proved.0);
+        let ratio = proved / rust;
+        let verdict = verdict(ratio <= target);
+        println!("| {title} | {reading:.2} | {rust:.2} | {proved:.2} | {ratio:.2} | at most {target:.1}, {verdict} |");
+    }
+}
+
+/// Measures and prints the table.
+pub fn run() {
+    let random = &mut Random::new(4);
+    let mut rows: Vec<Row> = ROWS
+        .iter()
+        .map(|(title, target, shape)| Row::new(random, title, *target, shape))
+        .collect();
+    for _ in 0..ROUNDS {
+        rows.iter_mut().for_each(Row::measure);
+    }
+    println!("| microseconds per soundness check | reading | straightforward Rust | proved | proved / Rust | target |");
+    println!("|---|--:|--:|--:|--:|---|");
+    rows.iter().for_each(Row::print);
+    let ratio = rows[STRETCHES_100].proved.0 / rows[STRETCHES_1].proved.0;
+    let verdict = verdict(ratio <= STRETCHED);
+    println!();
+    println!("SYS in 100 stretches against SYS in one: {ratio:.2}; target at most {STRETCHED}, {verdict}.");
+}

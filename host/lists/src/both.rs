@@ -1,0 +1,49 @@
+//! One unit kept twice: each call is put to both sides, and everything is compared after it.
+
+use reference::generate::Unit;
+use reference::Answer;
+
+use crate::{compare, Difference, Second, Seen, Side, Step};
+
+/// A unit as the proved library and as the second implementation have it.
+pub struct Both<P> {
+    proved: P,
+    second: Second,
+    sound: bool,
+}
+
+impl<P: Side> Both<P> {
+    /// Both sides, with no unit yet.
+    pub fn new(proved: P) -> Both<P> {
+        Both {
+            proved,
+            second: Second::default(),
+            sound: false,
+        }
+    }
+
+    /// The second implementation.
+    pub fn second(&self) -> &Second {
+        &self.second
+    }
+
+    /// Gives both sides a unit.
+    pub fn set(&mut self, unit: &Unit) {
+        self.proved.set(unit);
+        self.second.set(unit);
+        self.sound = self.second.is_sound();
+    }
+
+    /// Puts a step to both sides and compares them.
+    pub fn put(&mut self, step: &Step) -> Result<(Answer, Vec<u16>), Difference> {
+        let (proved_answer, proved_lent) = self.proved.put(step);
+        let (answer, lent) = self.second.put(step);
+        let proved = Seen::of(&self.proved, proved_answer, &proved_lent);
+        let second = Seen::of(&self.second, answer, &lent);
+        if let Some(difference) = compare(self.sound, &proved, &second) {
+            return Err(difference);
+        }
+        self.sound = second.sound;
+        Ok((answer, lent))
+    }
+}

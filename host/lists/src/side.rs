@@ -1,0 +1,123 @@
+//! A unit as one implementation has it.
+
+use reference::generate::{Call, Unit};
+use reference::pairs::{call_name, Counts, FORMAT};
+use reference::{explain, explain_format, soundness, Answer, Message, State};
+
+use crate::state::{state_of, words_of, StateWords};
+
+/// One step of a list.
+#[derive(Clone, PartialEq, Eq, Debug)]
+pub enum Step {
+    /// Format.
+    Format {
+        /// The byte count.
+        bytes: u16,
+        /// The lent record.
+        record: Vec<u16>,
+    },
+    /// Any other call.
+    Call(Call),
+}
+
+/// An implementation with the unit that it works on.
+pub trait Side {
+    /// Takes a unit to work on.
+    fn set(&mut self, unit: &Unit);
+    /// Formats the unit and answers the result word.
+    fn format(&mut self, bytes: u16, record: &[u16]) -> u16;
+    /// Carries out any other call and answers it.
+    fn perform(&mut self, message: &Message, lent: &mut [u16]) -> Answer;
+    /// Whether image and state are a sound unit.
+    fn is_sound(&self) -> bool;
+    /// The image.
+    fn image(&self) -> &[u16];
+    /// The state.
+    fn state(&self) -> StateWords;
+
+    /// The unit.
+    fn unit(&self) -> Unit {
+        Unit {
+            image: self.image().to_vec(),
+            state: state_of(&self.state()),
+        }
+    }
+
+    /// Carries out a step: the answer, and the lent words after it.
+    fn put(&mut self, step: &Step) -> (Answer, Vec<u16>) {
+        match step {
+            Step::Format { bytes, record } => {
+                let result = self.format(*bytes, record);
+                let answer = Answer {
+                    result,
+                    ..Answer::default()
+                };
+                (answer, record.clone())
+            }
+            Step::Call(Call { message, lent }) => {
+                let mut lent = lent.clone();
+                (self.perform(message, &mut lent), lent)
+            }
+        }
+    }
+}
+
+/// The second implementation. It counts the words and questions that come up.
+pub struct Second {
+    /// What came up so far.
+    pub counts: Counts,
+    unit: Unit,
+}
+
+impl Second {
+    /// The unit, as it stands.
+    pub fn current(&self) -> &Unit {
+        &self.unit
+    }
+}
+
+impl Default for Second {
+    /// On an empty image.
+    fn default() -> Second {
+        Second {
+            counts: Counts::default(),
+            unit: Unit {
+                image: Vec::new(),
+                state: State::new(0),
+            },
+        }
+    }
+}
+
+impl Side for Second {
+    fn set(&mut self, unit: &Unit) {
+        self.unit.clone_from(unit);
+    }
+
+    fn format(&mut self, bytes: u16, record: &[u16]) -> u16 {
+        let Unit { image, state } = &mut self.unit;
+        let outcome = explain_format(image, state, bytes, record);
+        let word = outcome.map_or_else(|question| question.word(), |()| 0);
+        self.counts.add(FORMAT, word, outcome.err());
+        word
+    }
+
+    fn perform(&mut self, message: &Message, lent: &mut [u16]) -> Answer {
+        let Unit { image, state } = &mut self.unit;
+        let (answer, question) = explain(image, state, message, lent);
+        self.counts.add(call_name(message), answer.result, question);
+        answer
+    }
+
+    fn is_sound(&self) -> bool {
+        soundness(&self.unit.image, &self.unit.state).is_ok()
+    }
+
+    fn image(&self) -> &[u16] {
+        &self.unit.image
+    }
+
+    fn state(&self) -> StateWords {
+        words_of(&self.unit.state)
+    }
+}

@@ -1,0 +1,200 @@
+//! Wrong outcomes are reported: each test gives the comparison one wrong word.
+
+use lists::random::Lists;
+use lists::state::{words_of, StateWords};
+use lists::stored::{filled, first_difference};
+use lists::{compare, Both, Difference, Second, Seen, Side, Step};
+use reference::generate::{Call, Unit};
+use reference::{Answer, Message, State};
+
+/// Changes what the second implementation shows after a call.
+type Fault = fn(&mut Answer, &mut [u16], &mut Shown);
+
+/// Image, state and verdict.
+struct Shown {
+    unit: Unit,
+    sound: bool,
+}
+
+/// The second implementation with a fault that shows from some call on.
+struct Faulty {
+    second: Second,
+    shown: Shown,
+    calls_before: u64,
+    fault: Fault,
+}
+
+impl Faulty {
+    fn new(calls_before: u64, fault: Fault) -> Faulty {
+        let second = Second::default();
+        Faulty {
+            shown: Shown {
+                unit: second.unit(),
+                sound: false,
+            },
+            second,
+            calls_before,
+            fault,
+        }
+    }
+
+    fn show(&mut self, answer: &mut Answer, lent: &mut [u16]) {
+        self.shown = Shown {
+            unit: self.second.unit(),
+            sound: self.second.is_sound(),
+        };
+        if self.second.counts.calls > self.calls_before {
+            (self.fault)(answer, lent, &mut self.shown);
+        }
+    }
+}
+
+impl Side for Faulty {
+    fn set(&mut self, unit: &Unit) {
+        self.second.set(unit);
+    }
+
+    fn format(&mut self, bytes: u16, record: &[u16]) -> u16 {
+        let mut answer = Answer {
+            result: self.second.format(bytes, record),
+            ..Answer::default()
+        };
+        self.show(&mut answer, &mut []);
+        answer.result
+    }
+
+    fn perform(&mut self, message: &Message, lent: &mut [u16]) -> Answer {
+        let mut answer = self.second.perform(message, lent);
+        self.show(&mut answer, lent);
+        answer
+    }
+
+    fn is_sound(&self) -> bool {
+        self.shown.sound
+    }
+
+    fn image(&self) -> &[u16] {
+        &self.shown.unit.image
+    }
+
+    fn state(&self) -> StateWords {
+        words_of(&self.shown.unit.state)
+    }
+}
+
+/// A listing of a fresh unit, put to the faulty side and to the second implementation.
+fn listing(fault: Fault) -> Result<(), Difference> {
+    let mut both = Both::new(Faulty::new(2, fault));
+    both.set(&Unit {
+        image: vec![0; 256 * 20],
+        state: State::new(0),
+    });
+    let record = vec![0, 1, 2, 20, 10, 10, 20, 0, 0];
+    both.put(&Step::Format { bytes: 18, record })?;
+    let call = |message, lent| Step::Call(Call { message, lent });
+    both.put(&call(Message::Init { unit: 0 }, vec![]))?;
+    both.put(&call(Message::Listing { unit: 0 }, vec![7; 33]))?;
+    Ok(())
+}
+
+/// The place that is reported.
+fn reported(fault: Fault) -> String {
+    listing(fault).expect_err("a difference").place
+}
+
+#[test]
+fn one_wrong_word_is_reported() {
+    assert_eq!(listing(|_, _, _| ()), Ok(()));
+    assert_eq!(reported(|answer, _, _| answer.result = 1), "result word");
+    assert_eq!(reported(|answer, _, _| answer.bytes = 1), "byte count");
+    assert_eq!(reported(|answer, _, _| answer.block = 1), "block");
+    let entries = reported(|answer, _, _| answer.entries -= 1);
+    assert_eq!(entries, "number of entries");
+    assert_eq!(reported(|_, lent, _| lent[32] = 8), "lent word 32");
+    let image = reported(|_, _, shown| shown.unit.image[256 * 19 + 255] ^= 1);
+    assert_eq!(image, "image sector 19 word 255");
+    let state = reported(|_, _, shown| shown.unit.state.areas[7].users[2].position = 1);
+    assert_eq!(state, "state area 7 user 2 position");
+    let initialized = reported(|_, _, shown| shown.unit.state.initialized = false);
+    assert_eq!(initialized, "state initialized");
+    let sound = reported(|_, _, shown| shown.sound = false);
+    assert_eq!(sound, "soundness after the call");
+}
+
+#[test]
+fn both_values_are_told() {
+    let difference = listing(|_, _, shown| shown.unit.image[256 * 8 + 3] = 10).unwrap_err();
+    assert_eq!((difference.proved, difference.second), (10, 8));
+    let difference = listing(|_, _, shown| shown.unit.image.truncate(5119)).unwrap_err();
+    let place = "number of words, from image sector 19 word 255 on";
+    assert_eq!(difference.place, place);
+    assert_eq!((difference.proved, difference.second), (5119, 5120));
+}
+
+#[test]
+fn a_listing_has_each_entry_once_in_any_order() {
+    let exchanged: Fault = |_, lent, _| lent[..32].rotate_left(16);
+    assert_eq!(listing(exchanged), Ok(()));
+    let twice: Fault = |_, lent, _| lent.copy_within(..16, 16);
+    assert!(listing(twice).is_err());
+}
+
+#[test]
+fn a_unit_that_becomes_unsound_is_reported() {
+    let unit = Unit {
+        image: vec![],
+        state: State::new(0),
+    };
+    let seen = Seen {
+        answer: Answer::default(),
+        lent: &[],
+        image: &unit.image,
+        state: words_of(&unit.state),
+        sound: false,
+    };
+    assert_eq!(compare(false, &seen, &seen), None);
+    let difference = compare(true, &seen, &seen).expect("a difference");
+    assert_eq!(
+        difference.place,
+        "soundness of a unit that was sound before"
+    );
+}
+
+#[test]
+fn random_lists_find_a_fault_and_say_where() {
+    let fault: Fault = |answer, _, shown| {
+        if answer.block == 3 {
+            shown.unit.image[256 * 9] ^= 1;
+        }
+    };
+    let mut lists = Lists::new(Faulty::new(1_000, fault), 5);
+    let failure = lists.run(100_000).expect_err("a difference").to_string();
+    for part in [
+        "seed 5, list ",
+        ", call ",
+        "transput ",
+        "image sector 9 word 0",
+    ] {
+        assert!(failure.contains(part), "{failure}");
+    }
+    // The list alone shows it again.
+    let list = failure.split("--list ").nth(1).unwrap().parse().unwrap();
+    let again = Lists::new(Faulty::new(0, fault), 5).run_list(list);
+    assert_eq!(again.expect_err("a difference").to_string(), failure);
+}
+
+#[test]
+fn a_stored_list_that_is_done_otherwise_is_reported() {
+    let text = "# A comment.\ndisc 0 1 2 5 10\nlook-up SYS lent 16*9 -> 0000h \
+                lent 5359h 5300h 4*0 8010h 1 6 2 6*0\nremove NONE -> 5000h\n";
+    let replayed = |text: &str| first_difference(text, &mut Second::default());
+    assert_eq!(replayed(text), Ok(()));
+    let wrong = replayed(&text.replace("8010h", "8011h")).expect_err("a word is wrong");
+    assert!(wrong.starts_with("line 3:\n  stored   look-up"), "{wrong}");
+    assert!(replayed(&text.replace("5000h", "5000h image #12345678")).is_err());
+    // Storing fills outcomes in and keeps the result words.
+    let bare = text.replace(" lent 5359h 5300h 4*0 8010h 1 6 2 6*0", "");
+    assert_eq!(filled(&bare), Ok(text.into()));
+    assert!(filled(&text.replace("5000h", "0000h")).is_err());
+    assert!(filled("create PASS -> 0000h").is_err());
+}

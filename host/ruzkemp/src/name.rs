@@ -1,0 +1,120 @@
+//! Names of files.
+
+use std::fmt;
+use std::str::FromStr;
+
+/// A name as a message has it: five characters, the high half of a word first, and as sixth
+/// character the number of the unit.
+pub type NameWords = [u16; 3];
+
+/// The name of a file: up to five characters, in capitals.
+///
+/// Two names are equal exactly if they name the same file: small letters count as their
+/// capitals, and the sixth character, the unit, is left out.
+#[derive(Clone, Copy, PartialEq, Eq, PartialOrd, Ord, Hash, Debug)]
+pub struct Name([u8; 5]);
+
+/// Why a text is no name.
+#[derive(Clone, Copy, PartialEq, Eq, Debug)]
+pub enum NameError {
+    /// The text is empty or has more than five characters.
+    Length,
+    /// The first character is no letter from A to Z.
+    First,
+    /// A character is neither a letter from A to Z nor a digit.
+    Character(char),
+}
+
+impl Name {
+    /// The name of the catalog.
+    pub const SYS: Name = Name(*b"SYS\0\0");
+    /// The name of the map.
+    pub const MAP: Name = Name(*b"MAP\0\0");
+
+    /// The name of a text: one to five characters, a letter and then letters or digits.
+    pub fn new(text: &str) -> Result<Name, NameError> {
+        let wrong = |c: &char| !c.is_ascii_alphanumeric();
+        if let Some(character) = text.chars().find(wrong) {
+            return Err(NameError::Character(character));
+        }
+        if !(1..=5).contains(&text.len()) {
+            return Err(NameError::Length);
+        }
+        if !text.as_bytes()[0].is_ascii_alphabetic() {
+            return Err(NameError::First);
+        }
+        let mut characters = [0; 5];
+        for (place, character) in characters.iter_mut().zip(text.bytes()) {
+            *place = character.to_ascii_uppercase();
+        }
+        Ok(Name(characters))
+    }
+
+    /// The name in three words, whatever they are; the sixth character is left out.
+    pub fn from_words(words: NameWords) -> Name {
+        let [[a, b], [c, d], [e, _]] = words.map(u16::to_be_bytes);
+        Name([a, b, c, d, e].map(|character| character.to_ascii_uppercase()))
+    }
+
+    /// The name in three words, the sixth character 0.
+    pub fn words(self) -> NameWords {
+        self.on_unit(0)
+    }
+
+    /// The name in three words, with the unit as sixth character.
+    pub fn on_unit(self, unit: u16) -> NameWords {
+        let [a, b, c, d, e] = self.0;
+        [[a, b], [c, d], [e, unit as u8]].map(u16::from_be_bytes)
+    }
+
+    /// Whether a file may have the name: a letter, then letters or digits, then zeros.
+    pub fn is_legal(self) -> bool {
+        let used = self.0.iter().take_while(|&&c| c != 0).count();
+        let (text, rest) = self.0.split_at(used);
+        text.first().is_some_and(u8::is_ascii_alphabetic)
+            && text.iter().all(u8::is_ascii_alphanumeric)
+            && rest.iter().all(|&c| c == 0)
+    }
+}
+
+impl fmt::Display for Name {
+    /// The characters up to the last that is not 0; one that is no visible ASCII is escaped.
+    fn fmt(&self, f: &mut fmt::Formatter<'_>) -> fmt::Result {
+        let used = self
+            .0
+            .iter()
+            .rposition(|&c| c != 0)
+            .map_or(0, |last| last + 1);
+        f.pad(&self.0[..used].escape_ascii().to_string())
+    }
+}
+
+impl FromStr for Name {
+    type Err = NameError;
+
+    fn from_str(text: &str) -> Result<Name, NameError> {
+        Name::new(text)
+    }
+}
+
+impl TryFrom<&str> for Name {
+    type Error = NameError;
+
+    fn try_from(text: &str) -> Result<Name, NameError> {
+        Name::new(text)
+    }
+}
+
+impl fmt::Display for NameError {
+    fn fmt(&self, f: &mut fmt::Formatter<'_>) -> fmt::Result {
+        match self {
+            NameError::Length => f.write_str("a name has one to five characters"),
+            NameError::First => f.write_str("a name begins with a letter"),
+            NameError::Character(wrong) => {
+                write!(f, "{wrong:?} is neither a letter from A to Z nor a digit")
+            }
+        }
+    }
+}
+
+impl std::error::Error for NameError {}

@@ -1,0 +1,233 @@
+//! The C side: the header compiles in every C and C++ that it promises, the example prints what
+//! document 01 asks for, and C, Rust and the compiled library agree on where each field stands.
+
+use std::mem::{offset_of, size_of};
+use std::path::{Path, PathBuf};
+use std::process::Command;
+
+use ruzkemp::sys::{call, operation, AreaState, UnitAnswer, UnitMessage, UnitState, UserState};
+use ruzkemp::{Attributes, Error, Name, Record, Role, Unit};
+
+const ROOT: &str = concat!(env!("CARGO_MANIFEST_DIR"), "/../..");
+const LIBRARY: &str = concat!(env!("OUT_DIR"), "/libexport.a");
+const STRICT: [&str; 4] = ["-Wall", "-Wextra", "-Werror", "-pedantic"];
+
+/// Has a compiler make a program of a source and the library, and names the program.
+fn compiled(compiler: &str, standard: &str, source: &Path, name: &str) -> PathBuf {
+    let program = Path::new(env!("CARGO_TARGET_TMPDIR")).join(name);
+    let made = Command::new(compiler)
+        .arg(format!("-std={standard}"))
+        .args(STRICT)
+        .arg("-I")
+        .arg(Path::new(ROOT).join("include"))
+        .args(if compiler == "c++" {
+            ["-x", "c++"]
+        } else {
+            ["-x", "c"]
+        })
+        .arg(source)
+        .args(["-x", "none", LIBRARY, "-o"])
+        .arg(&program)
+        .output()
+        .unwrap_or_else(|why| panic!("{compiler} cannot be run: {why}"));
+    let said = String::from_utf8_lossy(&made.stderr);
+    assert!(made.status.success(), "{compiler} -std={standard}:\n{said}");
+    program
+}
+
+/// What a program prints.
+fn output(program: &Path) -> String {
+    let ran = Command::new(program).output().expect("the program runs");
+    let said = String::from_utf8_lossy(&ran.stderr);
+    assert!(ran.status.success(), "{}: {said}", program.display());
+    String::from_utf8(ran.stdout).expect("the program prints text")
+}
+
+/// The example's output. Its file was written from document 01's cases P5 to P8 and its
+/// questions, with need(2) = 2, need(4) = 3 and slices of two sectors from sector 10 on.
+#[test]
+fn the_example_prints_what_document_01_asks_for() {
+    let source = Path::new(ROOT).join("examples/c/season.c");
+    let expected = source.with_extension("expected");
+    let expected = std::fs::read_to_string(expected).expect("the expected output is there");
+    for (compiler, standard) in [
+        ("cc", "c99"),
+        ("cc", "c11"),
+        ("c++", "c++98"),
+        ("c++", "c++17"),
+    ] {
+        let name = format!("season-{standard}");
+        let program = compiled(compiler, standard, &source, &name);
+        assert_eq!(output(&program), expected, "{compiler} -std={standard}");
+    }
+}
+
+/// The lines of a struct: its size and the place of each field.
+macro_rules! lines {
+    ($c:literal, $rust:ident, $($field:ident),+) => {
+        vec![
+            format!("{} {}", $c, size_of::<$rust>()),
+            $(format!("{}.{} {}", $c, stringify!($field), offset_of!($rust, $field)),)+
+        ]
+    };
+}
+
+fn layout() -> Vec<String> {
+    [
+        lines!("user", UserState, id, role, opens, position),
+        lines!("area", AreaState, live, name, index, length, users),
+        lines!("state", UnitState, unit, initialized, areas),
+        lines!(
+            "message",
+            UnitMessage,
+            call,
+            name,
+            unit,
+            size,
+            attributes,
+            sender,
+            operation,
+            number,
+            bytes,
+            block
+        ),
+        lines!("answer", UnitAnswer, result, bytes, block, entries),
+    ]
+    .concat()
+}
+
+/// The named numbers: result words, attributes, roles, calls and operations.
+fn numbers() -> Vec<String> {
+    let results = [
+        ("CATALOG_PARAMETER", Error::CatalogParameter),
+        ("CATALOG_UNSOUND", Error::CatalogUnsound),
+        ("NO_ENTRY", Error::NoEntry),
+        ("ENTRY_EXISTS", Error::EntryExists),
+        ("DISC_FULL", Error::DiscFull),
+        ("INDEX_FULL", Error::IndexFull),
+        ("FORMAT_RECORD", Error::FormatRecord),
+        ("AREA_ILLEGAL", Error::AreaIllegal),
+        ("AREA_UNSOUND", Error::AreaUnsound),
+        ("NO_AREA", Error::NoArea),
+        ("AREA_FULL", Error::AreaFull),
+        ("AREA_RESERVED", Error::AreaReserved),
+        ("NOT_USER_OR_PAST_END", Error::NotUserOrPastEnd),
+        ("USERS_OR_INDEX_FULL", Error::UsersOrIndexFull),
+        ("BLOCK_SIZE", Error::BlockSize),
+        ("WRITE_PROTECTED_FILE", Error::WriteProtected),
+    ];
+    let attributes = [
+        ("CATALOG_FILE", Attributes::CATALOG_FILE),
+        ("SUB_CATALOG", Attributes::SUB_CATALOG),
+        ("PERMANENT", Attributes::PERMANENT),
+        ("WRITE_PROTECTED", Attributes::WRITE_PROTECTED),
+        ("ENTRY_ONLY", Attributes::ENTRY_ONLY),
+        ("EXTENDABLE", Attributes::EXTENDABLE),
+    ];
+    let results = results.map(|(name, error)| (name, error.word()));
+    let attributes = attributes.map(|(name, bit)| (name, bit.bits()));
+    let lines = results.into_iter().chain(attributes).chain(call_numbers());
+    lines
+        .map(|(name, number)| format!("{name} {number:04X}"))
+        .collect()
+}
+
+fn call_numbers() -> Vec<(&'static str, u16)> {
+    vec![
+        ("SHARING", Role::Sharing.number()),
+        ("EXCLUSIVE_WRITER", Role::ExclusiveWriter.number()),
+        ("EXCLUSIVE_USER", Role::ExclusiveUser.number()),
+        ("CALL_INIT", call::INIT),
+        ("CALL_SET", call::SET),
+        ("CALL_CREATE", call::CREATE),
+        ("CALL_LOOK_UP", call::LOOK_UP),
+        ("CALL_CHANGE", call::CHANGE),
+        ("CALL_REMOVE", call::REMOVE),
+        ("CALL_CREATE_AREA", call::CREATE_AREA),
+        ("CALL_REMOVE_AREA", call::REMOVE_AREA),
+        ("CALL_AREA_MESSAGE", call::AREA_MESSAGE),
+        ("CALL_UNIT_DESCRIPTION", call::UNIT_DESCRIPTION),
+        ("CALL_LISTING", call::LISTING),
+        ("OPERATION_RESERVE", operation::RESERVE),
+        ("OPERATION_POSITION", operation::POSITION),
+        ("OPERATION_SENSE", operation::SENSE),
+        ("OPERATION_TRANSPUT", operation::TRANSPUT),
+        ("OPERATION_OTHER", operation::OTHER),
+    ]
+}
+
+/// The words of the state that `layout.c` brings about, from document 01: unit 3, initialized,
+/// and of area k (1 to 8) 'live', the name 'Fk', the index sector, the length k and the users.
+/// With s = 2 the files of 1 to 8 sectors take 1, 2, 2, 3, 3, 4, 4 and 5 slices from slice 2 on,
+/// which is sector 12.
+fn state_words() -> Vec<u16> {
+    let indexes = [12, 14, 18, 22, 28, 34, 42, 50];
+    let mut words = vec![3, 1];
+    for (k, index) in (1..=8).zip(indexes) {
+        words.extend([1, 0x4630 + k, 0, 0, index, k]);
+        if k < 8 {
+            words.extend([100 * k + 1, 0, 1, k]);
+            words.extend([100 * k + 2, 1, 2, k - 1]);
+            words.extend([100 * k + 3, 0, 3, k / 2]);
+        } else {
+            words.extend([100 * k + 1, 2, 4, k, 0, 0, 0, 0, 0, 0, 0, 0]);
+        }
+    }
+    words
+}
+
+#[test]
+fn c_rust_and_the_library_agree_on_fields_and_numbers() {
+    let source = Path::new(env!("CARGO_MANIFEST_DIR")).join("tests/c/layout.c");
+    let printed = output(&compiled("cc", "c99", &source, "layout"));
+    let words = state_words().into_iter().map(|word| word.to_string());
+    let expected = layout().into_iter().chain(numbers()).chain(words);
+    let expected: Vec<String> = expected.collect();
+    assert_eq!(printed.lines().collect::<Vec<_>>(), expected);
+}
+
+/// The words of a state, field by field of the Rust mirror.
+fn words_of(state: &UnitState) -> Vec<u16> {
+    let mut words = vec![state.unit, state.initialized];
+    for area in &state.areas {
+        words.push(area.live);
+        words.extend(area.name);
+        words.extend([area.index, area.length]);
+        for user in &area.users {
+            words.extend([user.id, user.role, user.opens, user.position]);
+        }
+    }
+    words
+}
+
+fn used(unit: &mut Unit<Vec<u16>>, name: Name, user: (u16, Role, u16, u16)) -> ruzkemp::Result<()> {
+    let (sender, role, opens, position) = user;
+    for _ in 0..opens {
+        unit.reserve(name, sender, role)?;
+    }
+    unit.position(name, sender, position)
+}
+
+#[test]
+fn the_rust_mirror_has_the_fields_where_the_library_writes_them() -> ruzkemp::Result<()> {
+    let mut unit = Unit::formatted(&Record::new(3, 1, 2, 60, 10))?;
+    unit.init()?;
+    for k in 1..=8 {
+        let name = Name::new(&format!("F{k}")).expect("a legal name");
+        unit.create(name, k, Attributes::NONE)?;
+        unit.create_area(name)?;
+        if k < 8 {
+            used(&mut unit, name, (100 * k + 1, Role::Sharing, 1, k))?;
+            used(
+                &mut unit,
+                name,
+                (100 * k + 2, Role::ExclusiveWriter, 2, k - 1),
+            )?;
+            used(&mut unit, name, (100 * k + 3, Role::Sharing, 3, k / 2))?;
+        } else {
+            used(&mut unit, name, (100 * k + 1, Role::ExclusiveUser, 4, k))?;
+        }
+    }
+    assert_eq!(words_of(unit.state().raw()), state_words());
+    Ok(())
+}

@@ -1,0 +1,505 @@
+//! The methods of a unit, obeyed and refused. What is expected is worked out from document 01.
+
+use ruzkemp::{
+    is_sound, Answer, Attributes, Description, Entry, Error, Message, Name, Operation, Record,
+    Result, Role, State, Unit, SECTOR,
+};
+
+/// The unit of document 01's worked cases: H = 1, s = 2, N = 20, F = 10.
+const PAPER: [u16; 5] = [0, 1, 2, 20, 10];
+
+fn record() -> Record {
+    let [unit, h, s, n, f] = PAPER;
+    Record::new(unit, h, s, n, f)
+}
+
+fn ready() -> Unit<Vec<u16>> {
+    let mut unit = Unit::formatted(&record()).expect("a legal record");
+    unit.init().expect("a sound unit");
+    unit
+}
+
+fn name(text: &str) -> Name {
+    Name::new(text).expect("a legal name")
+}
+
+/// A unit with PASS, 2 sectors long and extendable, open for sender 7.
+fn opened() -> Unit<Vec<u16>> {
+    let mut unit = ready();
+    let pass = name("PASS");
+    let made = unit
+        .create(pass, 2, Attributes::EXTENDABLE)
+        .and_then(|()| unit.create_area(pass))
+        .and_then(|()| unit.reserve(pass, 7, Role::Sharing));
+    made.expect("a new file");
+    unit
+}
+
+fn position(unit: &Unit<Vec<u16>>, sender: u16) -> u16 {
+    let area = unit.state().area(name("PASS")).expect("PASS is open");
+    let user = area.users.iter().find(|user| user.id == sender);
+    user.expect("the sender is a user").position
+}
+
+/// Says that a call is refused so and changes neither image nor state.
+fn refused<T: std::fmt::Debug + PartialEq>(
+    unit: &mut Unit<Vec<u16>>,
+    error: Error,
+    call: impl Fn(&mut Unit<Vec<u16>>) -> Result<T>,
+) {
+    let before = unit.clone();
+    assert_eq!(call(unit), Err(error));
+    assert!(*unit == before, "{error}: something changed");
+}
+
+#[test]
+fn the_cases_worked_on_paper() -> Result<()> {
+    let mut unit = ready();
+    let pass = name("PASS");
+    let numbers = |unit: &Unit<Vec<u16>>| (unit.image()[9 * SECTOR], unit.image()[8 * SECTOR + 3]);
+    assert_eq!(numbers(&unit), (0x7800, 8), "P5");
+    refused(&mut unit, Error::DiscFull, |unit| {
+        unit.create(pass, 8, Attributes::NONE)
+    });
+    unit.create(pass, 2, Attributes::EXTENDABLE)?;
+    assert_eq!(numbers(&unit), (0x1800, 4), "P6");
+    assert_eq!(unit.image()[12 * SECTOR..][..3], [1, 4, 12]);
+    unit.create_area(pass)?;
+    unit.reserve(pass, 7, Role::Sharing)?;
+    unit.position(pass, 7, 2)?;
+    assert_eq!(unit.write_block(pass, 7, &[2; SECTOR])?, 2);
+    assert_eq!(unit.write_block(pass, 7, &[3; SECTOR])?, 3);
+    assert_eq!(unit.image()[12 * SECTOR..][..3], [1, 6, 12], "P7");
+    assert_eq!(numbers(&unit), (0x0800, 2));
+    let booked = unit.look_up(pass)?;
+    assert_eq!((booked.length(), booked.reserved()), (2, 4));
+    unit.release(pass, 7)?;
+    unit.remove_area(pass)?;
+    let booked = unit.look_up(pass)?;
+    assert_eq!((booked.length(), booked.reserved()), (4, 6), "P8");
+    assert!(unit.is_sound());
+    Ok(())
+}
+
+#[test]
+fn a_unit_that_is_not_initialized_or_unknown_is_refused() {
+    let pass = name("PASS");
+    let uninitialized = Unit::formatted(&record()).expect("a legal record");
+    let unknown = Unit::new(ready().into_image(), 4);
+    let far = Unit::new(ready().into_image(), 0x100);
+    for mut unit in [uninitialized, unknown, far] {
+        refused(&mut unit, Error::CatalogParameter, |unit| {
+            unit.look_up(pass)
+        });
+        refused(&mut unit, Error::CatalogParameter, |unit| unit.list());
+        refused(&mut unit, Error::CatalogParameter, |unit| unit.describe());
+        refused(&mut unit, Error::AreaIllegal, |unit| unit.create_area(pass));
+        refused(&mut unit, Error::AreaIllegal, |unit| unit.sense(pass, 7));
+    }
+}
+
+#[test]
+fn format_and_init_judge_record_and_image() {
+    let mut unit = Unit::new(vec![7; record().image_words()], 0);
+    refused(&mut unit, Error::CatalogUnsound, Unit::init);
+    let other = Record::new(1, 1, 2, 20, 10);
+    refused(&mut unit, Error::CatalogParameter, |unit| {
+        unit.format(&other)
+    });
+    let odd = Record::new(0, 1, 2, 21, 10);
+    refused(&mut unit, Error::CatalogParameter, |unit| unit.format(&odd));
+    assert_eq!(unit.format_words(&record().words(), 17), 0x1080);
+    assert_eq!(unit.format_words(&record().words()[..8], 18), 0x1080);
+    assert_eq!(unit.format(&record()), Ok(()));
+    assert!(unit.is_sound() && !unit.state().is_initialized());
+    assert_eq!(
+        unit.image()[..6 * SECTOR],
+        vec![7; 6 * SECTOR],
+        "sectors 0 to 5"
+    );
+    assert_eq!(unit.init(), Ok(()));
+    assert!(unit.state().is_initialized());
+    assert_eq!(Unit::formatted(&odd).err(), Some(Error::CatalogParameter));
+    let mut unit = opened();
+    refused(&mut unit, Error::CatalogParameter, Unit::init);
+    refused(&mut unit, Error::CatalogParameter, |unit| {
+        unit.format(&record())
+    });
+}
+
+#[test]
+fn set_enters_a_file_with_the_words_of_its_entry() -> Result<()> {
+    let mut unit = ready();
+    let gate = name("GATE");
+    let entry = Entry::for_set(1, Attributes::PERMANENT)
+        .with_optional([1, 2, 3])
+        .with_tail([4, 5, 6, 7, 8, 9]);
+    unit.set(gate, &entry)?;
+    let mut expected = [
+        0x4741, 0x5445, 0, 1, 2, 3, 0x0010, 1, 12, 2, 4, 5, 6, 7, 8, 9,
+    ];
+    assert_eq!(unit.look_up(gate)?.words(), expected);
+    refused(&mut unit, Error::EntryExists, |unit| unit.set(gate, &entry));
+    let both = Entry::for_set(0, Attributes::ENTRY_ONLY | Attributes::EXTENDABLE);
+    refused(&mut unit, Error::CatalogParameter, |unit| {
+        unit.set(name("A"), &both)
+    });
+    refused(&mut unit, Error::CatalogParameter, |unit| unit.remove(gate));
+    refused(&mut unit, Error::CatalogParameter, |unit| {
+        unit.rename(gate, name("DOOR"))
+    });
+    let open = Entry::for_change(&entry).with_attributes(Attributes::NONE);
+    unit.change(gate, &open)?;
+    expected[6] = 0;
+    assert_eq!(unit.look_up(gate)?.words(), expected);
+    unit.remove(gate)
+}
+
+#[test]
+fn a_file_is_renamed_and_resized_and_keeps_the_rest() -> Result<()> {
+    let mut unit = ready();
+    let (pass, week) = (name("PASS"), name("WEEK"));
+    let entry = Entry::for_set(2, Attributes::EXTENDABLE).with_tail([9; 6]);
+    unit.set(pass, &entry)?;
+    unit.rename(pass, week)?;
+    refused(&mut unit, Error::NoEntry, |unit| unit.look_up(pass));
+    unit.resize(week, 4)?;
+    let expected = [
+        0x5745, 0x454B, 0, 0, 0, 0, 0x0001, 4, 12, 6, 9, 9, 9, 9, 9, 9,
+    ];
+    assert_eq!(unit.look_up(week)?.words(), expected);
+    refused(&mut unit, Error::DiscFull, |unit| unit.resize(week, 8));
+    refused(&mut unit, Error::EntryExists, |unit| {
+        unit.rename(week, Name::SYS)
+    });
+    refused(&mut unit, Error::CatalogParameter, |unit| {
+        unit.rename(Name::SYS, pass)
+    });
+    refused(&mut unit, Error::CatalogParameter, |unit| {
+        unit.remove(Name::MAP)
+    });
+    refused(&mut unit, Error::NoEntry, |unit| {
+        unit.rename(pass, name("DAY"))
+    });
+    unit.resize(week, 0)?;
+    let emptied = unit.look_up(week)?;
+    assert_eq!(
+        (emptied.length(), emptied.index(), emptied.reserved()),
+        (0, 0, 0)
+    );
+    Ok(())
+}
+
+#[test]
+fn eight_areas_and_no_more() -> Result<()> {
+    let mut unit = ready();
+    let files: Vec<Name> = (0..9).map(|k| name(&format!("F{k}"))).collect();
+    for file in &files {
+        unit.create(*file, 0, Attributes::NONE)?;
+    }
+    for file in &files[..8] {
+        unit.create_area(*file)?;
+        unit.create_area(*file)?;
+    }
+    let open: Vec<Name> = unit.state().areas().map(|area| area.name).collect();
+    assert_eq!(open, files[..8]);
+    refused(&mut unit, Error::AreaFull, |unit| {
+        unit.create_area(files[8])
+    });
+    refused(&mut unit, Error::AreaIllegal, |unit| {
+        unit.create_area(Name::SYS)
+    });
+    refused(&mut unit, Error::NoArea, |unit| {
+        unit.create_area(name("NONE"))
+    });
+    refused(&mut unit, Error::CatalogParameter, |unit| {
+        unit.remove(files[0])
+    });
+    unit.remove_area(files[0])?;
+    unit.remove_area(files[0])?;
+    unit.remove(files[0])?;
+    unit.create_area(files[8])
+}
+
+#[test]
+fn users_and_roles() -> Result<()> {
+    let mut unit = opened();
+    let pass = name("PASS");
+    refused(&mut unit, Error::NotUserOrPastEnd, |unit| {
+        unit.reserve(pass, 0, Role::Sharing)
+    });
+    refused(&mut unit, Error::NotUserOrPastEnd, |unit| {
+        unit.release(pass, 8)
+    });
+    refused(&mut unit, Error::NotUserOrPastEnd, |unit| {
+        unit.sense(pass, 8)
+    });
+    unit.reserve(pass, 8, Role::ExclusiveWriter)?;
+    unit.reserve(pass, 9, Role::Sharing)?;
+    refused(&mut unit, Error::UsersOrIndexFull, |unit| {
+        unit.reserve(pass, 10, Role::Sharing)
+    });
+    refused(&mut unit, Error::AreaIllegal, |unit| {
+        unit.reserve(pass, 7, Role::ExclusiveWriter)
+    });
+    refused(&mut unit, Error::AreaIllegal, |unit| {
+        unit.reserve(pass, 7, Role::ExclusiveUser)
+    });
+    refused(&mut unit, Error::AreaIllegal, |unit| {
+        unit.write_block(pass, 7, &[1; SECTOR])
+    });
+    for sender in [8, 9] {
+        unit.release(pass, sender)?;
+    }
+    unit.reserve(pass, 7, Role::ExclusiveUser)?;
+    refused(&mut unit, Error::AreaReserved, |unit| {
+        unit.reserve(pass, 8, Role::Sharing)
+    });
+    let area = unit.state().area(pass).expect("PASS is open");
+    assert_eq!((area.length, area.index, area.users.len()), (2, 12, 1));
+    let user = area.users[0];
+    assert_eq!(
+        (user.id, user.role, user.opens),
+        (7, Role::ExclusiveUser, 2)
+    );
+    unit.remove_area(pass)?;
+    assert!(
+        unit.state().area(pass).is_some(),
+        "an area with users stays"
+    );
+    unit.sense(pass, 7)
+}
+
+#[test]
+fn a_refused_position_still_moves() -> Result<()> {
+    let mut unit = opened();
+    let pass = name("PASS");
+    unit.position(pass, 7, 1)?;
+    assert_eq!(position(&unit, 7), 1);
+    assert_eq!(unit.position(pass, 7, 3), Err(Error::NotUserOrPastEnd));
+    assert_eq!(position(&unit, 7), 2, "the length");
+    assert_eq!(unit.position(pass, 7, 0x8000), Err(Error::AreaIllegal));
+    assert_eq!(position(&unit, 7), 0);
+    let words = &mut [0; SECTOR];
+    assert_eq!(
+        unit.read_block_at(pass, 7, 2, words),
+        Err(Error::NotUserOrPastEnd)
+    );
+    assert_eq!(position(&unit, 7), 2);
+    Ok(())
+}
+
+#[test]
+fn blocks_are_written_and_read() -> Result<()> {
+    let mut unit = opened();
+    let pass = name("PASS");
+    let words = &mut [9; SECTOR];
+    assert_eq!(unit.read_block(pass, 7, words)?, 0);
+    assert_eq!(*words, [0; SECTOR], "a new file's block");
+    assert_eq!(unit.write_block_checked(pass, 7, &[1; SECTOR])?, 1);
+    assert_eq!(unit.write_block_at(pass, 7, 0, &[2; SECTOR])?, 0);
+    assert_eq!(unit.read_block(pass, 7, words)?, 1);
+    assert_eq!(*words, [1; SECTOR]);
+    assert_eq!(unit.read_block_at(pass, 7, 0, words)?, 0);
+    assert_eq!(*words, [2; SECTOR]);
+    // Sector 12 has the index, so block 0 is sector 13.
+    assert_eq!(unit.image()[13 * SECTOR..14 * SECTOR], [2; SECTOR]);
+    // The last slices: blocks 2 to 6 are appended, then no slice is free.
+    unit.position(pass, 7, 2)?;
+    for block in 2..7 {
+        assert_eq!(unit.write_block(pass, 7, &[block; SECTOR])?, block);
+    }
+    refused(&mut unit, Error::AreaFull, |unit| {
+        unit.write_block(pass, 7, &[7; SECTOR])
+    });
+    assert_eq!(unit.state().area(pass).map(|area| area.length), Some(7));
+    Ok(())
+}
+
+#[test]
+fn output_is_refused_on_protected_and_fixed_files() -> Result<()> {
+    let mut unit = ready();
+    let (fixed, closed) = (name("FIXED"), name("SHUT"));
+    unit.create(fixed, 1, Attributes::NONE)?;
+    unit.create(
+        closed,
+        1,
+        Attributes::WRITE_PROTECTED | Attributes::EXTENDABLE,
+    )?;
+    for file in [fixed, closed] {
+        unit.create_area(file)?;
+        unit.reserve(file, 7, Role::Sharing)?;
+    }
+    refused(&mut unit, Error::WriteProtected, |unit| {
+        unit.write_block(closed, 7, &[1; SECTOR])
+    });
+    unit.write_block(fixed, 7, &[1; SECTOR])?;
+    refused(&mut unit, Error::AreaIllegal, |unit| {
+        unit.write_block(fixed, 7, &[1; SECTOR])
+    });
+    Ok(())
+}
+
+#[test]
+fn description_and_listing() -> Result<()> {
+    let mut unit = ready();
+    unit.create(name("PASS"), 2, Attributes::EXTENDABLE)?;
+    let expected = Description {
+        unit: 0,
+        sys_size: 1,
+        slice_size: 2,
+        sectors: 20,
+        free: 4,
+    };
+    assert_eq!(unit.describe()?, expected);
+    let mut listed: Vec<[u16; 16]> = unit.list()?.iter().map(Entry::words).collect();
+    listed.sort();
+    let entry = |name: [u16; 2], rest: [u16; 4]| {
+        let mut words = [0; 16];
+        words[..2].copy_from_slice(&name);
+        words[6..10].copy_from_slice(&rest);
+        words
+    };
+    let expected = [
+        entry([0x4D41, 0x5000], [0x8010, 1, 7, 1]),
+        entry([0x5041, 0x5353], [0x0001, 2, 12, 4]),
+        entry([0x5359, 0x5300], [0x8010, 1, 6, 2]),
+    ];
+    assert_eq!(listed, expected);
+    Ok(())
+}
+
+#[test]
+fn a_damaged_image_is_refused_by_every_call() {
+    let mut unit = opened();
+    let pass = name("PASS");
+    unit.image_mut()[9 * SECTOR] ^= 0x8000;
+    assert!(!unit.is_sound());
+    refused(&mut unit, Error::CatalogUnsound, |unit| unit.look_up(pass));
+    refused(&mut unit, Error::CatalogUnsound, |unit| unit.list());
+    refused(&mut unit, Error::AreaUnsound, |unit| unit.remove_area(pass));
+    refused(&mut unit, Error::AreaUnsound, |unit| {
+        unit.write_block(pass, 7, &[1; SECTOR])
+    });
+    let (image, state) = unit.into_parts();
+    let mut unit = Unit::new(image, state.unit());
+    refused(&mut unit, Error::CatalogUnsound, Unit::init);
+}
+
+#[test]
+fn any_message_with_any_lent_words() {
+    let mut unit = opened();
+    let words = name("PASS").on_unit(0);
+    let look_up = Message::LookUp { name: words };
+    assert_eq!(unit.perform(&look_up, &mut [0; 15]).result, 0x1200);
+    let mut lent = [7; 18];
+    assert_eq!(unit.perform(&look_up, &mut lent), Answer::default());
+    assert_eq!(
+        (lent[0], lent[7], lent[16..].to_vec()),
+        (0x5041, 2, vec![7, 7])
+    );
+    let operation = Operation::Transput {
+        operation: 5,
+        bytes: 512,
+        block: 1,
+    };
+    let input = Message::AreaMessage {
+        name: words,
+        sender: 7,
+        operation,
+    };
+    let expected = Answer {
+        bytes: 512,
+        block: 1,
+        ..Answer::default()
+    };
+    assert_eq!(unit.perform(&input, &mut [0; 300]), expected);
+    let short = Answer {
+        result: 0x0880,
+        block: 2,
+        ..Answer::default()
+    };
+    assert_eq!(
+        unit.perform(&input, &mut [0; 255]),
+        short,
+        "the position is handed back"
+    );
+    let other = Operation::Other(9);
+    let unknown = Message::AreaMessage {
+        name: words,
+        sender: 7,
+        operation: other,
+    };
+    assert_eq!(unit.perform(&unknown, &mut []).result, 0x0A00);
+    let listing = Message::Listing { unit: 0 };
+    let mut lent = [0; 3 * 16];
+    assert_eq!(unit.perform(&listing, &mut lent).entries, 3);
+    assert_eq!(unit.perform(&listing, &mut lent[1..]).result, 0x1200);
+    let description = Message::UnitDescription { unit: 0, bytes: 32 };
+    assert_eq!(unit.perform(&description, &mut lent).bytes, 32);
+}
+
+#[test]
+fn an_image_may_be_borrowed_and_handed_on() -> Result<()> {
+    let mut image = vec![0; record().image_words()];
+    let pass = name("PASS");
+    let mut unit = Unit::new(&mut image[..], 0);
+    unit.format(&record())?;
+    unit.init()?;
+    unit.create(pass, 2, Attributes::EXTENDABLE)?;
+    unit.create_area(pass)?;
+    let (_, state) = unit.into_parts();
+    assert!(is_sound(&image, &state));
+    let mut unit = Unit::with_state(&mut image, state);
+    unit.reserve(pass, 7, Role::Sharing)?;
+    unit.write_block_at(pass, 7, 2, &[5; SECTOR])?;
+    unit.release(pass, 7)?;
+    unit.remove_area(pass)?;
+    let state = unit.into_parts().1;
+    assert_eq!(State::from(*state.raw()), state);
+    let mut owned = Unit::new(image, 0);
+    owned.init()?;
+    assert_eq!(owned.look_up(pass)?.length(), 3);
+    assert_eq!(owned.into_image().len(), 5_120);
+    Ok(())
+}
+
+#[test]
+fn an_image_of_another_length_is_refused() {
+    let whole = ready().into_image();
+    for words in [0, 1, 9 * SECTOR, 10 * SECTOR, whole.len() - 1] {
+        let mut unit = Unit::new(whole[..words].to_vec(), 0);
+        assert!(!unit.is_sound(), "{words} words");
+        refused(&mut unit, Error::CatalogUnsound, Unit::init);
+        refused(&mut unit, Error::CatalogParameter, |unit| {
+            unit.format(&record())
+        });
+    }
+    let longer = [whole, vec![0]].concat();
+    refused(&mut Unit::new(longer, 0), Error::CatalogUnsound, Unit::init);
+}
+
+#[test]
+fn words_beside_the_image_and_beside_the_lent_ones_are_kept() -> Result<()> {
+    const GUARD: usize = 300;
+    let words = record().image_words();
+    let mut around = vec![0xA5A5; words + 2 * GUARD];
+    let mut unit = Unit::new(&mut around[GUARD..GUARD + words], 0);
+    unit.format(&record())?;
+    unit.init()?;
+    unit.create(name("PASS"), 7, Attributes::NONE)?;
+    let mut lent = vec![0xA5A5; 3 * 16 + 2 * GUARD];
+    let answer = unit.perform(
+        &Message::Listing { unit: 0 },
+        &mut lent[GUARD..GUARD + 3 * 16],
+    );
+    assert_eq!(answer.entries, 3);
+    for buffer in [around, lent] {
+        let (between, after) = buffer[GUARD..].split_at(buffer.len() - 2 * GUARD);
+        let outside = buffer[..GUARD].iter().chain(after);
+        assert!(outside.into_iter().all(|word| *word == 0xA5A5));
+        // The listing fills all of its words, and PASS has the last sector.
+        assert_ne!(between.last(), Some(&0xA5A5));
+    }
+    Ok(())
+}

@@ -1,0 +1,256 @@
+//! The command line: which commands there are, and what was given to one.
+
+use std::ffi::{OsStr, OsString};
+use std::path::Path;
+
+use ruzkemp::{Attributes, Name};
+
+use crate::failure::{Failure, Outcome};
+use crate::host::is_same;
+use crate::values::{self, ATTRIBUTES};
+
+/// An option of a command.
+pub struct Choice {
+    /// Its name, with the two dashes.
+    pub name: &'static str,
+    /// What its value stands for, if it has one.
+    pub value: Option<&'static str>,
+    /// What it does.
+    pub help: &'static str,
+}
+
+/// An option with a value.
+pub const fn valued(name: &'static str, value: &'static str, help: &'static str) -> Choice {
+    Choice {
+        name,
+        value: Some(value),
+        help,
+    }
+}
+
+/// An option without a value.
+pub const fn flag(name: &'static str, help: &'static str) -> Choice {
+    Choice {
+        name,
+        value: None,
+        help,
+    }
+}
+
+/// The unit number, which every command on an image takes.
+pub const UNIT: Choice = valued("--unit", "N", "the unit's number, 0 to 3 (0 if not given)");
+
+/// A command.
+pub struct Command {
+    /// Its name.
+    pub name: &'static str,
+    /// Its operands; one that ends in `...` stands for one or more, and is the last.
+    pub operands: &'static [&'static str],
+    /// Its options.
+    pub choices: &'static [Choice],
+    /// What it does, in a line.
+    pub summary: &'static str,
+    /// What else is to be known.
+    pub about: &'static str,
+    /// Does it.
+    pub run: fn(&Given) -> Outcome,
+}
+
+impl Command {
+    /// The command line in short.
+    pub fn usage(&self) -> String {
+        let mut usage = format!("ruzkemp {}", self.name);
+        for operand in self.operands {
+            usage.push(' ');
+            usage.push_str(operand);
+        }
+        if !self.choices.is_empty() {
+            usage.push_str(" [OPTIONS]");
+        }
+        usage
+    }
+
+    /// The page that `--help` prints.
+    pub fn page(&self) -> String {
+        let mut page = format!("Usage: {}\n\n{}.\n", self.usage(), self.summary);
+        if !self.about.is_empty() {
+            page.push_str(&format!("\n{}\n", self.about));
+        }
+        page.push_str("\nOptions:\n");
+        for choice in self.choices {
+            let value = choice
+                .value
+                .map_or(String::new(), |value| format!(" {value}"));
+            let left = format!("{}{value}", choice.name);
+            page.push_str(&format!("  {left:<20} {}\n", choice.help));
+        }
+        page.push_str(&format!("  {:<20} print this page\n", "--help"));
+        page
+    }
+
+    /// Whether a number of operands is right.
+    fn takes(&self, given: usize) -> bool {
+        let many = self
+            .operands
+            .last()
+            .is_some_and(|last| last.ends_with("..."));
+        given == self.operands.len() || many && given > self.operands.len()
+    }
+
+    fn misused(&self, what: String) -> Failure {
+        Failure::Usage(format!(
+            "{}: {what}\nUsage: {} (see ruzkemp {} --help)",
+            self.name,
+            self.usage(),
+            self.name
+        ))
+    }
+}
+
+/// What was given to a command.
+pub struct Given {
+    command: &'static Command,
+    operands: Vec<OsString>,
+    options: Vec<(&'static str, OsString)>,
+}
+
+impl Given {
+    /// Takes a command's arguments apart; none if help is asked for.
+    pub fn new(command: &'static Command, arguments: &[OsString]) -> Outcome<Option<Given>> {
+        let mut given = Given {
+            command,
+            operands: Vec::new(),
+            options: Vec::new(),
+        };
+        let mut rest = arguments.iter();
+        while let Some(argument) = rest.next() {
+            match argument.to_str() {
+                Some("--help" | "-h") => return Ok(None),
+                Some("--") => given.operands.extend(rest.by_ref().cloned()),
+                Some(option) if option.starts_with('-') && option != "-" => {
+                    given.option(option, &mut rest)?;
+                }
+                _ => given.operands.push(argument.clone()),
+            }
+        }
+        if !command.takes(given.operands.len()) {
+            let wanted = command.operands.join(" ");
+            return Err(command.misused(format!("it takes the operands {wanted}")));
+        }
+        Ok(Some(given))
+    }
+
+    /// Takes in an option, as `--name`, `--name value` or `--name=value`.
+    fn option<'a>(&mut self, text: &str, rest: &mut impl Iterator<Item = &'a OsString>) -> Outcome {
+        let misused = |what: String| self.command.misused(what);
+        let (name, attached) = match text.split_once('=') {
+            Some((name, value)) => (name, Some(OsString::from(value))),
+            None => (text, None),
+        };
+        let choice = self
+            .command
+            .choices
+            .iter()
+            .find(|choice| choice.name == name);
+        let choice = choice.ok_or_else(|| misused(format!("there is no option {name}")))?;
+        if self.flag(choice.name) {
+            return Err(misused(format!("{name} is given twice")));
+        }
+        let value = match (choice.value, attached) {
+            (None, Some(_)) => return Err(misused(format!("{name} takes no value"))),
+            (None, None) => OsString::new(),
+            (Some(_), Some(value)) => value,
+            (Some(value), None) => {
+                let next = rest.next().cloned();
+                next.ok_or_else(|| misused(format!("{name} needs a value {value}")))?
+            }
+        };
+        self.options.push((choice.name, value));
+        Ok(())
+    }
+
+    /// Whether an option is given.
+    pub fn flag(&self, name: &str) -> bool {
+        self.options.iter().any(|(given, _)| *given == name)
+    }
+
+    /// Whether no option but this one is given.
+    pub fn only(&self, name: &str) -> bool {
+        self.options.iter().all(|(given, _)| *given == name)
+    }
+
+    /// An option's value as it was given.
+    pub fn raw(&self, name: &str) -> Option<&OsStr> {
+        let found = self.options.iter().find(|(given, _)| *given == name);
+        found.map(|(_, value)| value.as_os_str())
+    }
+
+    /// An option's value, read.
+    pub fn value<T>(
+        &self,
+        name: &str,
+        read: impl Fn(&str) -> Result<T, String>,
+    ) -> Outcome<Option<T>> {
+        let Some(raw) = self.raw(name) else {
+            return Ok(None);
+        };
+        let text = raw.to_string_lossy();
+        let value = read(&text).map_err(|wrong| self.misused(format!("{name}: {wrong}")))?;
+        Ok(Some(value))
+    }
+
+    /// The value of an option that has to be given.
+    pub fn needed<T>(&self, name: &str, read: impl Fn(&str) -> Result<T, String>) -> Outcome<T> {
+        let value = self.value(name, read)?;
+        value.ok_or_else(|| self.misused(format!("{name} has to be given")))
+    }
+
+    /// A failure that says how the command is used.
+    pub fn misused(&self, what: String) -> Failure {
+        self.command.misused(what)
+    }
+
+    /// An operand that is a path.
+    pub fn path(&self, place: usize) -> &Path {
+        Path::new(&self.operands[place])
+    }
+
+    /// Refuses to write over the image, which the first operand is.
+    pub fn not_the_image(&self, path: &Path) -> Outcome {
+        match is_same(path, self.path(0)) {
+            true => Err(self.misused(format!("{} is the image itself", path.display()))),
+            false => Ok(()),
+        }
+    }
+
+    /// The operands from one on.
+    pub fn operands_from(&self, place: usize) -> std::ops::Range<usize> {
+        place..self.operands.len()
+    }
+
+    /// An operand that is a file's name.
+    pub fn name(&self, place: usize) -> Outcome<Name> {
+        self.read_name(&self.operands[place].to_string_lossy())
+    }
+
+    /// A file's name.
+    pub fn read_name(&self, text: &str) -> Outcome<Name> {
+        Name::new(text).map_err(|wrong| self.misused(format!("'{text}' is no name: {wrong}")))
+    }
+
+    /// The unit's number.
+    pub fn unit(&self) -> Outcome<u16> {
+        Ok(self.value("--unit", values::unit)?.unwrap_or(0))
+    }
+
+    /// The attributes: a word, or one option for each; none if no option is given.
+    pub fn attributes(&self) -> Outcome<Option<Attributes>> {
+        let mut given = self.value("--attributes", values::attributes)?;
+        for (name, bit) in ATTRIBUTES {
+            if self.flag(&format!("--{name}")) {
+                given = Some(given.unwrap_or_default() | bit);
+            }
+        }
+        Ok(given)
+    }
+}

@@ -1,0 +1,179 @@
+//! Commands that change the catalog: `create`, `set`, `change`, `rename`, `rm`.
+
+use ruzkemp::{Call, Entry, Name};
+
+use crate::arguments::{flag, valued, Choice, Command, Given, UNIT};
+use crate::console::print;
+use crate::failure::Outcome;
+use crate::session::Session;
+use crate::values::{number, words};
+
+const SIZE: Choice = valued("--size", "N", "the length in sectors (0 if not given)");
+const ATTRIBUTES: Choice = valued(
+    "--attributes",
+    "A",
+    "the attributes: a word, or names joined by +",
+);
+const EXTENDABLE: Choice = flag("--extendable", "attribute: output at the end appends");
+const PERMANENT: Choice = flag("--permanent", "attribute: not removed, renamed or resized");
+const PROTECTED: Choice = flag("--write-protected", "attribute: no output");
+const ENTRY_ONLY: Choice = flag("--entry-only", "attribute: an entry without sectors");
+const OPTIONAL: Choice = valued("--optional", "W,W,W", "the three optional words");
+const TAIL: Choice = valued("--tail", "W,..", "the six words of the tail");
+
+/// `create`.
+pub const CREATE: Command = Command {
+    name: "create",
+    operands: &["IMAGE", "NAME"],
+    choices: &[
+        SIZE, ATTRIBUTES, EXTENDABLE, PERMANENT, PROTECTED, ENTRY_ONLY, UNIT,
+    ],
+    summary: "Enter a new file of zero sectors",
+    about: "Sends Create Entry. Without attributes the file has a fixed length.",
+    run: create,
+};
+
+/// `set`.
+pub const SET: Command = Command {
+    name: "set",
+    operands: &["IMAGE", "NAME"],
+    choices: &[
+        SIZE, ATTRIBUTES, EXTENDABLE, PERMANENT, PROTECTED, ENTRY_ONLY, OPTIONAL, TAIL, UNIT,
+    ],
+    summary: "Enter a new file with its optional and tail words",
+    about: "Sends Set Entry: as create, and the words that are the caller's own are given too\n\
+            (zero if not given).",
+    run: set,
+};
+
+/// `change`.
+pub const CHANGE: Command = Command {
+    name: "change",
+    operands: &["IMAGE", "NAME"],
+    choices: &[
+        valued("--name", "NEW", "another name"),
+        valued("--size", "N", "another length in sectors"),
+        ATTRIBUTES,
+        EXTENDABLE,
+        PERMANENT,
+        PROTECTED,
+        ENTRY_ONLY,
+        OPTIONAL,
+        TAIL,
+        UNIT,
+    ],
+    summary: "Change a file's name, length, attributes or words",
+    about:
+        "Sends Look-up Entry and Change Entry. What is not given is kept. The attributes given\n\
+            replace all others (--attributes none takes all away).",
+    run: change,
+};
+
+/// `rename`.
+pub const RENAME: Command = Command {
+    name: "rename",
+    operands: &["IMAGE", "OLD", "NEW"],
+    choices: &[UNIT],
+    summary: "Give a file another name",
+    about: "Sends Look-up Entry and Change Entry.",
+    run: rename,
+};
+
+/// `rm`.
+pub const RM: Command = Command {
+    name: "rm",
+    operands: &["IMAGE", "NAME..."],
+    choices: &[UNIT],
+    summary: "Remove files",
+    about: "Sends Remove Entry for each name. If one is refused, none is removed.",
+    run: rm,
+};
+
+fn create(given: &Given) -> Outcome {
+    let name = given.name(1)?;
+    let size = given.value("--size", number)?.unwrap_or(0);
+    let attributes = given.attributes()?.unwrap_or_default();
+    let mut session = Session::to_change(given)?;
+    session.call(Call::Create, name, |unit| {
+        unit.create(name, size, attributes)
+    })?;
+    entered(session, name)
+}
+
+fn set(given: &Given) -> Outcome {
+    let name = given.name(1)?;
+    let size = given.value("--size", number)?.unwrap_or(0);
+    let entry = Entry::for_set(size, given.attributes()?.unwrap_or_default());
+    let entry = with_own_words(given, entry)?;
+    let mut session = Session::to_change(given)?;
+    session.call(Call::Set, name, |unit| unit.set(name, &entry))?;
+    entered(session, name)
+}
+
+/// Writes back and says what is entered now.
+fn entered(mut session: Session, name: Name) -> Outcome {
+    let entry = session.call(Call::LookUp, name, |unit| unit.look_up(name))?;
+    session.write_back()?;
+    let (length, reserved) = (entry.length(), entry.reserved());
+    print(&format!(
+        "{name}: entered, length {length}, reserved {reserved}\n"
+    ))
+}
+
+fn change(given: &Given) -> Outcome {
+    let name = given.name(1)?;
+    let new = given
+        .raw("--name")
+        .map(|text| given.read_name(&text.to_string_lossy()));
+    let new = new.transpose()?;
+    if given.only("--unit") {
+        return Err(given.misused("there is nothing to change".into()));
+    }
+    let mut session = Session::to_change(given)?;
+    let current = session.call(Call::LookUp, name, |unit| unit.look_up(name))?;
+    let mut entry = with_own_words(given, Entry::for_change(&current))?;
+    if let Some(new) = new {
+        entry = entry.with_name(new);
+    }
+    if let Some(size) = given.value("--size", number)? {
+        entry = entry.with_size(size);
+    }
+    if let Some(attributes) = given.attributes()? {
+        entry = entry.with_attributes(attributes);
+    }
+    session.call(Call::Change, name, |unit| unit.change(name, &entry))?;
+    session.write_back()?;
+    print(&format!("{}: changed\n", new.unwrap_or(name)))
+}
+
+/// An entry with the optional words and the tail that are given.
+fn with_own_words(given: &Given, entry: Entry) -> Outcome<Entry> {
+    let optional = given.value("--optional", words::<3>)?;
+    let tail = given.value("--tail", words::<6>)?;
+    let entry = entry.with_optional(optional.unwrap_or(entry.optional()));
+    Ok(entry.with_tail(tail.unwrap_or(entry.tail())))
+}
+
+fn rename(given: &Given) -> Outcome {
+    let (old, new) = (given.name(1)?, given.name(2)?);
+    let mut session = Session::to_change(given)?;
+    let current = session.call(Call::LookUp, old, |unit| unit.look_up(old))?;
+    let entry = Entry::for_change(&current).with_name(new);
+    session.call(Call::Change, old, |unit| unit.change(old, &entry))?;
+    session.write_back()?;
+    print(&format!("{old}: renamed to {new}\n"))
+}
+
+fn rm(given: &Given) -> Outcome {
+    let places = given.operands_from(1);
+    let names: Vec<Name> = places
+        .map(|place| given.name(place))
+        .collect::<Outcome<_>>()?;
+    let mut session = Session::to_change(given)?;
+    for &name in &names {
+        session.call(Call::Remove, name, |unit| unit.remove(name))?;
+    }
+    session.write_back()?;
+    let lines = names.iter().map(|name| format!("{name}: removed\n"));
+    print(&lines.collect::<String>())
+}

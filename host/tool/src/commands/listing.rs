@@ -1,0 +1,107 @@
+//! `ls` and `show`: the files of a unit, and one of them.
+
+use ruzkemp::{Call, Entry};
+
+use crate::arguments::{flag, Command, Given, UNIT};
+use crate::console::print;
+use crate::failure::Outcome;
+use crate::host::SECTOR_BYTES;
+use crate::json;
+use crate::session::Session;
+use crate::values::count;
+use crate::view::{Holder, View};
+
+/// `ls`.
+pub const LS: Command = Command {
+    name: "ls",
+    operands: &["IMAGE"],
+    choices: &[flag("--json", "print JSON in place of a table"), UNIT],
+    summary: "List the files",
+    about: "Lengths and reserved lengths are in sectors. The order is that of the names.",
+    run: ls,
+};
+
+/// `show`.
+pub const SHOW: Command = Command {
+    name: "show",
+    operands: &["IMAGE", "NAME"],
+    choices: &[UNIT],
+    summary: "Show a file's entry and where its slices lie",
+    about: "Sends Look-up Entry.",
+    run: show,
+};
+
+fn ls(given: &Given) -> Outcome {
+    let view = View::of(&mut Session::to_read(given)?)?;
+    match given.flag("--json") {
+        true => print(&json::listing(&view)),
+        false => print(&table(&view)),
+    }
+}
+
+fn table(view: &View) -> String {
+    let mut text = String::from("NAME   LENGTH RESERVED  INDEX STRETCHES ATTRIBUTES\n");
+    for file in &view.files {
+        let entry = &file.entry;
+        text += &format!(
+            "{:<6} {:>6} {:>8} {:>6} {:>9} {}\n",
+            file.name,
+            entry.length(),
+            entry.reserved(),
+            entry.index(),
+            file.stretches.len(),
+            entry.attributes()
+        );
+    }
+    text + &format!(
+        "{} entries; {} of {} slices free ({} sectors)\n",
+        view.files.len(),
+        view.free_slices(),
+        view.slices(),
+        view.kit.free
+    )
+}
+
+fn show(given: &Given) -> Outcome {
+    let name = given.name(1)?;
+    let mut session = Session::to_read(given)?;
+    let entry = session.call(Call::LookUp, name, |unit| unit.look_up(name))?;
+    let view = View::of(&mut session)?;
+    let holder = view.files.iter().find(|file| file.name == name);
+    print(&shown(&view, &entry, holder))
+}
+
+fn shown(view: &View, entry: &Entry, holder: Option<&Holder>) -> String {
+    let hex = |words: &[u16]| {
+        let words: Vec<String> = words.iter().map(|word| format!("{word:04X}")).collect();
+        words.join(" ")
+    };
+    let name = entry.name();
+    let (length, attributes) = (entry.length(), entry.attributes());
+    let bytes = u64::from(length) * SECTOR_BYTES as u64;
+    let mut text = format!("name        {name}\n");
+    text += &format!("attributes  {:04X}h: {attributes}\n", attributes.bits());
+    text += &format!("length      {} ({bytes} bytes)\n", count(length, "sector"));
+    let reserved = count(entry.reserved(), "sector");
+    text += &format!("reserved    {reserved}\n");
+    text += &format!("index       sector {}\n", entry.index());
+    text += &format!(
+        "key         {}\n",
+        reference::layout::key(name.words(), view.kit.h)
+    );
+    text += &format!("optional    {}\n", hex(&entry.optional()));
+    text += &format!("tail        {}\n", hex(&entry.tail()));
+    for (number, stretch) in holder
+        .iter()
+        .flat_map(|file| file.stretches.iter().enumerate())
+    {
+        let (first, last) = view.sectors(stretch);
+        text += &format!(
+            "stretch {:<3} slices {} to {}, sectors {first} to {last}\n",
+            number + 1,
+            stretch.first,
+            stretch.last()
+        );
+    }
+    text
+}

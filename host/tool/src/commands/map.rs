@@ -1,0 +1,49 @@
+//! `map`: the slices drawn, in the terminal or as a picture.
+
+use std::path::Path;
+
+use crate::arguments::{flag, valued, Command, Given, UNIT};
+use crate::console::{colours, print};
+use crate::failure::Outcome;
+use crate::host::Replacement;
+use crate::session::Session;
+use crate::view::View;
+use crate::{picture, terminal};
+
+/// `map`.
+pub const MAP: Command = Command {
+    name: "map",
+    operands: &["IMAGE"],
+    choices: &[
+        valued(
+            "--svg",
+            "FILE",
+            "draw a picture into FILE (- is standard output)",
+        ),
+        flag("--force", "replace FILE if it exists"),
+        UNIT,
+    ],
+    summary: "Draw which slices are free, SYS's and each file's",
+    about:
+        "In the terminal each slice is one character: a file's letter where a stretch or a row\n\
+            begins, - where the stretch goes on, . if it is free. Colours are used on a terminal\n\
+            unless NO_COLOR is set.",
+    run: map,
+};
+
+fn map(given: &Given) -> Outcome {
+    let view = View::of(&mut Session::to_read(given)?)?;
+    let Some(path) = given.raw("--svg").map(Path::new) else {
+        return print(&terminal::map(&view, colours()));
+    };
+    let image = given.path(0).file_name().unwrap_or_default();
+    let drawn = picture::svg(&view, &image.to_string_lossy());
+    if path == Path::new("-") {
+        return print(&drawn);
+    }
+    given.not_the_image(path)?;
+    let mut file = Replacement::of(path, given.flag("--force"))?;
+    file.write(drawn.as_bytes())?;
+    file.commit()?;
+    print(&format!("{}: picture written\n", path.display()))
+}

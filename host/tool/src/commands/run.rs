@@ -1,0 +1,211 @@
+//! `run`: the messages of a script, one after the other.
+
+use std::fs;
+use std::io::{self, Read};
+use std::path::Path;
+
+use ruzkemp::{Answer, Call, Entry, Error, Message, Operation, Unit, ENTRY, SECTOR};
+
+use crate::arguments::{flag, Command, Given, UNIT};
+use crate::console::print;
+use crate::failure::{Failure, Outcome};
+use crate::host::bytes_of;
+use crate::script::{parse, Lent, Line, Show, Step};
+use crate::session::Session;
+
+/// `run`.
+pub const RUN: Command = Command {
+    name: "run",
+    operands: &["IMAGE", "SCRIPT"],
+    choices: &[
+        flag(
+            "--keep-going",
+            "a refusal that no line expects does not end the script",
+        ),
+        flag(
+            "--close",
+            "at the end release and remove the area processes left open",
+        ),
+        UNIT,
+    ],
+    summary: "Send the messages of a script (- is standard input) and print the answers",
+    about: "The image is written back at the end, if no line failed. A refusal ends the script\n\
+            unless its line begins with 'expect WORD'. Area processes live as long as the script:\n\
+            one that leaves some open fails, because their lengths would not be booked.\n\
+            docs/TOOL.md describes the messages and the answers.",
+    run,
+};
+
+fn run(given: &Given) -> Outcome {
+    let unit = given.unit()?;
+    let script = given.path(1);
+    let parsed = parse(&read(script)?, unit);
+    let lines = parsed.map_err(|wrong| Failure::Usage(format!("{}: {wrong}", script.display())))?;
+    let mut session = Session::uninitialized(given)?;
+    for line in &lines {
+        obey(&mut session.unit, line, given.flag("--keep-going"), print)?;
+    }
+    if given.flag("--close") {
+        close_all(&mut session.unit)?;
+    }
+    all_closed(&session.unit)?;
+    session.write_back()
+}
+
+fn read(path: &Path) -> Outcome<String> {
+    if path != Path::new("-") {
+        return fs::read_to_string(path).map_err(|error| Failure::host(path, error));
+    }
+    let mut text = String::new();
+    let read = io::stdin().read_to_string(&mut text);
+    read.map_err(|error| Failure::Host(format!("standard input: {error}")))?;
+    Ok(text)
+}
+
+/// Does what a line asks for and hands its answer to `tell`.
+pub fn obey(
+    unit: &mut Unit<Vec<u16>>,
+    line: &Line,
+    keep_going: bool,
+    tell: impl Fn(&str) -> Outcome,
+) -> Outcome {
+    let (answer, handed) = perform(unit, &line.step);
+    tell(&answer_line(
+        &line.number.to_string(),
+        &line.title,
+        line.step.call(),
+        &answer,
+        &handed,
+    ))?;
+    let what = format!("line {}, {}", line.number, line.title);
+    match (line.expected, Error::from_word(answer.result)) {
+        (Some(expected), _) if expected != answer.result => Err(Failure::Unexpected(format!(
+            "{what}: answered {:04X}h, and {expected:04X}h is expected",
+            answer.result
+        ))),
+        (None, Some(error)) if !keep_going => Err(Failure::refused(what, error, line.step.call())),
+        _ => Ok(()),
+    }
+}
+
+/// The answer to a step, and what is printed of the words handed back.
+fn perform(unit: &mut Unit<Vec<u16>>, step: &Step) -> (Answer, String) {
+    match step {
+        Step::Format(record, bytes) => {
+            let result = unit.format_words(record, *bytes);
+            let answer = Answer {
+                result,
+                ..Answer::default()
+            };
+            (answer, String::new())
+        }
+        Step::Send(message, lent, show) => {
+            let mut words = match lent {
+                Lent::Words(words) => words.clone(),
+                Lent::AsImage => vec![0; unit.image().len()],
+            };
+            let answer = unit.perform(message, &mut words);
+            let filled = match (answer.result, message) {
+                (0, Message::Listing { .. }) => answer.entries as usize * ENTRY,
+                (0, Message::AreaMessage { .. }) => SECTOR,
+                (0, _) => ENTRY,
+                _ => 0,
+            };
+            words.truncate(filled);
+            (answer, handed_back(&words, *show))
+        }
+    }
+}
+
+fn handed_back(words: &[u16], show: Show) -> String {
+    if words.is_empty() {
+        return String::new();
+    }
+    match show {
+        Show::None => String::new(),
+        Show::Words => {
+            let words: Vec<String> = words.iter().map(|word| format!("{word:04X}h")).collect();
+            format!(" words={}", words.join(","))
+        }
+        Show::Text => {
+            let bytes = bytes_of(words);
+            let used = bytes
+                .iter()
+                .rposition(|&byte| byte != 0)
+                .map_or(0, |last| last + 1);
+            format!(" text=\"{}\"", bytes[..used].escape_ascii())
+        }
+        Show::Names => {
+            let entries = words.chunks_exact(ENTRY);
+            let entry = |words: &[u16]| Entry::from_words(std::array::from_fn(|word| words[word]));
+            let names: Vec<String> = entries
+                .map(|words| entry(words).name().to_string())
+                .collect();
+            format!(" names={}", names.join(","))
+        }
+    }
+}
+
+/// An answer in the form that docs/TOOL.md describes.
+fn answer_line(place: &str, title: &str, call: Call, answer: &Answer, handed: &str) -> String {
+    let Answer {
+        result,
+        bytes,
+        block,
+        entries,
+    } = answer;
+    let meaning = match Error::from_word(*result) {
+        Some(error) => format!("  # {}", error.reasons(call).join(", or ")),
+        None => String::new(),
+    };
+    format!(
+        "{place} {title}: result={result:04X}h bytes={bytes} block={block} entries={entries}\
+         {handed}{meaning}\n"
+    )
+}
+
+/// Releases all users and removes all area processes, which books their lengths.
+fn close_all(unit: &mut Unit<Vec<u16>>) -> Outcome {
+    let areas: Vec<_> = unit.state().areas().collect();
+    for area in areas {
+        let name = area.name.on_unit(unit.number());
+        for user in &area.users {
+            let message = Message::AreaMessage {
+                name,
+                sender: user.id,
+                operation: Operation::Reserve(0),
+            };
+            for _ in 0..user.opens {
+                close(unit, &format!("release {}", area.name), &message)?;
+            }
+        }
+        let message = Message::RemoveArea { name };
+        close(unit, &format!("remove-area {}", area.name), &message)?;
+    }
+    Ok(())
+}
+
+fn close(unit: &mut Unit<Vec<u16>>, title: &str, message: &Message) -> Outcome {
+    let answer = unit.perform(message, &mut []);
+    print(&answer_line("end", title, message.call(), &answer, ""))?;
+    let refused = |error| Failure::refused(format!("at the end, {title}"), error, message.call());
+    Error::check(answer.result).map_err(refused)
+}
+
+/// Whether no area process is open: without the state, an image on which one is open need not
+/// be sound.
+pub fn all_closed(unit: &Unit<Vec<u16>>) -> Outcome {
+    let names: Vec<String> = unit
+        .state()
+        .areas()
+        .map(|area| area.name.to_string())
+        .collect();
+    match names.is_empty() {
+        true => Ok(()),
+        false => Err(Failure::Usage(format!(
+            "the script leaves area processes open ({}), whose lengths are not booked: nothing is \
+             written (remove-area books one, --close all)",
+            names.join(", ")
+        ))),
+    }
+}

@@ -1,0 +1,42 @@
+//! `sample`: a sample disc, made by a script through the same calls as any other.
+
+use ruzkemp::Unit;
+
+use crate::arguments::{flag, Command, Given, UNIT};
+use crate::commands::run::{all_closed, obey};
+use crate::console::print;
+use crate::failure::{Failure, Outcome};
+use crate::host::{bytes_of, Replacement};
+use crate::script::{parse, Step};
+
+/// The script that makes the sample disc.
+const SCRIPT: &str = include_str!("../sample.script");
+
+/// `sample`.
+pub const SAMPLE: Command = Command {
+    name: "sample",
+    operands: &["IMAGE"],
+    choices: &[flag("--force", "replace a file that exists"), UNIT],
+    summary: "Make a sample disc to try the other commands on",
+    about: "The files of a small ski area, some of them in several stretches. The script that\n\
+            makes it is host/tool/src/sample.script.",
+    run: sample,
+};
+
+fn sample(given: &Given) -> Outcome {
+    let number = given.unit()?;
+    let lines = parse(SCRIPT, number).map_err(Failure::Usage)?;
+    let words = lines.iter().find_map(|line| match line.step {
+        Step::Format(record, _) => Some(ruzkemp::Record::from_words(record).image_words()),
+        _ => None,
+    });
+    let mut file = Replacement::of(given.path(0), given.flag("--force"))?;
+    let mut unit = Unit::new(vec![0; words.unwrap_or(0)], number);
+    for line in &lines {
+        obey(&mut unit, line, false, |_| Ok(()))?;
+    }
+    all_closed(&unit)?;
+    file.write(&bytes_of(unit.image()))?;
+    file.commit()?;
+    print(&format!("{}: sample disc made\n", given.path(0).display()))
+}

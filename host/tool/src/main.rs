@@ -1,0 +1,93 @@
+//! `ruzkemp`: image files of RC3600 catalog units on the command line.
+//!
+//! Every change of an image is a call of the proved library (crate `ruzkemp`); the second
+//! implementation (crate `reference`) only reads. An image file is replaced in one step after
+//! all calls of a command have succeeded, so that an exit status other than 0 means that it is
+//! as it was.
+
+mod arguments;
+mod commands;
+mod console;
+mod failure;
+mod host;
+mod json;
+mod meaning;
+mod palette;
+mod picture;
+mod progress;
+mod script;
+mod session;
+mod terminal;
+mod values;
+mod view;
+
+use std::ffi::OsString;
+use std::io::Write;
+use std::process::ExitCode;
+
+use arguments::{Command, Given};
+use commands::COMMANDS;
+use failure::{Failure, Outcome};
+
+fn main() -> ExitCode {
+    host::outlive_size_limits();
+    let arguments: Vec<OsString> = std::env::args_os().skip(1).collect();
+    match begin(&arguments) {
+        Ok(()) => ExitCode::SUCCESS,
+        Err(failure) => {
+            // If this cannot be written either, the status still tells.
+            let _ = writeln!(std::io::stderr(), "ruzkemp: {failure}");
+            ExitCode::from(failure.status())
+        }
+    }
+}
+
+fn begin(arguments: &[OsString]) -> Outcome {
+    let Some((first, rest)) = arguments.split_first() else {
+        return Err(Failure::Usage(
+            "no command is given (see ruzkemp help)".into(),
+        ));
+    };
+    match (first.to_str(), rest) {
+        (Some("help" | "--help" | "-h"), []) => console::print(&overview()),
+        (Some("help"), [name]) => console::print(&command(name)?.page()),
+        (Some("--version" | "-V"), []) => {
+            console::print(concat!("ruzkemp ", env!("CARGO_PKG_VERSION"), "\n"))
+        }
+        _ => {
+            let command = command(first)?;
+            match Given::new(command, rest)? {
+                Some(given) => (command.run)(&given),
+                None => console::print(&command.page()),
+            }
+        }
+    }
+}
+
+fn command(name: &OsString) -> Outcome<&'static Command> {
+    let found = COMMANDS.iter().find(|command| name == command.name);
+    found.copied().ok_or_else(|| {
+        let name = name.to_string_lossy();
+        Failure::Usage(format!("there is no command '{name}' (see ruzkemp help)"))
+    })
+}
+
+/// The page that `ruzkemp help` prints.
+fn overview() -> String {
+    let mut page = String::from(
+        "ruzkemp: image files of RC3600 catalog units\n\n\
+         Usage: ruzkemp COMMAND IMAGE [ARGUMENTS] [--unit N]\n\nCommands:\n",
+    );
+    for command in COMMANDS {
+        page.push_str(&format!("  {:<8} {}\n", command.name, command.summary));
+    }
+    page.push_str(
+        "  help     this page; `ruzkemp COMMAND --help` for one command\n\n\
+         Numbers are decimal or base 16 (0x1F or 1Fh). An image file has 512 bytes a sector,\n\
+         the high byte of a word first. It is changed only where the exit status is 0.\n\n\
+         Exit status: 0 done; 1 refused by the unit (the result word is printed);\n\
+         2 wrong usage or script; 3 trouble with a host file; 4 not the image of a sound unit;\n\
+         5 the proved library and the second implementation disagree.\n",
+    );
+    page
+}

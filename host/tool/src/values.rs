@@ -1,0 +1,147 @@
+//! Numbers, names and attributes as a user writes them.
+
+use ruzkemp::{Attributes, NameWords};
+
+/// The attributes that have a name; bit 1 is carried without meaning and set by number only.
+pub const ATTRIBUTES: [(&str, Attributes); 4] = [
+    ("extendable", Attributes::EXTENDABLE),
+    ("permanent", Attributes::PERMANENT),
+    ("write-protected", Attributes::WRITE_PROTECTED),
+    ("entry-only", Attributes::ENTRY_ONLY),
+];
+
+/// A 16-bit word: decimal, or base 16 as `0x1F` or `1Fh`.
+pub fn number(text: &str) -> Result<u16, String> {
+    let lower = text.to_ascii_lowercase();
+    let (digits, base) = match (lower.strip_prefix("0x"), lower.strip_suffix('h')) {
+        (Some(digits), _) | (None, Some(digits)) => (digits, 16),
+        (None, None) => (lower.as_str(), 10),
+    };
+    let plain = !digits.is_empty() && digits.chars().all(|digit| digit.is_digit(base));
+    if !plain {
+        return Err(format!("'{text}' is no number (write 31, 0x1F or 1Fh)"));
+    }
+    u16::from_str_radix(digits, base).map_err(|_| format!("{text} does not fit in 16 bits"))
+}
+
+/// Words divided by commas, exactly so many.
+pub fn words<const N: usize>(text: &str) -> Result<[u16; N], String> {
+    let words = word_list(text)?;
+    let given = words.len();
+    let word = if N == 1 { "word" } else { "words" };
+    <[u16; N]>::try_from(words).map_err(|_| format!("{N} {word} expected, {given} given"))
+}
+
+/// Words divided by commas.
+pub fn word_list(text: &str) -> Result<Vec<u16>, String> {
+    text.split(',').map(number).collect()
+}
+
+/// A unit number as a message can carry it: it has one character.
+pub fn unit(text: &str) -> Result<u16, String> {
+    match number(text)? {
+        unit @ 0..=255 => Ok(unit),
+        unit => Err(format!(
+            "unit {unit} does not fit in a name's sixth character"
+        )),
+    }
+}
+
+/// The words of a name of one to five characters, with the unit as sixth. Whether its
+/// characters are legal is for the unit to say.
+pub fn name_words(text: &str, unit: u16) -> Result<NameWords, String> {
+    let fits = (1..=5).contains(&text.len()) && text.is_ascii();
+    if !fits {
+        return Err(format!(
+            "'{}' is no name: a name has one to five characters of ASCII",
+            text.escape_default()
+        ));
+    }
+    let mut characters = [0; 6];
+    characters[..text.len()].copy_from_slice(text.as_bytes());
+    let [a, b, c, d, e, _] = characters;
+    Ok([[a, b], [c, d], [e, unit as u8]].map(u16::from_be_bytes))
+}
+
+/// Attributes by number, or by name with `+` between them; `none` is 0.
+pub fn attributes(text: &str) -> Result<Attributes, String> {
+    if text == "none" {
+        return Ok(Attributes::NONE);
+    }
+    if text.starts_with(|first: char| first.is_ascii_digit()) {
+        return number(text).map(Attributes::from_bits);
+    }
+    let mut word = Attributes::NONE;
+    for part in text.split('+') {
+        let named = ATTRIBUTES.iter().find(|(name, _)| *name == part);
+        let (_, bit) = named.ok_or_else(|| format!("'{part}' is no attribute"))?;
+        word |= *bit;
+    }
+    Ok(word)
+}
+
+/// A number of things, in words.
+pub fn count(number: impl Into<u64>, thing: &str) -> String {
+    match number.into() {
+        1 => format!("1 {thing}"),
+        many => format!("{many} {thing}s"),
+    }
+}
+
+#[cfg(test)]
+mod tests {
+    use super::*;
+
+    #[test]
+    fn numbers_come_in_two_bases() {
+        for (text, wanted) in [
+            ("0", 0),
+            ("31", 31),
+            ("65535", 65_535),
+            ("0x1F", 31),
+            ("0X1f", 31),
+            ("1Fh", 31),
+            ("8010H", 0x8010),
+            ("0010h", 16),
+        ] {
+            assert_eq!(number(text), Ok(wanted), "{text}");
+        }
+    }
+
+    #[test]
+    fn what_is_no_number_is_refused() {
+        for text in [
+            "", "h", "0x", "-1", "+1", "1F", "65536", "10000h", "1 ", "0x+1", "12_0",
+        ] {
+            assert!(number(text).is_err(), "{text}");
+        }
+    }
+
+    #[test]
+    fn names_have_one_to_five_characters() {
+        assert_eq!(name_words("PASS", 3), Ok([0x5041, 0x5353, 0x0003]));
+        assert_eq!(name_words("ZZZZZ", 0), Ok([0x5A5A, 0x5A5A, 0x5A00]));
+        assert_eq!(name_words("1 b", 0), Ok([0x3120, 0x6200, 0]));
+        for text in ["", "ABCDEF", "Å"] {
+            assert!(name_words(text, 0).is_err(), "{text}");
+        }
+    }
+
+    #[test]
+    fn attributes_have_names() {
+        let bits = |text| attributes(text).map(Attributes::bits);
+        assert_eq!(bits("extendable+permanent"), Ok(0x0011));
+        assert_eq!(bits("write-protected+entry-only"), Ok(0x000C));
+        assert_eq!(bits("none"), Ok(0));
+        assert_eq!(bits("4001h"), Ok(0x4001));
+        assert!(attributes("extendible").is_err());
+    }
+
+    #[test]
+    fn word_lists_have_their_length() {
+        assert_eq!(words::<3>("1,2,0x3"), Ok([1, 2, 3]));
+        assert!(words::<3>("1,2").is_err());
+        assert!(words::<3>("1,2,3,4").is_err());
+        assert!(words::<3>("1,,3").is_err());
+    }
+}
