@@ -7,7 +7,7 @@
  * done is refused with a result word, and then nothing changes but, where said, the sender's position.
  *
  * Four rules for the caller: pointers are those of uint16_t or of the structs below, never null; state, image and lent words do not
- * overlap; nobody else uses them during a call; a call has 128 KiB of stack (it takes about 45).
+ * overlap; nobody else uses them during a call; a call has 128 KiB of stack (it takes about 40).
  *
  * The library is target/staticlib/libexport.a, made by `rt staticlib export`:
  *

@@ -1,11 +1,11 @@
 -- Laws of the filter: the bits of one name are added to its word, and those of other names stay.
 use mathlib.Core.Path.{_≡_, sym, ap, ap₂, _∙_, subst}
 use mathlib.Core.List.{List}
-use Prim.Native.Nat.{ℕ, _+_, _*_, _/_, _%_, _^_, _<_, min, max}
+use Prim.Native.Nat.{ℕ, _+_, _*_, _/_, _%_, _<_, min}
 use native.Mathlib.Omega.{arith}
 use native.Mathlib.Nat.{div-add-mod'}
 use lib.Arith.{bin-ind}
-use lib.Bits.{bitAnd, bitOr, and-step, or-step, and-zero-r, and-self, or-comm}
+use lib.Bits.{bitAnd, bitOr, and-step, or-step, and-zero-r, and-self, or-comm, or-add-and}
 use lib.Dec.{eqb}
 use lib.ListN.{length, getD, set, length-set}
 use lib.Seq.{getD-set-same, getD-set-other}
@@ -39,6 +39,10 @@ still-set = bin-ind (λ (p : ℕ). (w m : ℕ) → bitAnd w p ≡ p → bitAnd (
 now-set : (w m : ℕ) → bitAnd (bitOr w m) m ≡ m
 now-set w m = ap (λ (x : ℕ). bitAnd x m) (or-comm w m) ∙ still-set m m w (and-self m)
 
+-- bits that are set already change nothing
+none-more : (w m : ℕ) → bitAnd w m ≡ m → bitOr w m ≡ w
+none-more w m h = omega (arith, or-add-and w m)
+
 -- ---- a filter with one name more
 
 module _ (filter : List ℕ) (size : length filter ≡ 4096) (x : ℕ) where
@@ -59,14 +63,14 @@ module _ (filter : List ℕ) (size : length filter ≡ 4096) (x : ℕ) where
         (λ e. ap (λ (w : ℕ). bitAnd w (maskBy (mixed m))) (getD-set-other filter (cellBy x) (cellBy (mixed m)) _ 0 e) ∙ h .bits);
   }
 
-  noted-by : (n : ℕ) → x ≡ mixed n → Noted (eqb (bitAnd (getD filter (cellBy x) 0) (maskBy x)) (maskBy x)) filter after n
+  noted-by : (n : ℕ) → x ≡ mixed n → Noted (eqb (bitOr (getD filter (cellBy x) 0) (maskBy x)) (getD filter (cellBy x) 0)) filter after n
   noted-by n e = record {
     size = length-set filter (cellBy x) _ ∙ size;
-    new = λ z h. eqb-false _ _ z (subst (λ (y : ℕ). bitAnd (getD filter (cellBy y) 0) (maskBy y) ≡ maskBy y) (sym e) (h .bits));
+    new = λ z h. eqb-false _ _ z (none-more (getD filter (cellBy x) 0) (maskBy x) (subst (λ (y : ℕ). bitAnd (getD filter (cellBy y) 0) (maskBy y) ≡ maskBy y) (sym e) (h .bits)));
     has = record { bits = subst (λ (y : ℕ). bitAnd (getD after (cellBy y) 0) (maskBy y) ≡ maskBy y) e has-now };
     kept = kept-now;
   }
 
   pub noted : {mask : ℕ} (n : ℕ) → x ≡ mixed n → mask ≡ maskBy x
-      → Noted (eqb (bitAnd (getD filter (cellBy x) 0) mask) mask) filter (set filter (cellBy x) (bitOr (getD filter (cellBy x) 0) mask)) n
-  noted {mask} n e f = subst (λ (y : ℕ). Noted (eqb (bitAnd (getD filter (cellBy x) 0) y) y) filter (set filter (cellBy x) (bitOr (getD filter (cellBy x) 0) y)) n) (sym f) (noted-by n e)
+      → Noted (eqb (bitOr (getD filter (cellBy x) 0) mask) (getD filter (cellBy x) 0)) filter (set filter (cellBy x) (bitOr (getD filter (cellBy x) 0) mask)) n
+  noted {mask} n e f = subst (λ (y : ℕ). Noted (eqb (bitOr (getD filter (cellBy x) 0) y) (getD filter (cellBy x) 0)) filter (set filter (cellBy x) (bitOr (getD filter (cellBy x) 0) y)) n) (sym f) (noted-by n e)

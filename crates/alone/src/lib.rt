@@ -44,13 +44,14 @@ fn note(filter: &mut [u64; 4096], name: Name) -> bool
 {
     let x = mix(name);
     let i = (x / 1048576 % 4096) as usize;
-    let bits = mask(x);
     let word = filter[i];
-    filter[i] = word | bits;
-    word & bits == bits
+    let more = word | mask(x);
+    filter[i] = more;
+    more == word
 }
 
-// Whether no place before place i of block b, which has the name, has it too.
+// Whether no place before place i of block b, which has the name, has it too. Block and place are compared apart, so that no number
+// of the place has to be counted up beside them in the loop over a sector.
 fn is_first(image: &[u16], g: Geometry, name: Name, b: Block, i: usize) -> bool
     requires { ⌜ SysOf (now image) g × (b .0 + 1 ≤ g .slice * length (sysSlices (now image) g)) × (i < 16) × Stands (placesIn (now image) g) (g .keys) (pack (name .0) (name .1) (name .2)) (16 * b .0 + i) ⌝ }
     ensures { λ r. ⌜ Decides r (NoneAt (placesIn (now (image .entry)) g) (g .keys) (pack (name .0) (name .1) (name .2)) (16 * b .0 + i)) ⌝ }
@@ -58,7 +59,10 @@ fn is_first(image: &[u16], g: Geometry, name: Name, b: Block, i: usize) -> bool
     let Found::At(t) = entries::find(image, g, name, b.0 + 1) else {
         return false;
     };
-    t == 16 * b.0 as u32 + i as u32
+    if t / 16 != b.0 as u32 {
+        return false;
+    }
+    t % 16 == i as u32
 }
 
 // Whether place i of block b, which is sector q, is legal, and no place before it has its name; the name is put in the filter.
@@ -194,7 +198,7 @@ pub fn names_sound(image: &[u16], g: Geometry, layers: u16) -> bool
 {
     let catalog = Catalog {
         keys: g.keys,
-        inverse: 2147483648 / g.keys as u32 + 1,
+        inverse: entries::inverse(g.keys),
         size: g.keys * layers,
         reserved: entries::sys_sectors(image, g),
     };

@@ -34,8 +34,9 @@ use Rattle.steps.proofs.ChangeUnit.{grownTo, not-grown, entry-grown, changeLaye
 use Rattle.steps.proofs.ChangeMessage.{change-kept, change-areas}
 use Rattle.unit.specs.Stepped.{Stepped}
 use Rattle.unit.proofs.StepLaws.{stepped}
-use Rattle.grow.specs.Grow.{grownUnit, GrownFrom}
-use Rattle.rewrite.specs.Move.{FirstUnused}
+use Rattle.steps.specs.Units.{grownUnit}
+use Rattle.grow.specs.Grow.{GrownFrom}
+use Rattle.unit.specs.Find.{FirstUnused}
 use Rattle.rewrite.specs.Rewrite.{Rewrites, stayed, moved}
 use Rattle.change.specs.Change.{sizeThen, attributesThen, fileAfter, layersThen, Changed, stays, grows, ChangeDone, ChangeStep}
 use Rattle.change.proofs.AnswerLaws.{change-yes}

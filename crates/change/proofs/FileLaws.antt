@@ -25,7 +25,8 @@ use Rattle.refine.specs.Replies.{Replies, refused, written}
 use Rattle.steps.proofs.ChangeStep.{Changes}
 use Rattle.steps.proofs.ChangeUnit.{grownTo, not-grown, entry-grown, changeLayers, changeGrown, changedOn, changedUnit, ChangeAsked, change-outcome, change-changes, moved-vacant, moved-fits}
 use Rattle.unit.specs.declared.Opened.{Opened}
-use Rattle.grow.specs.Grow.{grownUnit, CanGrowFrom, CanGrow, Grows}
+use Rattle.steps.specs.Units.{grownUnit}
+use Rattle.grow.specs.Grow.{CanGrowFrom, CanGrow, Grows}
 use Rattle.resize.specs.Resize.{slicesThen}
 use Rattle.rewrite.specs.declared.Standing.{Standing}
 use Rattle.rewrite.specs.declared.Wanted.{Wanted}

@@ -19,7 +19,8 @@ use Rattle.steps.proofs.GrowStep.{entry-but-sys, grow-old}
 use Rattle.unit.specs.declared.Opened.{Opened}
 use Rattle.unit.specs.Opened.{NumbersOf, unitPlaces}
 use Rattle.unit.specs.Find.{PlaceIs, NameAt}
-use Rattle.grow.specs.Grow.{layerSlices, grownUnit, CanGrowFrom, GrownFrom}
+use Rattle.steps.specs.Units.{layerSlices, grownUnit}
+use Rattle.grow.specs.Grow.{CanGrowFrom, GrownFrom}
 use Rattle.grow.proofs.GrowLaws.{grown-on}
 use Rattle.rewrite.specs.declared.Standing.{Standing}
 use Rattle.rewrite.specs.Rewrite.{StandsAs}

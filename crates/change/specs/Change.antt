@@ -21,7 +21,8 @@ use Rattle.refine.specs.Represents.{Represents}
 use Rattle.refine.specs.Replies.{Replies}
 use Rattle.unit.specs.declared.Opened.{Opened}
 use Rattle.unit.specs.Opened.{NumbersOf, unitPlaces}
-use Rattle.grow.specs.Grow.{grownUnit, GrownFrom}
+use Rattle.steps.specs.Units.{grownUnit}
+use Rattle.grow.specs.Grow.{GrownFrom}
 use Rattle.resize.specs.Resize.{slicesThen}
 use Rattle.rewrite.specs.Rewrite.{Rewrites}
 use Rattle.change.specs.Asked.{CanStandFrom}

@@ -33,8 +33,8 @@ use Rattle.steps.proofs.GrowStep.{grown-good}
 use Rattle.steps.proofs.AreaSteps.{grow-areas, create-areas}
 use Rattle.steps.proofs.Whole.{on-disc, represents}
 use Rattle.unit.specs.Opened.{unitPlaces}
-use Rattle.grow.specs.Grow.{layerSlices, grownUnit}
-use Rattle.create.specs.Create.{newFileOf, CreatedOn, Created, stays, grows, CreateStep, SetStep}
+use Rattle.steps.specs.Units.{layerSlices, grownUnit, newFileOf}
+use Rattle.create.specs.Create.{CreatedOn, Created, stays, grows, CreateStep, SetStep}
 
 -- ---- where the answer is 0, every question was answered yes
 
@@ -78,7 +78,7 @@ module _ {image : List ℕ} {p : Plain} (on : OnDisc image p) (n size attributes
   created-on three six (stays c e) =
       subst (λ (i : List ℕ). OnDisc i q) (sym (c .written))
       (subst (OnDisc (createdImage p image (c .place) n (newFileOf p size attributes optional tail))) unit-is
-      (new-file-stays on n size attributes optional tail lent yes three six (c .place) (c .inside) (c .unused) (c .key)))
+      (new-file-stays on n size attributes optional tail lent yes three six (c .place) (c .first .inside) (c .first .unused) (c .first .key)))
   created-on {after} three six (grows g e) =
       let s = g .grows in
       let j : List ℕ = grownImage p image (s .place) (layerSlices p) in
@@ -86,7 +86,7 @@ module _ {image : List ℕ} {p : Plain} (on : OnDisc image p) (n size attributes
       subst (λ (i : List ℕ). CreatedOn (grownUnit p) i n (newFileOf (grownUnit p) size attributes optional tail) after) (s .written) (g .created) in
       subst (λ (i : List ℕ). OnDisc i q) (sym (c .written))
       (subst (OnDisc (createdImage (grownUnit p) j (c .place) n (newFileOf (grownUnit p) size attributes optional tail))) unit-is
-      (new-file-grows on n size attributes optional tail lent yes three six (full (g .full)) (s .place) (s .inside) (s .named) (c .place) (c .inside) (c .unused) (c .key)))
+      (new-file-grows on n size attributes optional tail lent yes three six (full (g .full)) (s .place) (s .inside) (s .named) (c .place) (c .first .inside) (c .first .unused) (c .first .key)))
 
   -- the areas are of other names
   pub created-areas : {state : State} {after : List ℕ} → SameAreas state p → Created p image n size attributes optional tail after q → SameAreas state q

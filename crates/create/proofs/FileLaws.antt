@@ -34,7 +34,8 @@ use Rattle.writes.specs.Writes.{FileBlock, CanZeroFrom, CanZero, Zeroed, CanLen
 use Rattle.writes.proofs.WriteLaws.{length-zeroed, length-taken-image, longer-file}
 use Rattle.writes.proofs.FileLaws.{unit-file, index-told}
 use Rattle.grow.proofs.BlockLaws.{counted-word}
-use Rattle.create.specs.Create.{newFileOf, unitWith, CreatedOn, AskedFrom, CanWriteFrom}
+use Rattle.steps.specs.Units.{newFileOf}
+use Rattle.create.specs.Create.{unitWith, CreatedOn, AskedFrom, CanWriteFrom}
 use Rattle.create.proofs.LegalLaws.{Legal, legal-all}
 
 module _ {image : List ℕ} {o : Opened} {n size attributes : ℕ} {words : List ℕ} {p : Plain} (asked : AskedFrom image o n size attributes words p) where
@@ -90,7 +91,7 @@ module _ {image : List ℕ} {o : Opened} {place : Place} {n size attributes : �
       }
 
   on-created : OnDisc (createdImage p image t n f) (unitWith p n size attributes (optionalIn words) (tailIn words))
-  on-created = let a = can .place-for .at in create-on (asked .on) new t (a .is .inside) (a .unused) (a .key)
+  on-created = let a = can .place-for .at in create-on (asked .on) new t (a .is .inside) (a .first .unused) (a .first .key)
 
   length-slices : length (f .slices) ≡ count
   length-slices = length-taken (M p) (held p) 0 count
@@ -197,9 +198,6 @@ module _ {image : List ℕ} {o : Opened} {place : Place} {n size attributes : �
             let a = can .place-for .at in
             record {
               place = t;
-              inside = a .is .inside;
-              key = a .key;
-              unused = a .unused;
-              earlier = a .earlier;
+              first = a .first;
               written = c ∙ ap₂ countedFree entered-is (num .slice);
             }

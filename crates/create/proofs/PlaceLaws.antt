@@ -27,17 +27,18 @@ use Rattle.refine.specs.Replies.{refused, written}
 use Rattle.refine.proofs.Ground.{Ground, ground, part-sys}
 use Rattle.steps.proofs.WriteLaws.{part-sectors}
 use Rattle.steps.proofs.CreateStep.{NewFile, layers-stay, layers-grow}
-use Rattle.steps.proofs.NewFileStep.{fileWith, unitAfter, Yes, newFile-done, unit-stays, new-stays, unit-grows, sys-room, sys-few, new-grows}
+use Rattle.steps.proofs.NewFileStep.{unitAfter, Yes, newFile-done, unit-stays, new-stays, unit-grows, sys-room, sys-few, new-grows}
 use Rattle.unit.specs.declared.Opened.{Opened}
 use Rattle.unit.specs.Opened.{NumbersOf, Searchable}
 use Rattle.unit.specs.Find.{UnusedFound, FindsUnused}
 use Rattle.unit.proofs.OpenLaws.{on-catalog}
 use Rattle.unit.proofs.AskLaws.{asks-yes}
 use Rattle.grow.specs.Room.{AskedOf, RoomFor}
-use Rattle.grow.specs.Grow.{grownUnit, CanGrowFrom, GrownFrom, Grows}
+use Rattle.grow.specs.Grow.{CanGrowFrom, GrownFrom, Grows}
 use Rattle.grow.proofs.RoomLaws.{enough-yes, enough-no}
 use Rattle.grow.proofs.GrowLaws.{grown-on}
-use Rattle.create.specs.Create.{newFileOf, unitWith, stays, grows, NewFileStep, AskedFrom, CanPlaceFrom, CanGrowForFrom, CanWriteFrom, FileWritten}
+use Rattle.steps.specs.Units.{grownUnit, fileWith, newFileOf}
+use Rattle.create.specs.Create.{unitWith, stays, grows, NewFileStep, AskedFrom, CanPlaceFrom, CanGrowForFrom, CanWriteFrom, FileWritten}
 use Rattle.create.proofs.FileLaws.{three, six, legal}
 
 -- Questions 7 and 8, with SYS at l layers.

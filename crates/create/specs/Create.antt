@@ -3,7 +3,7 @@ use mathlib.Core.Path.{_≡_}
 use mathlib.Core.Bool.{Bool, not, _&&_}
 use mathlib.Core.List.{List}
 use mathlib.Core.Option.{none}
-use Prim.Native.Nat.{ℕ, _*_, _/_, _%_, _≤_, _<_}
+use Prim.Native.Nat.{ℕ, _*_, _≤_}
 use lib.Dec.{T}
 use lib.ListN.{length, replicate}
 use Rattle.types.specs.declared.Name.{Name}
@@ -13,37 +13,24 @@ use Rattle.disc.specs.Names.{legalName, keyOf, named, unitIn}
 use Rattle.disc.specs.Attributes.{legalAttributes, legalWith}
 use Rattle.disc.specs.Slices.{taken}
 use Rattle.disc.specs.Stretches.{stretchCount}
-use Rattle.disc.specs.Entries.{placeCount}
 use Rattle.catalog.specs.declared.Place.{Place}
 use Rattle.plain.specs.Table.{tablePut}
-use Rattle.plain.specs.Unit.{Plain, File, M, held, freeSlices, entry, withFiles}
+use Rattle.plain.specs.Unit.{Plain, File, freeSlices, entry, withFiles}
 use Rattle.plain.specs.Questions.{known}
-use Rattle.plain.specs.Taking.{placesTaken, zeroSectors}
+use Rattle.plain.specs.Taking.{placesTaken}
 use Rattle.plain.specs.Catalog.{optionalIn, attributesIn, sizeIn, tailIn, newFile, stepCreate, stepSet}
-use Rattle.sound.specs.Places.{Unused}
 use Rattle.refine.specs.OnDisc.{OnDisc}
 use Rattle.refine.specs.Writes.{createdImage}
 use Rattle.refine.specs.Replies.{Replies}
 use Rattle.unit.specs.declared.Opened.{Opened}
-use Rattle.unit.specs.Opened.{NumbersOf, unitPlaces}
-use Rattle.unit.specs.Find.{UnusedAt}
-use Rattle.grow.specs.Grow.{grownUnit, GrownFrom}
+use Rattle.unit.specs.Opened.{NumbersOf}
+use Rattle.unit.specs.Find.{FirstUnused, UnusedAt}
+use Rattle.steps.specs.Units.{grownUnit, newFileOf}
+use Rattle.grow.specs.Grow.{GrownFrom}
 
 -- "4. .. name, size, attributes legal? 1200h", bit 13 judged by the slices that the file would have.
 unfoldable pub legalNew : ℕ → ℕ → ℕ → ℕ → Bool
 legalNew s n size attributes = legalName n && (not (negative size) && (legalAttributes attributes && legalWith attributes (need s size)))
-
--- The new file, with the slices that it takes in the unit p.
-abbrev pub newFileOf : Plain → ℕ → ℕ → List ℕ → List ℕ → File
-newFileOf p size attributes optional tail = record {
-  attributes = attributes;
-  optional = optional;
-  tail = tail;
-  booked = size;
-  bookedSlices = need (p .s) size;
-  slices = taken (M p) (held p) 0 (need (p .s) size);
-  sectors = zeroSectors size;
-}
 
 -- The unit with the new file under name n.
 abbrev pub unitWith : Plain → ℕ → ℕ → ℕ → List ℕ → List ℕ → Plain
@@ -54,10 +41,7 @@ unitWith p n size attributes optional tail = withFiles p (tablePut n (newFileOf 
 -- The file f is entered under name n: "an entry takes the first unused place" of its key.
 pub record CreatedOn (p : Plain) (image : List ℕ) (n : ℕ) (f : File) (after : List ℕ) : Type 0 where
   pub place : ℕ
-  pub inside : place < placeCount (p .H) (p .layers)
-  pub key : place / 16 % p .H ≡ keyOf (p .H) n
-  pub unused : Unused (unitPlaces image p) place
-  pub earlier : (t : ℕ) → t < place → t / 16 % p .H ≡ keyOf (p .H) n → Unused (unitPlaces image p) t → ⊥
+  pub first : FirstUnused image p (keyOf (p .H) n) place
   pub written : after ≡ createdImage p image place n f
 
 -- "With all 16 times L places taken by other names, SYS first grows": then the file is that of the grown unit.

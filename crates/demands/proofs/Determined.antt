@@ -3,7 +3,7 @@ use mathlib.Core.Path.{_≡_, sym, ap, ap₂, _∙_, subst}
 use mathlib.Core.List.{List, []}
 use mathlib.Core.Logic.{_≢_}
 use mathlib.Core.Option.{none, some}
-use Prim.Native.Nat.{ℕ, _+_, _*_, _/_, _%_, _<_}
+use Prim.Native.Nat.{ℕ, _+_, _*_, _<_}
 use native.Mathlib.Omega.{arith}
 use lib.ListN.{getD}
 use Rattle.types.specs.declared.Name.{Name}
@@ -11,7 +11,7 @@ use Rattle.types.specs.declared.Answer.{Answer}
 use Rattle.types.specs.declared.State.{State}
 use Rattle.types.specs.declared.Message.{Message}
 use Rattle.types.specs.declared.Message.the-variants.{Init, Set, Create, LookUp, Change, Remove, CreateArea, RemoveArea, AreaMessage, UnitDescription, Listing}
-use Rattle.disc.specs.Names.{SYS, keyOf, named}
+use Rattle.disc.specs.Names.{SYS, named}
 use Rattle.disc.specs.Entries.{placeCount, nameAt}
 use Rattle.disc.proofs.Compare.{same-or, below-or}
 use Rattle.plain.specs.Table.{tableFind}
@@ -21,10 +21,9 @@ use Rattle.plain.specs.Catalog.{stepChange}
 use Rattle.plain.specs.Step.{step}
 use Rattle.plain.specs.Good.{Good}
 use Rattle.plain.proofs.TableLaws.{some-inj, some≢none, find-put, find-remove, find-above}
-use Rattle.sound.specs.Places.{Unused}
 use Rattle.refine.specs.Represents.{Represents}
 use Rattle.refine.specs.OnDisc.{OnDisc}
-use Rattle.refine.specs.Writes.{bookedImage, emptyPlace, removedImage, createdImage, resizedImage, renamedImage}
+use Rattle.refine.specs.Writes.{bookedImage, removedImage, createdImage, renamedImage}
 use Rattle.refine.specs.Replies.{Replies, refused, written}
 use Rattle.steps.proofs.Whole.{on-disc}
 use Rattle.refine.specs.Demands.{Performed, SameWords}
@@ -35,7 +34,9 @@ use Rattle.names.proofs.NameIsLaws.{nameIs-unique}
 use Rattle.state.specs.declared.Found.the-variants.{At}
 use Rattle.state.specs.Areas.{areaClosed}
 use Rattle.unit.specs.Opened.{unitPlaces}
-use Rattle.grow.specs.Grow.{grownUnit, GrownFrom}
+use Rattle.unit.specs.Find.{FirstUnused}
+use Rattle.steps.specs.Units.{grownUnit}
+use Rattle.grow.specs.Grow.{GrownFrom}
 use Rattle.create.specs.Create.{CreatedOn, Created, stays, grows}
 use Rattle.remove.specs.Remove.{Removed}
 use Rattle.rewrite.specs.Rewrite.{Rewrites, stayed, moved}
@@ -54,8 +55,9 @@ module _ {image : List ℕ} {p : Plain} (on : OnDisc image p) (n : ℕ) (positiv
   one-place t u h k e f = on .layout .catalog .alone t u h k (e ∙ sym f) (λ z. positive (sym e ∙ z))
 
 -- the first unused place of a key is one
-first-place : {P : ℕ → Type 0} (t u : ℕ) → P t → P u → ((i : ℕ) → i < t → P i → ⊥) → ((i : ℕ) → i < u → P i → ⊥) → t ≡ u
-first-place t u a b before-t before-u = below-or t u (λ h. absurd (before-u t h a)) (λ h. same-or t u (λ e. e) (λ d. absurd (before-t u (omega arith) b)))
+first-one : {image : List ℕ} {p : Plain} {k t u : ℕ} → FirstUnused image p k t → FirstUnused image p k u → t ≡ u
+first-one {t = t} {u = u} x y =
+    below-or t u (λ h. absurd (y .earlier t h (x .key) (x .unused))) (λ h. same-or t u (λ e. e) (λ d. absurd (x .earlier u (omega arith) (y .key) (y .unused))))
 
 file-positive : {p : Plain} → Good p → (n : ℕ) {f : File} → tableFind n (p .files) ≡ some f → n ≢ 0
 file-positive {p} g n {f} e z = omega (arith, find-above n 0 f (p .files) (g .names) e)
@@ -78,10 +80,7 @@ grown-one : {image : List ℕ} {p : Plain} {a b : List ℕ} → OnDisc image p �
 grown-one on x y = x .written ∙ rw (one-place on SYS (λ z. omega arith) (x .place) (y .place) (x .inside) (y .inside) (x .named) (y .named)) (sym (y .written))
 
 created-one : {p : Plain} {image : List ℕ} {n : ℕ} {f : File} {a b : List ℕ} → CreatedOn p image n f a → CreatedOn p image n f b → a ≡ b
-created-one {p} {image} {n} {f} x y =
-    let same = first-place {P = λ t. (t / 16 % p .H ≡ keyOf (p .H) n) × Unused (unitPlaces image p) t} (x .place) (y .place) (x .key, x .unused) (y .key, y .unused)
-    (λ i h c. x .earlier i h (c .0) (c .1)) (λ i h c. y .earlier i h (c .0) (c .1)) in
-    x .written ∙ ap (λ (t : ℕ). createdImage p image t n f) same ∙ sym (y .written)
+created-one {p} {image} {n} {f} x y = x .written ∙ ap (λ (t : ℕ). createdImage p image t n f) (first-one (x .first) (y .first)) ∙ sym (y .written)
 
 created-same : {p : Plain} {image : List ℕ} {n size attributes : ℕ} {optional tail a b : List ℕ} {u v : Plain} → OnDisc image p → u ≡ v
     → Created p image n size attributes optional tail a u → Created p image n size attributes optional tail b v → a ≡ b
@@ -103,10 +102,7 @@ rewrites-one : {image : List ℕ} {p : Plain} {t n m : ℕ} {f f′ : File} {a b
 rewrites-one (stayed _ x) (stayed _ y) = x ∙ sym y
 rewrites-one (stayed e x) (moved d u first y) = absurd (d e)
 rewrites-one (moved d u first x) (stayed e y) = absurd (d e)
-rewrites-one {image} {p} {t} {n} {m} {f} {f′} (moved d u x e) (moved _ v y g) =
-    let same = first-place {P = λ i. (i / 16 % p .H ≡ keyOf (p .H) m) × Unused (unitPlaces (emptyPlace p (resizedImage p image f f′) t) p) i} u v (x .key, x .unused) (y .key, y .unused)
-    (λ i h c. x .earlier i h (c .0) (c .1)) (λ i h c. y .earlier i h (c .0) (c .1)) in
-    e ∙ ap (λ (i : ℕ). renamedImage p image t i m f f′) same ∙ sym g
+rewrites-one {image} {p} {t} {n} {m} {f} {f′} (moved d u x e) (moved _ v y g) = e ∙ ap (λ (i : ℕ). renamedImage p image t i m f f′) (first-one x y) ∙ sym g
 
 changed-one : {p : Plain} {image : List ℕ} {n : ℕ} {f : File} {lent a b : List ℕ} → OnDisc image p → n ≢ 0 → change.ChangedOn p image n f lent a → change.ChangedOn p image n f lent b → a ≡ b
 changed-one {n = n} on positive x y =

@@ -89,6 +89,7 @@ pub record Demand1 (C : Contract) (F : FormatContract) : Type 0 where
   pub format : {image : List ℕ} {state : State} {bytes : ℕ} {lent after : List ℕ} {r : Formatted} → F image state bytes lent after r → FormatAnswer image state bytes lent after r
   -- every word of answer, image, state and lent words is determined: "only the listing's order is free"
   pub determined : {image : List ℕ} {state : State} {message : Message} {lent : List ℕ} {r q : Performed} → C image state message lent r → C image state message lent q → SameResult message r q
+  pub format-determined : {image : List ℕ} {state : State} {bytes : ℕ} {lent a b : List ℕ} {r q : Formatted} → F image state bytes lent a r → F image state bytes lent b q → (a ≡ b) × (r ≡ q)
 
 -- ---- demand 2
 

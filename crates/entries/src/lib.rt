@@ -1,7 +1,7 @@
 // The names in SYS, as a sound unit has them: every used place has a legal name, in a sector of its key, and SYS and MAP are entered.
 
 ghost use mathlib.Core.Path.{_≡_};
-ghost use Prim.Native.Nat.{_+_, _*_, _%_, _≤_, _<_, min};
+ghost use Prim.Native.Nat.{_+_, _*_, _/_, _%_, _≤_, _<_, min};
 ghost use lib.ListN.{length};
 ghost use Rattle.disc.specs.Decide.{Decides};
 ghost use Rattle.disc.specs.Names.{pack, keyOf};
@@ -20,8 +20,16 @@ use types::Block;
 use types::Name;
 use types::Sector;
 
-// What the places of SYS are judged by: the number of keys, 2147483648 divided by it, and the length and the reserved sectors that
-// SYS's entry must say.
+// The first words of 'SYS' and 'MAP'.
+const SYS_FIRST: u16 = 0x5359;
+
+const MAP_FIRST: u16 = 0x4D41;
+
+// An inverse is so many times one.
+const SCALE: u32 = 0x8000_0000;
+
+// What the places of SYS are judged by: the number of keys with its inverse, and the length and the reserved sectors that SYS's entry
+// must say.
 pub struct Catalog {
     pub keys: u16,
     pub inverse: u32,
@@ -177,13 +185,21 @@ fn system_legal(image: &[u16], q: Sector, i: usize, name: Name, catalog: Catalog
     requires { ⌜ (q .0 * 256 + 256 ≤ length (now image)) × (i < 16) × NameIn (sectorPlaces (now image) (q .0)) i name ⌝ }
     ensures { λ r. ⌜ Decides r (SystemLegal (sectorPlaces (now (image .entry)) (q .0)) (ownEntry catalog) i) ⌝ }
 {
-    if name.0 == 0x5359 {
+    if name.0 == SYS_FIRST {
         return named_legal(image, q, i, name, catalog);
     }
-    if name.0 == 0x4D41 {
+    if name.0 == MAP_FIRST {
         return named_legal(image, q, i, name, catalog);
     }
     true
+}
+
+// The inverse of a number of keys. Nothing rests on its value but the time that `has_key` takes.
+pub fn inverse(keys: u16) -> u32
+    requires { ⌜ 1 ≤ keys ⌝ }
+    ensures { λ r. ⌜ r ≡ 2147483648 / keys + 1 ⌝ }
+{
+    SCALE / keys as u32 + 1
 }
 
 // Whether a name is of the key. A product with the inverse guesses the quotient; the sum is divided only if the guess does not
@@ -194,7 +210,7 @@ fn has_key(name: Name, key: u16, catalog: Catalog) -> bool
 {
     let keys = catalog.keys;
     let sum = std::num::wrapping_add_u16(std::num::wrapping_add_u16(name.0, name.1), name.2);
-    let quotient = sum as u64 * catalog.inverse as u64 / 2147483648;
+    let quotient = sum as u64 * catalog.inverse as u64 / SCALE as u64;
     if quotient * keys as u64 + key as u64 == sum as u64 {
         return true;
     }

@@ -1,2 +1,3 @@
 pub mod MirrorLaws
 pub mod CallLaws
+pub mod RunLaws

@@ -1,4 +1,5 @@
--- The calls of a C program: the message that twelve words stand for, and the answers.
+-- The calls of a C program: the message that twelve words stand for, the answer, and what comes of a call and of Format.
+use mathlib.Core.Path.{_≡_}
 use mathlib.Core.Bool.{cond}
 use mathlib.Core.List.{List}
 use Prim.Native.Nat.{ℕ}
@@ -10,11 +11,12 @@ use Rattle.types.specs.declared.Operation.{Operation}
 use Rattle.types.specs.declared.Operation.the-variants.{Reserve, Position, Sense, Transput, Other}
 use Rattle.types.specs.declared.Message.{Message}
 use Rattle.types.specs.declared.Message.the-variants.{Init, Set, Create, LookUp, Change, Remove, CreateArea, RemoveArea, AreaMessage, UnitDescription, Listing}
-use Rattle.format.specs.declared.Formatted.{Formatted}
+use Rattle.perform.specs.Perform.{performed, Performs}
+use Rattle.format.specs.Format.{FormatAnswer}
 use Rattle.export.specs.declared.UnitMessage.{UnitMessage}
 use Rattle.export.specs.declared.UnitAnswer.{UnitAnswer}
 use Rattle.export.specs.declared.UnitState.{UnitState}
-use Rattle.export.specs.Mirror.{stateOf}
+use Rattle.export.specs.Mirror.{stateOf, mirrorOf}
 
 abbrev pub nameOf : List ℕ → Name
 nameOf words = record { 0 = getD words 0 0; 1 = getD words 1 0; 2 = getD words 2 0 }
@@ -47,6 +49,13 @@ messageOf m = numbered (m .call) m
 abbrev pub answerOf : UnitAnswer → Answer
 answerOf a = record { result = a .result; bytes = a .bytes; block = record { 0 = a .block }; entries = a .entries }
 
--- The result word and the state that Format leaves.
-abbrev pub formattedOf : ℕ → UnitState → Formatted
-formattedOf result state = record { result = result; state = stateOf state }
+-- What comes of a call: `Performs`, of the state that the mirror stands for. The mirror left is that of a state, so every word of it is
+-- determined.
+pub record UnitPerforms (image : List ℕ) (state : UnitState) (message : UnitMessage) (lent after : List ℕ) (next : UnitState) (answer : UnitAnswer) (left : List ℕ) : Type 0 where
+  pub performs : Performs image (stateOf state) (messageOf message) lent (performed after (stateOf next) (answerOf answer) left)
+  pub mirror : mirrorOf (stateOf next) ≡ next
+
+-- What comes of Format, likewise.
+pub record UnitFormats (image : List ℕ) (state : UnitState) (bytes : ℕ) (lent after : List ℕ) (result : ℕ) (next : UnitState) : Type 0 where
+  pub formats : FormatAnswer image (stateOf state) bytes lent after (record { result = result; state = stateOf next })
+  pub mirror : mirrorOf (stateOf next) ≡ next

@@ -1,2 +1,3 @@
 pub mod Mirror
 pub mod Calls
+pub mod Runs

@@ -1,6 +1,6 @@
 -- The state that a mirror stands for (the numbers of a C program as the values of the declared types), and the mirror of a state.
 use mathlib.Core.Bool.{Bool, not, cond}
-use mathlib.Core.List.{List, [], _∷_}
+use mathlib.Core.List.{[], _∷_}
 use Prim.Native.Nat.{ℕ}
 use lib.ListN.{getD}
 use lib.Dec.{eqb}

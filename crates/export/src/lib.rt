@@ -3,10 +3,8 @@
 ghost use mathlib.Core.Path.{_≡_};
 ghost use Rattle.disc.specs.Decide.{Decides};
 ghost use Rattle.sound.specs.Sound.{SoundUnit};
-ghost use Rattle.perform.specs.Perform.{performed, Performs};
-ghost use Rattle.format.specs.Format.{FormatAnswer};
 ghost use Rattle.export.specs.Mirror.{isSet, roleOf, userOf, areaOf, stateOf, setWord, roleNumber, mirrorOfUser, mirrorOfArea, mirrorOf};
-ghost use Rattle.export.specs.Calls.{nameOf, operationOf, messageOf, answerOf, formattedOf};
+ghost use Rattle.export.specs.Calls.{operationOf, messageOf, answerOf, UnitPerforms, UnitFormats};
 use types::Answer;
 use types::Area;
 use types::Block;
@@ -286,9 +284,9 @@ pub extern "C" fn ruzkemp_sound(image: &[u16], state: UnitState) -> bool
     soundness::sound(image, own)
 }
 
-// One call with the mirror by value. The words of the state that come back are those of the mirror of a state.
+// One call with the mirror by value.
 fn step(state: UnitState, image: &mut [u16], lent: &mut [u16], message: UnitMessage) -> UnitOutcome
-    ensures { λ r. ⌜ Performs (now (image .entry)) (stateOf state) (messageOf message) (now (lent .entry)) (performed (now (image .exit)) (stateOf (r .state)) (answerOf (r .answer)) (now (lent .exit))) × (mirrorOf (stateOf (r .state)) ≡ r .state) ⌝ }
+    ensures { λ r. ⌜ UnitPerforms (now (image .entry)) state message (now (lent .entry)) (now (image .exit)) (r .state) (r .answer) (now (lent .exit)) ⌝ }
 {
     let own = state_of(state);
     let asked = message_of(message);
@@ -309,7 +307,7 @@ pub extern "C" fn ruzkemp_perform(
     lent: &mut [u16],
     message: UnitMessage,
 ) -> UnitAnswer
-    ensures { λ r. ⌜ Performs (now (image .entry)) (stateOf (now (state .entry))) (messageOf message) (now (lent .entry)) (performed (now (image .exit)) (stateOf (now (state .exit))) (answerOf r) (now (lent .exit))) × (mirrorOf (stateOf (now (state .exit))) ≡ now (state .exit)) ⌝ }
+    ensures { λ r. ⌜ UnitPerforms (now (image .entry)) (now (state .entry)) message (now (lent .entry)) (now (image .exit)) (now (state .exit)) r (now (lent .exit)) ⌝ }
 {
     let s = *state;
     let o = step(s, image, lent, message);
@@ -319,14 +317,14 @@ pub extern "C" fn ruzkemp_perform(
 
 // Format with the mirror by value.
 fn format_step(state: UnitState, image: &mut [u16], lent: &[u16], bytes: u16) -> FormatOutcome
-    ensures { λ r. ⌜ FormatAnswer (now (image .entry)) (stateOf state) bytes (now (lent .entry)) (now (image .exit)) (formattedOf (r .result) (r .state)) × (mirrorOf (stateOf (r .state)) ≡ r .state) ⌝ }
+    ensures { λ r. ⌜ UnitFormats (now (image .entry)) state bytes (now (lent .entry)) (now (image .exit)) (r .result) (r .state) ⌝ }
 {
     let own = state_of(state);
     let o = format::format(image, own, bytes, lent);
-    let next = o.state;
+    let left = o.state;
     FormatOutcome {
         result: o.result,
-        state: mirror_of(next),
+        state: mirror_of(left),
     }
 }
 
@@ -338,7 +336,7 @@ pub extern "C" fn ruzkemp_format(
     lent: &[u16],
     bytes: u16,
 ) -> u16
-    ensures { λ r. ⌜ FormatAnswer (now (image .entry)) (stateOf (now (state .entry))) bytes (now (lent .entry)) (now (image .exit)) (formattedOf r (now (state .exit))) × (mirrorOf (stateOf (now (state .exit))) ≡ now (state .exit)) ⌝ }
+    ensures { λ r. ⌜ UnitFormats (now (image .entry)) (now (state .entry)) bytes (now (lent .entry)) (now (image .exit)) r (now (state .exit)) ⌝ }
 {
     let s = *state;
     let o = format_step(s, image, lent, bytes);

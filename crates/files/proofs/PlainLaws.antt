@@ -6,31 +6,27 @@ use mathlib.Core.List.{List}
 use Prim.Native.Nat.{ℕ, zero, suc, _+_, _-_, _*_, _/_, _≤_, _<_}
 use native.Mathlib.Nat.{mul-comm}
 use native.Mathlib.Omega.{arith}
-use lib.Dec.{T}
-use lib.ListN.{getD}
-use borrow.Author.Tests.{eq-eqb, eqb-true}
-use Rattle.disc.specs.Decide.{Decides}
+use lib.ListN.{length, getD, set}
+use lib.Seq.{getD-set-same, getD-set-other}
+use borrow.Author.Tests.{eq-eqb, ne-eqb}
 use Rattle.disc.specs.Numbers.{need}
-use Rattle.disc.specs.Names.{isSystem}
 use Rattle.disc.proofs.Compare.{same-or}
 use Rattle.disc.proofs.DecideLaws.{true≢false, holds}
 use Rattle.disc.proofs.NumberLaws.{need-le}
 use Rattle.kit.specs.declared.Geometry.{Geometry}
 use Rattle.kit.specs.Geometry.{UnitOf}
-use Rattle.marks.specs.declared.Indexed.{Indexed}
 use Rattle.marks.specs.Marked.{SomeMarked}
 use Rattle.marks.specs.Indexed.{SingleMarking}
-use Rattle.entries.specs.Sys.{placesIn}
 use Rattle.entries.proofs.PlaceLaws.{T-of}
 use Rattle.files.specs.declared.Live.{Live}
 use Rattle.files.specs.declared.Entry.{Entry}
-use Rattle.files.specs.Live.{closedFile, indexBy, lengthBy, liveIn, liveFrom}
-use Rattle.files.specs.Rules.{entryOf, wordsAt, FileNumbers, FileMarking, OwnMarking, PlainNumbers, ClosedMarking}
-use Rattle.files.specs.Walk.{nameBy, placesFrom, PlaceMarking, PlacesMarking, NamesKnown, OrdinaryPlace, OrdinaryPlaces, PlainMarking, PlainPlaces}
+use Rattle.files.specs.Live.{closedFile, lengthBy, liveIn, liveFrom, nameCell, CellsOf, Unopened}
+use Rattle.files.specs.Rules.{entryOf, wordsAt, FileNumbers, PlainNumbers, ClosedMarking}
+use Rattle.files.specs.Walk.{nameBy, placesFrom, PlacesMarking, OrdinaryPlace, OrdinaryPlaces, PlainMarking, PlainPlaces}
 use Rattle.files.proofs.AttributeLaws.{with-some}
 use Rattle.files.proofs.FileLaws.{own-some, file-judged}
 use Rattle.files.proofs.PlaceLaws.{place-unused, place-file}
-use Rattle.files.proofs.WalkLaws.{PlacesPassed, places-none, places-some, place-more, places-more, places-all}
+use Rattle.files.proofs.WalkLaws.{PlacesPassed, places-none, places-some, place-more, places-more, places-stop, places-all}
 
 -- ---- one file
 
@@ -78,13 +74,6 @@ module _ {image : List ℕ} {g : Geometry} {before : List ℕ} (entry : Entry) w
 pub closed-moved : {image : List ℕ} {g : Geometry} {before after : List ℕ} {r : Bool} {other entry : Entry} → other ≡ entry → ClosedMarking image g other before after r → ClosedMarking image g entry before after r
 closed-moved {image} {g} {before} {after} {r} e m = subst (λ (x : Entry). ClosedMarking image g x before after r) e m
 
--- a file that is left is judged with the marks as they were
-pub file-moved : {image : List ℕ} {g : Geometry} {entry : Entry} {live : Live} {mid before after : List ℕ} {r : Bool} → mid ≡ before → FileMarking image g entry live mid after r → FileMarking image g entry live before after r
-file-moved {image} {g} {entry} {live} {after = after} {r} e m = subst (λ (l : List ℕ). FileMarking image g entry live l after r) e m
-
-pub some-moved : {m : ℕ} {mid before : List ℕ} → mid ≡ before → SomeMarked m before → SomeMarked m mid
-some-moved {m} e s = subst (SomeMarked m) (sym e) s
-
 -- ---- one place
 
 module _ {image : List ℕ} {g : Geometry} {w : ℕ → ℕ} where
@@ -100,41 +89,79 @@ module _ {image : List ℕ} {g : Geometry} {w : ℕ → ℕ} where
 -- ---- places one after the other
 
 -- none of no area processes is open
-pub live-none : (names indexes lengths : List ℕ) {upto : ℕ} → upto ≡ 0 → (n : ℕ) → liveIn names indexes lengths upto n .opened ≡ false
+live-none : (names indexes lengths : List ℕ) {upto : ℕ} → upto ≡ 0 → (n : ℕ) → liveIn names indexes lengths upto n .opened ≡ false
 unfolding liveIn liveFrom
 live-none names indexes lengths e n = subst (λ (k : ℕ). liveIn names indexes lengths k n .opened ≡ false) (sym e) refl
 
-module _ (image : List ℕ) (g : Geometry) (P : ℕ → ℕ → ℕ) where
-  -- the first n places are legal if no area process is open, and their slices marked
+-- an area process is open by one of the names
+live-other : (names indexes lengths : List ℕ) (name n j : ℕ) → ((i : ℕ) → j ≤ i → i < j + n → getD names i 0 ≡ name → ⊥) → liveFrom names indexes lengths name j n ≡ closedFile
+unfolding liveFrom
+live-other names indexes lengths name zero j d = refl
+live-other names indexes lengths name (suc n) j d =
+    rw (ne-eqb (getD names j 0) name (d j (omega arith) (omega arith))) (live-other names indexes lengths name n (suc j) (λ i h k. d i (omega arith) (omega arith)))
+
+pub live-cell : (names indexes lengths : List ℕ) {upto : ℕ} {cells : List ℕ} → CellsOf names upto cells → (n : ℕ) → Unopened upto cells n → liveIn names indexes lengths upto n .opened ≡ false
+unfolding liveIn
+live-cell names indexes lengths {upto} {cells} filled n free = same-or upto 0
+    (λ z. live-none names indexes lengths z n)
+    (λ d.
+    let other : (i : ℕ) → 0 ≤ i → i < 0 + upto → getD names i 0 ≡ n → ⊥ = λ i _ h e.
+    omega (arith, filled .each i (omega arith), free d, ap (λ (k : ℕ). getD cells (nameCell k) 0) e) in
+    ap (λ (l : Live). l .opened) (live-other names indexes lengths n upto 0 other))
+
+-- ---- the cells of names
+
+pub cells-none : (names cells : List ℕ) → CellsOf names 0 cells
+cells-none names cells = record { each = λ j h. absurd (omega arith) }
+
+pub cells-more : {names cells : List ℕ} {j : ℕ} (cell : ℕ) → cell ≡ nameCell (getD names j 0) → cell < length cells → CellsOf names j cells → CellsOf names (j + 1) (set cells cell 1)
+cells-more {names} {cells} {j} cell e room filled = record {
+  each = λ i h. same-or (nameCell (getD names i 0)) cell
+      (λ s. ap (λ (k : ℕ). getD (set cells cell 1) k 0) s ∙ getD-set-same cells cell 1 0 room)
+      (λ d. getD-set-other cells cell (nameCell (getD names i 0)) 1 0 d ∙ filled .each i (same-or i j
+      (λ s. absurd (d (ap (λ (k : ℕ). nameCell (getD names k 0)) s ∙ sym e)))
+      (λ n. omega arith)));
+}
+
+module _ (image : List ℕ) (g : Geometry) (P : ℕ → ℕ → ℕ) (upto : ℕ) (cells : List ℕ) where
+  -- the first n places are legal if no area process of an unopened name is open, and their slices marked
   abbrev pub ClosedPassed : List ℕ → List ℕ → ℕ → Type 0
-  ClosedPassed before mid n = (lives : ℕ → Live) → ((k : ℕ) → lives k .opened ≡ false) → PlacesPassed image g lives P before mid n
+  ClosedPassed before mid n = (lives : ℕ → Live) → ((k : ℕ) → Unopened upto cells k → lives k .opened ≡ false) → PlacesPassed image g lives P before mid n
 
   pub closed-none : (before : List ℕ) → ClosedPassed before before 0
   closed-none before lives shut = places-none image g lives P before
 
   module _ {before mid : List ℕ} (n : ℕ) (some : SomeMarked (g .slices) before) (pass : ClosedPassed before mid n) where
     pub closed-some : SomeMarked (g .slices) mid
-    closed-some = places-some image g (λ _. closedFile) P n (pass (λ _. closedFile) (λ _. refl)) some
+    closed-some = places-some image g (λ _. closedFile) P n (pass (λ _. closedFile) (λ _ _. refl)) some
 
-    pub closed-more : {after : List ℕ} {r : Bool} → PlainMarking image g (P n) mid after r → r ≡ true → ClosedPassed before after (n + 1)
-    closed-more m e lives shut = place-more image g lives P n (pass lives shut) (m .yes e lives (shut (nameBy (P n)))) some refl
+    pub closed-more : {after : List ℕ} {r : Bool} → PlainMarking image g (P n) mid after r → r ≡ true → Unopened upto cells (nameBy (P n)) → ClosedPassed before after (n + 1)
+    closed-more m e free lives shut = place-more image g lives P n (pass lives shut) (m .yes e lives (shut (nameBy (P n)) free)) some refl
 
-    pub closed-end : {after : List ℕ} (count upto : ℕ) → n ≤ count → upto ≡ 0 → after ≡ mid → PlainPlaces image g P count upto before after n
-    closed-end {after} count upto h z e = record {
+    pub closed-end : {after : List ℕ} (count : ℕ) → n ≤ count → after ≡ mid → PlainPlaces image g P count upto cells before after n
+    closed-end {after} count h e = record {
       high = h;
-      marking = λ lives shut. subst (λ (l : List ℕ). PlacesMarking image g lives P n before l true) (sym e) (places-all image g lives P n (pass lives (shut z)) n refl some);
+      marking = λ lives shut. subst (λ (l : List ℕ). PlacesMarking image g lives P n before l true) (sym e) (places-all image g lives P n (pass lives shut) n refl some);
     }
 
-  pub closed-open : (before : List ℕ) (count upto : ℕ) → SomeMarked (g .slices) before → PlainPlaces image g P count upto before before 0
-  closed-open before count upto some = record {
-    high = omega arith;
-    marking = λ lives shut. places-all image g lives P 0 (places-none image g lives P before) 0 refl some;
+  -- places that stand in another array too
+  pub plain-more : {before mid after : List ℕ} (lives : ℕ → Live) (b : ℕ) → PlacesPassed image g lives P before mid b → SomeMarked (g .slices) before → (R : ℕ → ℕ → ℕ) {count : ℕ} (n : ℕ)
+      → ((i : ℕ) → i < count → R i ≡ P (b + i)) → ((k : ℕ) → Unopened upto cells k → lives k .opened ≡ false) → PlainPlaces image g R count upto cells mid after n
+      → PlacesPassed image g lives P before after (b + n)
+  plain-more lives b pass some R n same shut m = places-more image g lives P b pass R n (λ i h. same i (omega (arith, m .high))) (m .marking lives shut) some refl
+
+-- the first n places, and then the others up to the last of `count`
+module _ (image : List ℕ) (g : Geometry) (lives : ℕ → Live) (P : ℕ → ℕ → ℕ) {before mid : List ℕ} (some : SomeMarked (g .slices) before) (b : ℕ) where
+  pub places-passed : PlacesMarking image g lives P b before mid true → PlacesPassed image g lives P before mid b
+  places-passed m = record {
+    each = m .marking (some .slices) (some .marked) .yes refl .0;
+    marked = λ held k. let y = m .marking held k .yes refl in record { is = y .2; once = y .1 };
   }
 
-  -- places that stand in another array too
-  pub plain-more : {before mid after : List ℕ} (lives : ℕ → Live) (b : ℕ) → PlacesPassed image g lives P before mid b → SomeMarked (g .slices) before → (R : ℕ → ℕ → ℕ) {count upto : ℕ} (n : ℕ)
-      → ((i : ℕ) → i < count → R i ≡ P (b + i)) → (upto ≡ 0 → (k : ℕ) → lives k .opened ≡ false) → PlainPlaces image g R count upto mid after n → PlacesPassed image g lives P before after (b + n)
-  plain-more lives b pass some R n same shut m = places-more image g lives P b pass R n (λ i h. same i (omega (arith, m .high))) (m .marking lives shut) some refl
+  pub places-then : {after : List ℕ} (r : Bool) (R : ℕ → ℕ → ℕ) (n count : ℕ) → b + n ≡ count → PlacesPassed image g lives P before mid b
+      → ((i : ℕ) → i < n → R i ≡ P (b + i)) → PlacesMarking image g lives R n mid after r → PlacesMarking image g lives P count before after r
+  places-then true R n count e pass same m = places-all image g lives P (b + n) (places-more image g lives P b pass R n same m some refl) count e some
+  places-then false R n count e pass same m = places-stop image g lives P b pass R n same m count (omega arith) refl
 
 -- ---- places further on
 

@@ -3,7 +3,7 @@ use mathlib.Core.Path.{_≡_}
 use mathlib.Core.Bool.{true, false, cond}
 use mathlib.Core.List.{List}
 use mathlib.Core.Option.{Option, none, some}
-use Prim.Native.Nat.{ℕ, zero, suc, _≤_, _<_}
+use Prim.Native.Nat.{ℕ, zero, suc, _+_, _/_, _%_, _≤_, _<_}
 use lib.ListN.{getD}
 use lib.Dec.{eqb}
 use Rattle.types.specs.declared.Area.{Area}
@@ -52,3 +52,15 @@ pub record FlatOf (state : State) (names indexes lengths : List ℕ) : Type 0 wh
 pub record OpenUpto (names : List ℕ) (n : ℕ) : Type 0 where
   pub eight : n ≤ 8
   pub none : (j : ℕ) → n ≤ j → j < 8 → getD names j 0 ≡ 0
+
+-- The cell of a name in a table of open names.
+abbrev pub nameCell : ℕ → ℕ
+nameCell name = (name / 4294967296 + name / 65536 % 65536 + name % 65536) % 251
+
+-- The cells of the first `upto` names are not 0.
+pub record CellsOf (names : List ℕ) (upto : ℕ) (cells : List ℕ) : Type 0 where
+  pub each : (j : ℕ) → j < upto → getD cells (nameCell (getD names j 0)) 0 ≡ 1
+
+-- What is looked at in a name: nothing if no area process is open, else that its cell is 0.
+abbrev pub Unopened : ℕ → List ℕ → ℕ → Type 0
+Unopened upto cells name = (upto ≡ 0 → ⊥) → getD cells (nameCell name) 0 ≡ 0

@@ -17,6 +17,7 @@ use Rattle.kit.specs.Geometry.{UnitOf}
 use Rattle.marks.specs.Marked.{Marked}
 use Rattle.entries.specs.Sys.{sysSlices, placesIn}
 use Rattle.files.specs.declared.Live.{Live}
+use Rattle.files.specs.Live.{Unopened}
 use Rattle.files.specs.Rules.{entryOf, wordsAt, fileSlices, FileRules}
 
 -- The name in sixteen words.
@@ -75,11 +76,11 @@ pub record PlainMarking (image : List ℕ) (g : Geometry) (w : ℕ → ℕ) (bef
   pub yes : answer ≡ true → (lives : ℕ → Live) → lives (nameBy w) .opened ≡ false → PlaceMarking image g lives w before after true
   pub not : answer ≡ false → after ≡ before
 
--- So many of the first `count` places of a sequence are legal, if none of the `upto` area processes is open, and their slices
+-- So many of the first `count` places of a sequence are legal, if no area process of an unopened name is open, and their slices
 -- marked.
-pub record PlainPlaces (image : List ℕ) (g : Geometry) (P : ℕ → ℕ → ℕ) (count upto : ℕ) (before after : List ℕ) (answer : ℕ) : Type 0 where
+pub record PlainPlaces (image : List ℕ) (g : Geometry) (P : ℕ → ℕ → ℕ) (count upto : ℕ) (cells : List ℕ) (before after : List ℕ) (answer : ℕ) : Type 0 where
   pub high : answer ≤ count
-  pub marking : (lives : ℕ → Live) → (upto ≡ 0 → (n : ℕ) → lives n .opened ≡ false) → PlacesMarking image g lives P answer before after true
+  pub marking : (lives : ℕ → Live) → ((n : ℕ) → Unopened upto cells n → lives n .opened ≡ false) → PlacesMarking image g lives P answer before after true
 
 -- The ordinary files of a sound unit.
 abbrev pub SoundFiles : List ℕ → State → Geometry → ℕ → Type 0

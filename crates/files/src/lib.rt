@@ -3,7 +3,7 @@
 
 ghost use mathlib.Core.Path.{_≡_};
 ghost use mathlib.Core.Bool.{true};
-ghost use Prim.Native.Nat.{_+_, _*_, _≤_};
+ghost use Prim.Native.Nat.{_+_, _*_, _≤_, _<_};
 ghost use lib.ListN.{length};
 ghost use Rattle.disc.specs.Decide.{Decides};
 ghost use Rattle.disc.specs.Numbers.{need};
@@ -13,7 +13,7 @@ ghost use Rattle.disc.specs.Entries.{placeCount};
 ghost use Rattle.sound.specs.Places.{Booked};
 ghost use Rattle.sound.specs.Sound.{slicesBelow};
 ghost use Rattle.sound.specs.Parts.{Marking};
-ghost use Rattle.files.specs.Live.{indexBy, lengthBy, liveIn, openName, FlatOf, OpenUpto};
+ghost use Rattle.files.specs.Live.{indexBy, lengthBy, liveIn, openName, nameCell, CellsOf, FlatOf, OpenUpto};
 ghost use Rattle.kit.specs.Geometry.{UnitOf};
 ghost use Rattle.marks.specs.Marked.{SomeMarked};
 ghost use Rattle.entries.specs.Sys.{sysSlices, placesIn};
@@ -121,6 +121,25 @@ fn open_upto(names: &[u64; 8]) -> usize
         n -= 1;
     }
     n
+}
+
+// The cell of a name in the table of open names: most names have another cell than those few.
+fn name_cell(name: u64) -> usize
+    ensures { λ r. ⌜ (r ≡ nameCell name) × (r < 256) ⌝ }
+{
+    ((name / 4294967296 + name / 65536 % 65536 + name % 65536) % 251) as usize
+}
+
+// Fills the cells of the first `upto` names.
+fn fill_cells(names: &[u64; 8], upto: usize, cells: &mut [u8; 256])
+    requires { ⌜ (upto ≤ 8) × (length (now cells) ≡ 256) ⌝ }
+    ensures { λ r. ⌜ CellsOf (now (names .entry)) upto (now (cells .exit)) ⌝ }
+{
+    let mut j: usize = 0;
+    while j < upto {
+        cells[name_cell(names[j])] = 1;
+        j += 1;
+    }
 }
 
 // What the first `upto` numbers of the lists say of a name.
@@ -280,30 +299,22 @@ fn plain_numbers(entry: Entry) -> bool
     legal_attributes(entry.attributes)
 }
 
-// The same of a closed file of few slices, all in one stretch. Of any other file it says false and marks nothing.
-fn plain_file(image: &[u16], at: usize, g: Geometry, marks: &mut [u8; 4096]) -> bool
-    requires { ⌜ UnitOf (now image) g × SomeMarked (g .slices) (now marks) × (at + 16 ≤ length (now image)) ⌝ }
+// The same of a closed file whose slices are all in one stretch. Of any other file it says false and marks nothing.
+fn plain_file(
+    image: &[u16],
+    at: usize,
+    g: Geometry,
+    reciprocal: u32,
+    marks: &mut [u8; 4096],
+) -> bool
+    requires { ⌜ UnitOf (now image) g × SomeMarked (g .slices) (now marks) × (at + 16 ≤ length (now image)) × (reciprocal ≤ 65536) ⌝ }
     ensures { λ r. ⌜ ClosedMarking (now (image .entry)) g (entryAt (now (image .entry)) at) (now (marks .entry)) (now (marks .exit)) r ⌝ }
 {
     let entry = entry_at(image, at);
     if !plain_numbers(entry) {
         return false;
     }
-    marks::mark_single(image, entry.index, entry.reserved, g, marks)
-}
-
-// The same of any file, the quick way where that will do.
-fn any_file(image: &[u16], at: usize, live: Live, g: Geometry, marks: &mut [u8; 4096]) -> bool
-    requires { ⌜ UnitOf (now image) g × SomeMarked (g .slices) (now marks) × (at + 16 ≤ length (now image)) ⌝ }
-    ensures { λ r. ⌜ FileMarking (now (image .entry)) g (entryAt (now (image .entry)) at) live (now (marks .entry)) (now (marks .exit)) r ⌝ }
-{
-    if live.opened {
-        return file_sound(image, at, live, g, marks);
-    }
-    if plain_file(image, at, g, marks) {
-        return true;
-    }
-    file_sound(image, at, live, g, marks)
+    marks::mark_single(image, entry.index, entry.reserved, g, reciprocal, marks)
 }
 
 // The name that stands at a word of the image, as one number.
@@ -343,40 +354,48 @@ fn place_sound(
         return true;
     }
     let live = live_of(names, indexes, lengths, upto, name);
-    any_file(image, at, live, g, marks)
+    file_sound(image, at, live, g, marks)
 }
 
-// Judges the place that stands at a word of the image, if it is unused or that of a closed file of few slices, all in one stretch,
-// and marks the slices. Of any other place it says false and marks nothing.
-fn plain_place(image: &[u16], at: usize, g: Geometry, marks: &mut [u8; 4096]) -> bool
-    requires { ⌜ UnitOf (now image) g × SomeMarked (g .slices) (now marks) × (at + 16 ≤ length (now image)) × OrdinaryPlace (wordsAt (now image) at) ⌝ }
+// Judges the place that stands at a word of the image, if it is unused or that of a closed file whose slices are all in one
+// stretch, and marks the slices. Of any other place it says false and marks nothing.
+fn plain_place(
+    image: &[u16],
+    at: usize,
+    g: Geometry,
+    reciprocal: u32,
+    marks: &mut [u8; 4096],
+) -> bool
+    requires { ⌜ UnitOf (now image) g × SomeMarked (g .slices) (now marks) × (at + 16 ≤ length (now image)) × (reciprocal ≤ 65536) × OrdinaryPlace (wordsAt (now image) at) ⌝ }
     ensures { λ r. ⌜ PlainMarking (now (image .entry)) g (wordsAt (now (image .entry)) at) (now (marks .entry)) (now (marks .exit)) r ⌝ }
 {
     if image[at + 8] < g.first {
         return name_at(image, at) == 0;
     }
-    plain_file(image, at, g, marks)
+    plain_file(image, at, g, reciprocal, marks)
 }
 
-// Judges places from a word of the image on up to the first that `plain_place` leaves, and says how many; none where area
-// processes are open. The loop is short, so that the index blocks of many files are read at once.
-fn plain_run(
+// Judges places from a word of the image on up to the first that `plain_place` leaves, or whose name may be open, and says how
+// many.
+fn guarded_run(
     image: &[u16],
     at: usize,
     count: usize,
     upto: usize,
+    cells: &[u8; 256],
     g: Geometry,
     marks: &mut [u8; 4096],
 ) -> usize
     requires { ⌜ UnitOf (now image) g × SomeMarked (g .slices) (now marks) × (at + 16 * count ≤ length (now image)) × OrdinaryPlaces (placesFrom (now image) at) count ⌝ }
-    ensures { λ r. ⌜ PlainPlaces (now (image .entry)) g (placesFrom (now (image .entry)) at) count upto (now (marks .entry)) (now (marks .exit)) r ⌝ }
+    ensures { λ r. ⌜ PlainPlaces (now (image .entry)) g (placesFrom (now (image .entry)) at) count upto (now (cells .entry)) (now (marks .entry)) (now (marks .exit)) r ⌝ }
 {
-    if upto != 0 {
-        return 0;
-    }
+    let reciprocal = marks::reciprocal(g.slice);
     let mut i: usize = 0;
     while i < count {
-        if !plain_place(image, at + 16 * i, g, marks) {
+        if cells[name_cell(name_at(image, at + 16 * i))] != 0 {
+            return i;
+        }
+        if !plain_place(image, at + 16 * i, g, reciprocal, marks) {
             return i;
         }
         i += 1;
@@ -384,7 +403,63 @@ fn plain_run(
     i
 }
 
-// Judges so many places, which stand one after the other from a word of the image on.
+// The same, with no look at the names where no area process is open. The loop is short, so that the index blocks of many files are
+// read at once.
+fn plain_run(
+    image: &[u16],
+    at: usize,
+    count: usize,
+    upto: usize,
+    cells: &[u8; 256],
+    g: Geometry,
+    marks: &mut [u8; 4096],
+) -> usize
+    requires { ⌜ UnitOf (now image) g × SomeMarked (g .slices) (now marks) × (at + 16 * count ≤ length (now image)) × OrdinaryPlaces (placesFrom (now image) at) count ⌝ }
+    ensures { λ r. ⌜ PlainPlaces (now (image .entry)) g (placesFrom (now (image .entry)) at) count upto (now (cells .entry)) (now (marks .entry)) (now (marks .exit)) r ⌝ }
+{
+    if upto != 0 {
+        return guarded_run(image, at, count, upto, cells, g, marks);
+    }
+    let reciprocal = marks::reciprocal(g.slice);
+    let mut i: usize = 0;
+    while i < count {
+        if !plain_place(image, at + 16 * i, g, reciprocal, marks) {
+            return i;
+        }
+        i += 1;
+    }
+    i
+}
+
+// Judges so many places, which stand one after the other from a word of the image on: the first by all the rules, then others the
+// quick way as far as that goes, and so on.
+fn rest_sound(
+    image: &[u16],
+    at: usize,
+    count: usize,
+    names: &[u64; 8],
+    indexes: &[u16; 8],
+    lengths: &[u16; 8],
+    upto: usize,
+    cells: &[u8; 256],
+    g: Geometry,
+    marks: &mut [u8; 4096],
+) -> bool
+    requires { ⌜ UnitOf (now image) g × SomeMarked (g .slices) (now marks) × (at + 16 * count ≤ length (now image)) × (upto ≤ 8) × CellsOf (now names) upto (now cells) × OrdinaryPlaces (placesFrom (now image) at) count ⌝ }
+    ensures { λ r. ⌜ PlacesMarking (now (image .entry)) g (liveIn (now (names .entry)) (now (indexes .entry)) (now (lengths .entry)) upto) (placesFrom (now (image .entry)) at) count (now (marks .entry)) (now (marks .exit)) r ⌝ }
+{
+    let mut i: usize = 0;
+    while i < count {
+        if !place_sound(image, at + 16 * i, names, indexes, lengths, upto, g, marks) {
+            return false;
+        }
+        i += 1;
+        i += plain_run(image, at + 16 * i, count - i, upto, cells, g, marks);
+    }
+    true
+}
+
+// The same, with the quick way tried first.
 fn run_sound(
     image: &[u16],
     at: usize,
@@ -393,24 +468,26 @@ fn run_sound(
     indexes: &[u16; 8],
     lengths: &[u16; 8],
     upto: usize,
+    cells: &[u8; 256],
     g: Geometry,
     marks: &mut [u8; 4096],
 ) -> bool
-    requires { ⌜ UnitOf (now image) g × SomeMarked (g .slices) (now marks) × (at + 16 * count ≤ length (now image)) × (upto ≤ 8) × OrdinaryPlaces (placesFrom (now image) at) count ⌝ }
+    requires { ⌜ UnitOf (now image) g × SomeMarked (g .slices) (now marks) × (at + 16 * count ≤ length (now image)) × (upto ≤ 8) × CellsOf (now names) upto (now cells) × OrdinaryPlaces (placesFrom (now image) at) count ⌝ }
     ensures { λ r. ⌜ PlacesMarking (now (image .entry)) g (liveIn (now (names .entry)) (now (indexes .entry)) (now (lengths .entry)) upto) (placesFrom (now (image .entry)) at) count (now (marks .entry)) (now (marks .exit)) r ⌝ }
 {
-    let mut i: usize = 0;
-    while i < count {
-        i += plain_run(image, at + 16 * i, count - i, upto, g, marks);
-        if i == count {
-            return true;
-        }
-        if !place_sound(image, at + 16 * i, names, indexes, lengths, upto, g, marks) {
-            return false;
-        }
-        i += 1;
-    }
-    true
+    let n = plain_run(image, at, count, upto, cells, g, marks);
+    rest_sound(
+        image,
+        at + 16 * n,
+        count - n,
+        names,
+        indexes,
+        lengths,
+        upto,
+        cells,
+        g,
+        marks,
+    )
 }
 
 // Judges the places of the first `size` blocks of SYS, stretch by stretch.
@@ -421,10 +498,11 @@ fn stretches_sound(
     indexes: &[u16; 8],
     lengths: &[u16; 8],
     upto: usize,
+    cells: &[u8; 256],
     g: Geometry,
     marks: &mut [u8; 4096],
 ) -> bool
-    requires { ⌜ SysKnown (now image) g (now marks) size × (upto ≤ 8) × OrdinaryPlaces (placesIn (now image) g) (16 * size) ⌝ }
+    requires { ⌜ SysKnown (now image) g (now marks) size × (upto ≤ 8) × CellsOf (now names) upto (now cells) × OrdinaryPlaces (placesIn (now image) g) (16 * size) ⌝ }
     ensures { λ r. ⌜ PlacesMarking (now (image .entry)) g (liveIn (now (names .entry)) (now (indexes .entry)) (now (lengths .entry)) upto) (placesIn (now (image .entry)) g) (16 * size) (now (marks .entry)) (now (marks .exit)) r ⌝ }
 {
     let mut b: u16 = 0;
@@ -440,6 +518,7 @@ fn stretches_sound(
             indexes,
             lengths,
             upto,
+            cells,
             g,
             marks,
         ) {
@@ -467,6 +546,8 @@ pub fn files_sound(
     let mut lengths: [u16; 8] = [0; 8];
     flatten(state, &mut names, &mut indexes, &mut lengths);
     let upto = open_upto(&names);
+    let mut cells: [u8; 256] = [0; 256];
+    fill_cells(&names, upto, &mut cells);
     stretches_sound(
         image,
         g.keys * layers,
@@ -474,6 +555,7 @@ pub fn files_sound(
         &indexes,
         &lengths,
         upto,
+        &cells,
         g,
         marks,
     )

@@ -37,7 +37,8 @@ use Rattle.unit.proofs.OpenLaws.{on-catalog}
 use Rattle.unit.proofs.FindLaws.{place-room}
 use Rattle.writes.specs.Writes.{CanZeroFrom, CanZero, Zeroed, CanLengthenFrom, CanLengthen, LengthenedAt}
 use Rattle.writes.proofs.WriteLaws.{length-zeroed, length-taken-image, longer-file}
-use Rattle.grow.specs.Grow.{layerSlices, grownUnit, CanGrowFrom, layeredImage, LayerAdded, GrownFrom}
+use Rattle.steps.specs.Units.{layerSlices, grownUnit}
+use Rattle.grow.specs.Grow.{CanGrowFrom, layeredImage, LayerAdded, GrownFrom}
 use Rattle.grow.proofs.BlockLaws.{block-total, sys-file, counted-word}
 
 module _ {image : List ℕ} {o : Opened} {p : Plain} (can : CanGrowFrom image o p) where

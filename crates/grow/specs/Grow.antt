@@ -6,19 +6,13 @@ use Rattle.disc.specs.Names.{SYS}
 use Rattle.disc.specs.Stretches.{stretchCount, sysFrom}
 use Rattle.disc.specs.Kit.{sysIndexSector}
 use Rattle.disc.specs.Entries.{placeCount, nameAt}
-use Rattle.plain.specs.Unit.{Plain, freeSlices, withTables}
+use Rattle.plain.specs.Unit.{Plain, freeSlices}
 use Rattle.plain.specs.Taking.{taking}
 use Rattle.refine.specs.OnDisc.{OnDisc}
 use Rattle.refine.specs.Writes.{takenImage, zeroedSectors, grownImage}
 use Rattle.unit.specs.declared.Opened.{Opened}
 use Rattle.unit.specs.Opened.{NumbersOf, unitPlaces}
-
--- The slices that SYS takes for one layer more, and the unit then.
-abbrev pub layerSlices : Plain → List ℕ
-layerSlices p = taking p (suc (p .layers)) 0 0 .sysNew
-
-abbrev pub grownUnit : Plain → Plain
-grownUnit p = withTables p (suc (p .layers)) (p .sys ++ layerSlices p) (p .files) (p .areas)
+use Rattle.steps.specs.Units.{layerSlices, grownUnit}
 
 -- A unit on the image that has slices for one layer more, in at most 127 stretches.
 pub record CanGrowFrom (image : List ℕ) (o : Opened) (p : Plain) : Type 0 where

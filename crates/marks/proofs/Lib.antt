@@ -2,6 +2,7 @@ pub mod PackedLaws
 pub mod WordTests
 pub mod AgreeLaws
 pub mod MarkLaws
+pub mod RunLaws
 pub mod PairLaws
 pub mod IndexMarks
-pub mod FewLaws
+pub mod SingleLaws

@@ -9,14 +9,13 @@ ghost use Rattle.disc.specs.Decide.{Decides};
 ghost use Rattle.disc.specs.Numbers.{sliceCount};
 ghost use Rattle.disc.specs.Kit.{Limits};
 ghost use Rattle.disc.specs.Slices.{InRangeOnce};
-ghost use Rattle.disc.specs.Stretches.{span};
 ghost use Rattle.sound.specs.Sound.{SoundMap};
-ghost use Rattle.sound.specs.Parts.{MarksOf, Marking};
+ghost use Rattle.sound.specs.Parts.{MarksOf};
 ghost use Rattle.kit.specs.Geometry.{UnitOf};
 ghost use Rattle.disc.specs.Pairs.{pairLength, pairStart};
 ghost use Rattle.disc.specs.Words.{word};
 ghost use Rattle.marks.specs.Indexed.{PairMarking, IndexMarking, SingleMarking};
-ghost use Rattle.marks.specs.Marked.{Marked, SomeMarked, FewMarking};
+ghost use Rattle.marks.specs.Marked.{SomeMarked, Free, runMarks, RunMarking};
 ghost use Rattle.marks.specs.Packed.{packed, Filled, Cleared};
 use kit::Geometry;
 
@@ -88,18 +87,101 @@ pub fn map_agrees(image: &[u16], marks: &[u8; 4096], g: Geometry) -> bool
     cleared(image, full + 1)
 }
 
-// Marks the slices from + 1 to from + count; false where one of them is marked already. What was marked is summed, with no way
-// out of the loop, so that it is quick.
-fn mark_run(marks: &mut [u8; 4096], from: usize, count: usize) -> bool
+// Whether none of the slices from + 1 to from + count is marked. The marks are summed, with no way out of the loop, so that it is
+// quick.
+fn is_free(marks: &[u8; 4096], from: usize, count: usize) -> bool
     requires { ⌜ from + count ≤ 4096 ⌝ }
-    ensures { λ r. ⌜ ((m : ℕ) (held : List ℕ) → from + count ≤ m → Marked m (now (marks .entry)) held → Marking r (Unit {0}) m (now (marks .exit)) held (span (from + 1) count)) ⌝ }
+    ensures { λ r. ⌜ Decides r (Free (now (marks .entry)) from count) ⌝ }
 {
     let mut taken: u32 = 0;
     for n in 0..count {
         taken += wide(marks[from + n]);
-        marks[from + n] = 1;
     }
     taken == 0
+}
+
+// Marks the slices from + 1 to from + count.
+fn set_run(marks: &mut [u8; 4096], from: usize, count: usize)
+    requires { ⌜ from + count ≤ 4096 ⌝ }
+    ensures { λ r. ⌜ now (marks .exit) ≡ runMarks (now (marks .entry)) from count ⌝ }
+{
+    for n in 0..count {
+        marks[from + n] = 1;
+    }
+}
+
+// Marks the slices from + 1 to from + count; false, and nothing is marked, where one of them is marked already.
+fn mark_many(marks: &mut [u8; 4096], from: usize, count: usize) -> bool
+    requires { ⌜ from + count ≤ 4096 ⌝ }
+    ensures { λ r. ⌜ RunMarking r from count (now (marks .entry)) (now (marks .exit)) ⌝ }
+{
+    if !is_free(marks, from, count) {
+        return false;
+    }
+    set_run(marks, from, count);
+    true
+}
+
+// The same of slice from + 1.
+fn mark_one(marks: &mut [u8; 4096], from: usize) -> bool
+    requires { ⌜ from < 4096 ⌝ }
+    ensures { λ r. ⌜ RunMarking r from 1 (now (marks .entry)) (now (marks .exit)) ⌝ }
+{
+    if marks[from] != 0 {
+        return false;
+    }
+    marks[from] = 1;
+    true
+}
+
+// The lesser of two numbers.
+fn lesser(a: usize, b: usize) -> usize
+    ensures { λ r. ⌜ (r ≤ b) × (a ≤ b → r ≡ a) × (b ≤ a → r ≡ b) ⌝ }
+{
+    if a < b {
+        return a;
+    }
+    b
+}
+
+// The same of two to four slices. Fewer than four are tried and marked twice, which needs no branch on their number.
+fn mark_four(marks: &mut [u8; 4096], from: usize, count: usize) -> bool
+    requires { ⌜ (2 ≤ count) × (count ≤ 4) × (from + count ≤ 4096) ⌝ }
+    ensures { λ r. ⌜ RunMarking r from count (now (marks .entry)) (now (marks .exit)) ⌝ }
+{
+    let last = from + (count - 1);
+    let third = lesser(from + 2, last);
+    if marks[from] != 0 {
+        return false;
+    }
+    if marks[from + 1] != 0 {
+        return false;
+    }
+    if marks[third] != 0 {
+        return false;
+    }
+    if marks[last] != 0 {
+        return false;
+    }
+    marks[from] = 1;
+    marks[from + 1] = 1;
+    marks[third] = 1;
+    marks[last] = 1;
+    true
+}
+
+// The same of any number of slices, the usual small ones without a loop.
+fn mark_slices(marks: &mut [u8; 4096], from: usize, count: usize) -> bool
+    requires { ⌜ (1 ≤ count) × (from + count ≤ 4096) ⌝ }
+    ensures { λ r. ⌜ RunMarking r from count (now (marks .entry)) (now (marks .exit)) ⌝ }
+{
+    if count == 1 {
+        return mark_one(marks, from);
+    }
+    if 4 < count {
+        return mark_many(marks, from, count);
+    }
+    mark_four(marks, from, count)
 }
 
 // Marks the slices of a pair of an index block, and answers their number: 0 where they are no whole slices of the unit, or one of
@@ -124,7 +206,10 @@ fn mark_pair(sectors: u16, start: u16, g: Geometry, marks: &mut [u8; 4096]) -> u
     if (g.slices as u32) < from + count {
         return 0;
     }
-    if !mark_run(marks, from as usize, count as usize) {
+    if count == 0 {
+        return 0;
+    }
+    if !mark_slices(marks, from as usize, count as usize) {
         return 0;
     }
     count as u16
@@ -187,19 +272,21 @@ pub fn mark_index(image: &[u16], q: u16, g: Geometry, marks: &mut [u8; 4096]) ->
     }
 }
 
-// The number of whole slices that so many sectors are; 0 where they are none. One slice, the usual number, needs no division.
-fn whole_slices(sectors: u16, slice: u16) -> u32
-    requires { ⌜ 1 ≤ slice ⌝ }
-    ensures { λ r. ⌜ (1 ≤ r → (r ≡ sectors / slice) × (r * slice ≡ sectors)) × (r ≤ 65535) ⌝ }
+// What a number of sectors is multiplied by, and the product divided by 65,536, in place of a division by the sectors of a slice.
+pub fn reciprocal(slice: u16) -> u32
+    requires { ⌜ 2 ≤ slice ⌝ }
+    ensures { λ r. ⌜ (r ≡ 65536 / slice + 1) × (r ≤ 65536) ⌝ }
 {
-    if sectors == slice {
-        return 1;
-    }
-    let count = sectors as u32 / slice as u32;
-    if count * slice as u32 != sectors as u32 {
-        return 0;
-    }
-    count
+    65536 / slice as u32 + 1
+}
+
+// The number of slices that so many sectors are, by the reciprocal. Whether it is right is for the caller to see, who multiplies
+// it back.
+fn quotient(sectors: u16, reciprocal: u32) -> u32
+    requires { ⌜ reciprocal ≤ 65536 ⌝ }
+    ensures { λ r. ⌜ (r ≡ sectors * reciprocal / 65536) × (r ≤ 65535) ⌝ }
+{
+    sectors as u32 * reciprocal / 65536
 }
 
 // Whether the index block in sector q has one pair, of so many sectors from sector q on.
@@ -217,86 +304,32 @@ fn one_pair(image: &[u16], q: u16, sectors: u16) -> bool
     image[at + 2] == q
 }
 
-// Marks slice from + 1, unless it is marked already.
-fn mark_slice(marks: &mut [u8; 4096], from: usize) -> bool
-    requires { ⌜ from < 4096 ⌝ }
-    ensures { λ r. ⌜ FewMarking r from 1 (now (marks .entry)) (now (marks .exit)) ⌝ }
-{
-    if marks[from] != 0 {
-        return false;
-    }
-    marks[from] = 1;
-    true
-}
-
-// The lesser of two numbers.
-fn lesser(a: usize, b: usize) -> usize
-    ensures { λ r. ⌜ (r ≤ b) × (a ≤ b → r ≡ a) × (b ≤ a → r ≡ b) ⌝ }
-{
-    if a < b {
-        return a;
-    }
-    b
-}
-
-// Marks the slices from + 1 to from + count, two to four, unless one of them is marked already. Fewer than four are tried and
-// marked twice, which needs no branch on their number.
-fn mark_four(marks: &mut [u8; 4096], from: usize, count: usize) -> bool
-    requires { ⌜ (2 ≤ count) × (count ≤ 4) × (from + count ≤ 4096) ⌝ }
-    ensures { λ r. ⌜ FewMarking r from count (now (marks .entry)) (now (marks .exit)) ⌝ }
-{
-    let last = from + (count - 1);
-    let third = lesser(from + 2, last);
-    if marks[from] != 0 {
-        return false;
-    }
-    if marks[from + 1] != 0 {
-        return false;
-    }
-    if marks[third] != 0 {
-        return false;
-    }
-    if marks[last] != 0 {
-        return false;
-    }
-    marks[from] = 1;
-    marks[from + 1] = 1;
-    marks[third] = 1;
-    marks[last] = 1;
-    true
-}
-
-// Marks the slices from + 1 to from + count if they are at most four, unless one of them is marked already.
-fn mark_few(marks: &mut [u8; 4096], from: usize, count: usize) -> bool
-    requires { ⌜ (1 ≤ count) × (from + count ≤ 4096) ⌝ }
-    ensures { λ r. ⌜ FewMarking r from count (now (marks .entry)) (now (marks .exit)) ⌝ }
-{
-    if count == 1 {
-        return mark_slice(marks, from);
-    }
-    if 4 < count {
-        return false;
-    }
-    mark_four(marks, from, count)
-}
-
-// Marks the slices of a file whose index block, in its first sector q, has one pair of so many sectors, at most four slices, of
-// which none is marked. For any other file it says false, and nothing is marked. All but the block is known from the file's
-// entry, so that nothing has to wait for the block's words but the comparison with them.
-pub fn mark_single(image: &[u16], q: u16, sectors: u16, g: Geometry, marks: &mut [u8; 4096]) -> bool
-    requires { ⌜ UnitOf (now image) g × SomeMarked (g .slices) (now marks) ⌝ }
+// Marks the slices of a file whose index block, in its first sector q, has one pair of so many sectors, if none of them is marked.
+// For any other file it says false, and nothing is marked. All but the block is known from the file's entry, so that nothing has
+// to wait for the block's words but the comparison with them.
+pub fn mark_single(
+    image: &[u16],
+    q: u16,
+    sectors: u16,
+    g: Geometry,
+    reciprocal: u32,
+    marks: &mut [u8; 4096],
+) -> bool
+    requires { ⌜ UnitOf (now image) g × SomeMarked (g .slices) (now marks) × (reciprocal ≤ 65536) ⌝ }
     ensures { λ r. ⌜ SingleMarking (now (image .entry)) g q sectors (now (marks .entry)) (now (marks .exit)) r ⌝ }
 {
     if q < g.first {
         return false;
     }
-    let offset = (q - g.first) as u32;
     let slice = g.slice as u32;
-    let from = offset / slice;
-    if from * slice != offset {
+    let from = quotient(q - g.first, reciprocal);
+    if from * slice != (q - g.first) as u32 {
         return false;
     }
-    let count = whole_slices(sectors, g.slice);
+    let count = quotient(sectors, reciprocal);
+    if count * slice != sectors as u32 {
+        return false;
+    }
     if count == 0 {
         return false;
     }
@@ -306,5 +339,5 @@ pub fn mark_single(image: &[u16], q: u16, sectors: u16, g: Geometry, marks: &mut
     if !one_pair(image, q, sectors) {
         return false;
     }
-    mark_few(marks, from as usize, count as usize)
+    mark_slices(marks, from as usize, count as usize)
 }

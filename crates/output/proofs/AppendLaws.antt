@@ -29,7 +29,8 @@ use Rattle.unit.specs.declared.Opened.{Opened}
 use Rattle.writes.specs.Writes.{FileBlock, CanLengthenFrom, CanLengthen, Lengthened}
 use Rattle.writes.proofs.WriteLaws.{length-taken-image, longer-file, sector-told}
 use Rattle.writes.proofs.FileLaws.{index-told}
-use Rattle.output.specs.Output.{newSlices, roomWord, CanAppendFrom}
+use Rattle.steps.specs.Units.{appendSlices}
+use Rattle.output.specs.Output.{roomWord, CanAppendFrom}
 use Rattle.output.proofs.FileLaws.{file-block}
 
 -- ---- the questions
@@ -39,7 +40,7 @@ module _ (p : Plain) (f : File) where
   free = leb (slicesToTake (p .s) f) (freeSlices p)
 
   abbrev few : Bool
-  few = eqb (slicesToTake (p .s) f) 0 || leb (stretchCount (f .slices ++ newSlices p f)) 127
+  few = eqb (slicesToTake (p .s) f) 0 || leb (stretchCount (f .slices ++ appendSlices p f)) 127
 
   room-yes : roomWord p f ≡ 0 → (free ≡ true) × (few ≡ true)
   unfolding roomWord
@@ -53,10 +54,10 @@ module _ (p : Plain) (f : File) where
 module _ {image : List ℕ} {o : Opened} {block : List ℕ} {count len : ℕ} {lent : List ℕ} {p : Plain} {n : ℕ} {users : Table AreaUser} {f : File}
     (can : CanAppendFrom image o block count len lent p n users f) (lentWords : Words lent) where
   abbrev new : List ℕ
-  new = newSlices p f
+  new = appendSlices p f
 
   abbrev slices : List ℕ
-  slices = f .slices ++ newSlices p f
+  slices = f .slices ++ appendSlices p f
 
   abbrev words : List ℕ
   words = take 256 lent
@@ -129,9 +130,9 @@ module _ {image : List ℕ} {o : Opened} {block : List ℕ} {count len : ℕ} {l
           rw (can .numbers .slice, stored-is)
           (append-counts (can .on) n (can .file) (can .live) (appends-extends appends) (appends-room appends) (appends-few appends) words count-words small)
 
-      pub appended-is : {after : List ℕ} → after ≡ countedFree image₂ (o .slice) → after ≡ appendedImage p image f (newSlices p f) (take 256 lent)
+      pub appended-is : {after : List ℕ} → after ≡ countedFree image₂ (o .slice) → after ≡ appendedImage p image f (appendSlices p f) (take 256 lent)
       unfolding appendedImage
       appended-is e = e ∙ ap₂ countedFree stored-is (can .numbers .slice)
 
-    pub index-is : {q : ℕ} → q ≡ jointSector longer 0 0 → q ≡ indexSector (p .F) (p .s) (length (f .slices ++ newSlices p f)) (f .slices ++ newSlices p f)
+    pub index-is : {q : ℕ} → q ≡ jointSector longer 0 0 → q ≡ indexSector (p .F) (p .s) (length (f .slices ++ appendSlices p f)) (f .slices ++ appendSlices p f)
     index-is e = e ∙ index-told took-file

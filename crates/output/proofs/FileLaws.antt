@@ -47,26 +47,27 @@ use Rattle.unit.proofs.OpenLaws.{on-catalog}
 use Rattle.writes.specs.Writes.{FileBlock}
 use Rattle.writes.proofs.WriteLaws.{sector-told}
 use Rattle.writes.proofs.FileLaws.{unit-file}
-use Rattle.output.specs.Output.{attributesIn, AttributesOf, BlockSectorOf, newSlices, roomWord, RoomFor}
+use Rattle.steps.specs.Units.{appendSlices}
+use Rattle.output.specs.Output.{entryAttributes, AttributesOf, BlockSectorOf, roomWord, RoomFor}
 
 -- ---- attributes
 
 module _ {image : List ℕ} {o : Opened} {n : ℕ} {found : Found} (finds : FindsName image o n found) where
   pub attributes-none : found ≡ Nothing → AttributesOf image o n 0
-  attributes-none e = record { all = λ p on num. sym (ap attributesIn (finds .all p (on-catalog on) num .nothing e)) }
+  attributes-none e = record { all = λ p on num. sym (ap entryAttributes (finds .all p (on-catalog on) num .nothing e)) }
 
   pub attributes-some : {place : Place} {r : ℕ} → found ≡ At place → r ≡ entryWord image place 6 → AttributesOf image o n r
   attributes-some {place} e w = record {
     all = λ p on num.
         let a = finds .all p (on-catalog on) num .at place e in
-        w ∙ a .holds 6 (omega arith) ∙ sym (ap attributesIn (a .entered));
+        w ∙ a .holds 6 (omega arith) ∙ sym (ap entryAttributes (a .entered));
   }
 
 -- those of a file
 pub file-attributes : {image : List ℕ} {o : Opened} {n r : ℕ} {p : Plain} {f : File} → AttributesOf image o n r → OnDisc image p → NumbersOf o p → tableFind n (p .files) ≡ some f → r ≡ f .attributes
 file-attributes {n = n} {p = p} {f = f} h on num file =
     let good = on .good .files n f file in
-    h .all p on num ∙ ap attributesIn (entry-of p n f (good .ordinary) file)
+    h .all p on num ∙ ap entryAttributes (entry-of p n f (good .ordinary) file)
     ∙ entry-attributes n (f .optional) (f .attributes) (f .booked) (indexSector (p .F) (p .s) (f .bookedSlices) (f .slices)) (p .s * f .bookedSlices) (f .tail) (good .optional .count)
 
 -- ---- the block of a file on the image
@@ -143,7 +144,7 @@ module _ {image : List ℕ} {p : Plain} (on : OnDisc image p) (n : ℕ) {f : Fil
         chosen-is : k .0 ≡ choose (M p) (held p) (lastOf (f .slices))
         chosen-is = free-inj (sym (choice ∙ at) ∙ choice-some (M p) (held p) image (on .good .limits .slices-high) (on .layout .map) (lastOf (f .slices)) free)
 
-        stretches-is : 1 ≤ k .0 → stretchesWith (p .F) (p .s) (k .0) words 0 ≡ stretchCount (f .slices ++ newSlices p f)
+        stretches-is : 1 ≤ k .0 → stretchesWith (p .F) (p .s) (k .0) words 0 ≡ stretchCount (f .slices ++ appendSlices p f)
         stretches-is o =
             with-is (k .0) o
             ∙ ap (λ (x : ℕ). stretchCount (f .slices ++ (x ∷ []))) chosen-is
@@ -152,8 +153,8 @@ module _ {image : List ℕ} {p : Plain} (on : OnDisc image p) (n : ℕ) {f : Fil
         pub room-many : 1 ≤ k .0 → 127 < stretchesWith (p .F) (p .s) (k .0) words 0 → 0x0808 ≡ roomWord p f
         unfolding roomWord
         room-many o x =
-            let y : 127 < stretchCount (f .slices ++ newSlices p f) = omega (arith, stretches-is o) in
-            go (slicesToTake (p .s) f) one (le-leb 1 (freeSlices p) free) (lt-leb (stretchCount (f .slices ++ newSlices p f)) 127 y)
+            let y : 127 < stretchCount (f .slices ++ appendSlices p f) = omega (arith, stretches-is o) in
+            go (slicesToTake (p .s) f) one (le-leb 1 (freeSlices p) free) (lt-leb (stretchCount (f .slices ++ appendSlices p f)) 127 y)
           where
             go : (c : ℕ) → c ≡ 1 → leb 1 (freeSlices p) ≡ true → {b : Bool} → b ≡ false → _≡_ {A = ℕ} 0x0808 (cond (leb c (freeSlices p)) (cond (eqb c 0 || b) 0 0x0808) 0x0900)
             go c z w v = rw (z, w, v) refl
@@ -161,8 +162,8 @@ module _ {image : List ℕ} {p : Plain} (on : OnDisc image p) (n : ℕ) {f : Fil
         pub room-done : 1 ≤ k .0 → stretchesWith (p .F) (p .s) (k .0) words 0 ≤ 127 → 0 ≡ roomWord p f
         unfolding roomWord
         room-done o x =
-            let y : stretchCount (f .slices ++ newSlices p f) ≤ 127 = omega (arith, stretches-is o) in
-            go (slicesToTake (p .s) f) one (le-leb 1 (freeSlices p) free) (le-leb (stretchCount (f .slices ++ newSlices p f)) 127 y)
+            let y : stretchCount (f .slices ++ appendSlices p f) ≤ 127 = omega (arith, stretches-is o) in
+            go (slicesToTake (p .s) f) one (le-leb 1 (freeSlices p) free) (le-leb (stretchCount (f .slices ++ appendSlices p f)) 127 y)
           where
             go : (c : ℕ) → c ≡ 1 → leb 1 (freeSlices p) ≡ true → {b : Bool} → b ≡ true → _≡_ {A = ℕ} 0 (cond (leb c (freeSlices p)) (cond (eqb c 0 || b) 0 0x0808) 0x0900)
             go c z w v = rw (z, w, v) refl

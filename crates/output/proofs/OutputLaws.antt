@@ -44,7 +44,8 @@ use Rattle.sharing.specs.declared.AreaReply.{AreaReply}
 use Rattle.sharing.specs.Sharing.{areaReply, atPosition}
 use Rattle.sharing.specs.Leaves.{areaUsers, areaUser}
 use Rattle.sharing.proofs.ShareLaws.{leaves, seat-size}
-use Rattle.output.specs.Output.{AttributesOf, BlockFrom, SomeBlock, BlockSectorOf, newSlices, roomWord, RoomFor, CanAppendFrom, AppendedBy, Placed, SomePlaced, outputImage, outputState, OutputLeaves, Outputs}
+use Rattle.steps.specs.Units.{appendSlices}
+use Rattle.output.specs.Output.{AttributesOf, BlockFrom, SomeBlock, BlockSectorOf, roomWord, RoomFor, CanAppendFrom, AppendedBy, Placed, SomePlaced, outputImage, outputState, OutputLeaves, Outputs}
 use Rattle.output.proofs.FileLaws.{file-attributes, total-small, more-is}
 use Rattle.output.proofs.AppendLaws.{appends}
 
@@ -59,7 +60,7 @@ module _ (p : Plain) (f : File) (k : ℕ) where
   unfolding outputImage
   image-replaced image lent x = rw (lt-ltb k (length (f .sectors)) x) refl
 
-  image-appended : (image lent : List ℕ) → length (f .sectors) ≤ k → appendedImage p image f (newSlices p f) (take 256 lent) ≡ outputImage p image f 0 k lent
+  image-appended : (image lent : List ℕ) → length (f .sectors) ≤ k → appendedImage p image f (appendSlices p f) (take 256 lent) ≡ outputImage p image f 0 k lent
   unfolding outputImage
   image-appended image lent x = rw (le-ltb k (length (f .sectors)) x) refl
 
@@ -72,7 +73,7 @@ module _ (p : Plain) (f : File) (k : ℕ) where
   state-replaced state j u x = rw (lt-ltb k (length (f .sectors)) x) refl
 
   state-appended : (state : State) (j u : ℕ) → length (f .sectors) ≤ k
-      → setArea state j (withLive (moved (areaAt state j) u (record { 0 = suc k })) (record { 0 = indexSector (p .F) (p .s) (length (f .slices ++ newSlices p f)) (f .slices ++ newSlices p f) }) (suc (length (f .sectors))))
+      → setArea state j (withLive (moved (areaAt state j) u (record { 0 = suc k })) (record { 0 = indexSector (p .F) (p .s) (length (f .slices ++ appendSlices p f)) (f .slices ++ appendSlices p f) }) (suc (length (f .sectors))))
       ≡ outputState p f state j u 0 k
   unfolding outputState
   state-appended state j u x = rw (le-ltb k (length (f .sectors)) x) refl
@@ -138,19 +139,19 @@ module _ {image : List ℕ} {state : State} {o : Opened} {p q : Plain} {n j send
 
     no-room : extendable (f .attributes) ≡ true → roomWord p f ≢ 0 → output p q move n f k lent ≡ refusedAt q (roomWord p f) k lent
     unfolding roomWord
-    no-room e d = go (leb (slicesToTake (p .s) f) (freeSlices p)) (eqb (slicesToTake (p .s) f) 0 || leb (stretchCount (f .slices ++ newSlices p f)) 127) refl refl d
+    no-room e d = go (leb (slicesToTake (p .s) f) (freeSlices p)) (eqb (slicesToTake (p .s) f) 0 || leb (stretchCount (f .slices ++ appendSlices p f)) 127) refl refl d
       where
-        go : (a b : Bool) → leb (slicesToTake (p .s) f) (freeSlices p) ≡ a → (eqb (slicesToTake (p .s) f) 0 || leb (stretchCount (f .slices ++ newSlices p f)) 127) ≡ b → (_≡_ {A = ℕ} (cond a (cond b 0 0x0808) 0x0900) 0 → ⊥)
+        go : (a b : Bool) → leb (slicesToTake (p .s) f) (freeSlices p) ≡ a → (eqb (slicesToTake (p .s) f) 0 || leb (stretchCount (f .slices ++ appendSlices p f)) 127) ≡ b → (_≡_ {A = ℕ} (cond a (cond b 0 0x0808) 0x0900) 0 → ⊥)
             → output p q move n f k lent ≡ refusedAt q (cond a (cond b 0 0x0808) 0x0900) k lent
         go true true x y d = absurd (d refl)
         go true false x y d = is-output lent ∙ append-many p n sender (areaUsers state j) (areaUser state j u) f 3 lent q k refl past e x y
         go false b x y d = is-output lent ∙ append-full p n sender (areaUsers state j) (areaUser state j u) f 3 lent q k refl past e x
 
     module _ (long : 256 ≤ length lent) (words : Words lent) {block : List ℕ} {count len : ℕ} (can : CanAppendFrom image o block count len lent p n (areaUsers state j) f) where
-      appended : {index : Sector} {len′ k′ : ℕ} → index .0 ≡ indexSector (p .F) (p .s) (length (f .slices ++ newSlices p f)) (f .slices ++ newSlices p f) → len′ ≡ suc (length (f .sectors)) → k′ ≡ suc k
-          → OutputLeaves image state p q n j sender u f k lent (areaReply (setArea state j (withLive (moved (areaAt state j) u (record { 0 = k′ })) index len′)) 0 512 k) (appendedImage p image f (newSlices p f) (take 256 lent))
+      appended : {index : Sector} {len′ k′ : ℕ} → index .0 ≡ indexSector (p .F) (p .s) (length (f .slices ++ appendSlices p f)) (f .slices ++ appendSlices p f) → len′ ≡ suc (length (f .sectors)) → k′ ≡ suc k
+          → OutputLeaves image state p q n j sender u f k lent (areaReply (setArea state j (withLive (moved (areaAt state j) u (record { 0 = k′ })) index len′)) 0 512 k) (appendedImage p image f (appendSlices p f) (take 256 lent))
       appended {index} {len′} {k′} i l z =
-          let slices : List ℕ = f .slices ++ newSlices p f in
+          let slices : List ℕ = f .slices ++ appendSlices p f in
           let sectors : List (List ℕ) = f .sectors ++ (take 256 lent ∷ []) in
           let more : length sectors ≡ suc (length (f .sectors)) = length-append (f .sectors) (take 256 lent ∷ []) ∙ omega arith in
           let a = appends can words in

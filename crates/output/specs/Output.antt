@@ -9,13 +9,12 @@ use lib.ListN.{length, getD, take}
 use Rattle.types.specs.declared.State.{State}
 use Rattle.types.specs.State.{areaAt}
 use Rattle.disc.specs.Attributes.{extendable}
-use Rattle.disc.specs.Slices.{taken, lastOf}
 use Rattle.disc.specs.Stretches.{stretchCount, blockSector, fileFrom}
 use Rattle.disc.specs.Entries.{indexSector}
 use Rattle.index.specs.Block.{wholeIndex}
 use Rattle.state.specs.Areas.{setArea, moved, withLive}
 use Rattle.plain.specs.Table.{Table, tableFind}
-use Rattle.plain.specs.Unit.{Plain, File, AreaUser, M, held, freeSlices, entry}
+use Rattle.plain.specs.Unit.{Plain, File, AreaUser, freeSlices, entry}
 use Rattle.plain.specs.Areas as plain
 use Rattle.plain.specs.Transput.{slicesToTake, output}
 use Rattle.plain.specs.Good.{Good}
@@ -27,17 +26,18 @@ use Rattle.unit.specs.Opened.{NumbersOf}
 use Rattle.sharing.specs.declared.AreaReply.{AreaReply}
 use Rattle.sharing.specs.Sharing.{atPosition}
 use Rattle.sharing.specs.Leaves.{Leaves, Seat, areaUsers, areaUser}
+use Rattle.steps.specs.Units.{appendSlices}
 
 -- ---- what is read of a file
 
 -- "6 attributes": the word of an entry, 0 if there is none.
-abbrev pub attributesIn : Option (List ℕ) → ℕ
-attributesIn none = 0
-attributesIn (some words) = getD words 6 0
+abbrev pub entryAttributes : Option (List ℕ) → ℕ
+entryAttributes none = 0
+entryAttributes (some words) = getD words 6 0
 
 -- The attributes in the entry of name n, of every unit on the image.
 pub record AttributesOf (image : List ℕ) (o : Opened) (n r : ℕ) : Type 0 where
-  pub all : (p : Plain) → OnDisc image p → NumbersOf o p → r ≡ attributesIn (entry p n)
+  pub all : (p : Plain) → OnDisc image p → NumbersOf o p → r ≡ entryAttributes (entry p n)
 
 -- Block k of file f with this index sector, of a unit on the image.
 pub record BlockFrom (image : List ℕ) (index k : ℕ) (p : Plain) (n : ℕ) (f : File) : Type 0 where
@@ -58,15 +58,11 @@ pub record BlockSectorOf (image : List ℕ) (index k r : ℕ) : Type 0 where
 
 -- ---- appending
 
--- The slices that Output at the live length of file f takes: one, or none.
-abbrev pub newSlices : Plain → File → List ℕ
-newSlices p f = taken (M p) (held p) (lastOf (f .slices)) (slicesToTake (p .s) f)
-
 -- "Where a slice is needed: one free? 0900h; at most 127 stretches with it? 0808h": 0, or the word of the first no.
 unfoldable pub roomWord : Plain → File → ℕ
 roomWord p f =
     cond (leb (slicesToTake (p .s) f) (freeSlices p))
-    (cond (eqb (slicesToTake (p .s) f) 0 || leb (stretchCount (f .slices ++ newSlices p f)) 127) 0 0x0808) 0x0900
+    (cond (eqb (slicesToTake (p .s) f) 0 || leb (stretchCount (f .slices ++ appendSlices p f)) 127) 0 0x0808) 0x0900
 
 -- The same of every file, of every unit on the image, that has this index block and takes so many slices.
 pub record RoomFor (image : List ℕ) (o : Opened) (words : List ℕ) (more r : ℕ) : Type 0 where
@@ -96,7 +92,7 @@ pub record CanAppend (image : List ℕ) (o : Opened) (words : List ℕ) (more le
 -- The image with the block appended, and the file's index sector then.
 pub record AppendedBy (image : List ℕ) (o : Opened) (words : List ℕ) (more len : ℕ) (lent after : List ℕ) (index : ℕ) : Type 0 where
   pub all : (p : Plain) (n : ℕ) (users : Table AreaUser) (f : File) → CanAppendFrom image o words more len lent p n users f
-      → (after ≡ appendedImage p image f (newSlices p f) (take 256 lent)) × (index ≡ indexSector (p .F) (p .s) (length (f .slices ++ newSlices p f)) (f .slices ++ newSlices p f))
+      → (after ≡ appendedImage p image f (appendSlices p f) (take 256 lent)) × (index ≡ indexSector (p .F) (p .s) (length (f .slices ++ appendSlices p f)) (f .slices ++ appendSlices p f))
 
 -- ---- output
 
@@ -122,13 +118,13 @@ pub record SomePlaced (image : List ℕ) (state : State) (o : Opened) (j u k : �
 unfoldable pub outputImage : Plain → List ℕ → File → ℕ → ℕ → List ℕ → List ℕ
 outputImage p image f result k lent =
     cond (eqb result 0)
-    (cond (ltb k (length (f .sectors))) (replacedImage p image f k (take 256 lent)) (appendedImage p image f (newSlices p f) (take 256 lent)))
+    (cond (ltb k (length (f .sectors))) (replacedImage p image f k (take 256 lent)) (appendedImage p image f (appendSlices p f) (take 256 lent)))
     image
 
 -- The state after it: "add 1 to the position", and after an append index sector and live length are the longer file's.
 unfoldable pub outputState : Plain → File → State → ℕ → ℕ → ℕ → ℕ → State
 outputState p f state j u result k =
-    let slices : List ℕ = f .slices ++ newSlices p f in
+    let slices : List ℕ = f .slices ++ appendSlices p f in
     cond (eqb result 0)
     (cond (ltb k (length (f .sectors))) (atPosition state j u (suc k))
     (setArea state j (withLive (moved (areaAt state j) u (record { 0 = suc k })) (record { 0 = indexSector (p .F) (p .s) (length slices) slices }) (suc (length (f .sectors))))))

@@ -19,7 +19,8 @@ use Rattle.state.specs.Areas.{setArea, moved, withLive, released, reserved, ent
 use Rattle.plain.specs.Transput.{isOutput}
 use Rattle.sharing.specs.Sharing.{atPosition, positionReached}
 use Rattle.plain.specs.Unit.{Plain, File}
-use Rattle.output.specs.Output.{newSlices, outputState}
+use Rattle.steps.specs.Units.{appendSlices}
+use Rattle.output.specs.Output.{outputState}
 use Rattle.transput.specs.Transput.{inputState, transputState}
 use Rattle.area_messages.specs.AreaMessages.{reserveWord, userState, operationState, admitted, messageState}
 
@@ -47,7 +48,7 @@ kept-either state x y false k l = l
 output-kept : (p : Plain) (f : File) (state : State) (j u result k : ℕ) → Kept state (outputState p f state j u result k)
 unfolding outputState
 output-kept p f state j u result k =
-    let slices : List ℕ = f .slices ++ newSlices p f in
+    let slices : List ℕ = f .slices ++ appendSlices p f in
     let next : Area = moved (areaAt state j) u (record { 0 = suc k }) in
     kept-three state j next (withLive next (record { 0 = indexSector (p .F) (p .s) (length slices) slices }) (suc (length (f .sectors))))
     (moved (areaAt state j) u (record { 0 = k })) (eqb result 0) (ltb k (length (f .sectors)))

@@ -17,7 +17,7 @@ abbrev pub rowOf : {A : Type 0} → ℕ → Option A → Option (Row A)
 rowOf n none = none
 rowOf n (some a) = some (record { key = n; val = a })
 
-row-some : {A : Type 0} (n : ℕ) (o : Option A) (r : Row A) → rowOf n o ≡ some r → (n ≡ r .key) × (o ≡ some (r .val))
+pub row-some : {A : Type 0} (n : ℕ) (o : Option A) (r : Row A) → rowOf n o ≡ some r → (n ≡ r .key) × (o ≡ some (r .val))
 row-some n none r e = absurd (some≢none (sym e))
 row-some n (some a) r e = let q = some-inj e in (ap (λ (x : Row _). x .key) q, ap (λ (x : Row _). some (x .val)) q)
 

@@ -32,7 +32,8 @@ use Rattle.refine.specs.OnDisc.{OnDisc}
 use Rattle.refine.specs.Demands.{InSomeOrder}
 use Rattle.refine.proofs.CatalogLaws.{Named, name-zero}
 use Rattle.refine.proofs.Ground.{Ground, ground, entry-named, entry-length, positive, top, sys-in, sys-data, sys-slices}
-use Rattle.steps.proofs.PlaceLaws.{rowOf, sorted-entries, rowAt, positive-name, one-place, collected}
+use Rattle.refine.proofs.PlaceFiles.{rowOf}
+use Rattle.steps.proofs.PlaceLaws.{sorted-entries, rowAt, positive-name, one-place, collected}
 use Rattle.unit.specs.declared.Opened.{Opened}
 use Rattle.unit.specs.Opened.{NumbersOf, OpenedOn, unitPlaces}
 use Rattle.unit.proofs.OpenLaws.{on-catalog, sys-once}

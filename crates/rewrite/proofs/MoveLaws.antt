@@ -57,7 +57,7 @@ module _ {image : List ℕ} {o : Opened} {place : Place} {k : ℕ} {p : Plain} {
             let u : UnusedAt (emptyPlace p image t) p k free = rw cleared-is at at in
             record {
               u = u .number;
-              first = record { inside = u .is .inside; key = u .key; unused = u .unused; earlier = u .earlier };
+              first = u .first;
               written =
                   a ∙ stored-place p cleared (u .is) (take 16 words) ∙ ap (storePlace p cleared (u .number)) (take-all 16 words (omega arith))
                   ∙ ap (λ (i : List ℕ). storePlace p i (u .number) words) cleared-is;

@@ -48,7 +48,8 @@ use Rattle.resize.specs.Resize.{slicesThen, CanResizeFrom, CanResize, Resized}
 use Rattle.resize.proofs.ResizeLaws.{then-length, then-once}
 use Rattle.rewrite.specs.declared.Standing.{Standing}
 use Rattle.rewrite.specs.declared.Wanted.{Wanted}
-use Rattle.rewrite.specs.Move.{FirstUnused, CanMoveFrom, CanMove, Moved, MovedFrom}
+use Rattle.unit.specs.Find.{FirstUnused}
+use Rattle.rewrite.specs.Move.{CanMoveFrom, CanMove, Moved, MovedFrom}
 use Rattle.rewrite.specs.Rewrite.{StandsAs, fileThen, CanRewriteFrom, Rewrites, stayed, moved}
 use Rattle.rewrite.proofs.EntryLaws.{lent-optional, lent-tail, entry-optional, entry-tail}
 use Rattle.rewrite.proofs.MoveLaws.{stored-place}

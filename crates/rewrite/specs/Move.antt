@@ -1,24 +1,15 @@
 -- "A rename empties the entry's place, then takes one by the new key."
 use mathlib.Core.Path.{_≡_}
 use mathlib.Core.List.{List}
-use Prim.Native.Nat.{ℕ, _*_, _/_, _%_, _<_}
+use Prim.Native.Nat.{ℕ, _*_, _<_}
 use lib.ListN.{length}
-use Rattle.disc.specs.Entries.{placeCount}
 use Rattle.catalog.specs.declared.Place.{Place}
 use Rattle.plain.specs.Unit.{Plain}
 use Rattle.plain.specs.Taking.{placesTaken}
-use Rattle.sound.specs.Places.{Unused}
 use Rattle.refine.specs.Writes.{storePlace, emptyPlace}
 use Rattle.unit.specs.declared.Opened.{Opened}
-use Rattle.unit.specs.Opened.{NumbersOf, CatalogOn, unitPlaces}
-use Rattle.unit.specs.Find.{PlaceIs}
-
--- "An entry takes the first unused place": place u, of those of key k.
-pub record FirstUnused (image : List ℕ) (p : Plain) (k u : ℕ) : Type 0 where
-  pub inside : u < placeCount (p .H) (p .layers)
-  pub key : u / 16 % p .H ≡ k
-  pub unused : Unused (unitPlaces image p) u
-  pub earlier : (t : ℕ) → t < u → t / 16 % p .H ≡ k → Unused (unitPlaces image p) t → ⊥
+use Rattle.unit.specs.Opened.{NumbersOf, CatalogOn}
+use Rattle.unit.specs.Find.{PlaceIs, FirstUnused}
 
 -- With place t empty the image has the catalog of unit p, whose names of key k leave a place.
 pub record CanMoveFrom (image : List ℕ) (o : Opened) (place : Place) (k : ℕ) (p : Plain) (t : ℕ) : Type 0 where

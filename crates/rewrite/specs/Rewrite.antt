@@ -22,11 +22,10 @@ use Rattle.refine.specs.OnDisc.{OnDisc}
 use Rattle.refine.specs.Writes.{emptyPlace, resizedImage, changedImage, renamedImage}
 use Rattle.unit.specs.declared.Opened.{Opened}
 use Rattle.unit.specs.Opened.{NumbersOf}
-use Rattle.unit.specs.Find.{NameAt}
+use Rattle.unit.specs.Find.{NameAt, FirstUnused}
 use Rattle.resize.specs.Resize.{slicesThen}
 use Rattle.rewrite.specs.declared.Standing.{Standing}
 use Rattle.rewrite.specs.declared.Wanted.{Wanted}
-use Rattle.rewrite.specs.Move.{FirstUnused}
 
 -- File f under name n, which has no area process, as it stands on the image.
 pub record StandsAs (image : List ℕ) (o : Opened) (now : Standing) (p : Plain) (n : ℕ) (f : File) : Type 0 where

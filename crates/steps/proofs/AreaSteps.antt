@@ -25,7 +25,7 @@ use Rattle.refine.proofs.UserLaws.{created-users}
 use Rattle.refine.proofs.StateLaws.{unitArea, same-created, same-closed}
 use Rattle.refine.proofs.Writers.{relabel}
 use Rattle.steps.proofs.WriteLaws.{entry-beside}
-use Rattle.steps.proofs.GrowStep.{grownUnit}
+use Rattle.steps.specs.Units.{grownUnit}
 use Rattle.steps.proofs.BookStep.{bookedUnit}
 
 -- ---- the state stays

@@ -9,7 +9,7 @@ use lib.ListN.{length}
 use Rattle.disc.specs.Numbers.{ceilDiv}
 use Rattle.disc.specs.Words.{word, Words, Holds}
 use Rattle.disc.specs.Names.{SYS}
-use Rattle.disc.specs.Slices.{occurrences, taken, lastOf}
+use Rattle.disc.specs.Slices.{occurrences}
 use Rattle.disc.specs.Stretches.{sectorIn, indexWords, stretchCount, sysFrom}
 use Rattle.disc.specs.Kit.{sysIndexSector}
 use Rattle.disc.specs.Entries.{placeWord, placeCount, nameAt, sysEntry}
@@ -17,7 +17,7 @@ use Rattle.disc.proofs.SliceLaws.{occurrences-append}
 use Rattle.words.specs.Store.{store}
 use Rattle.words.proofs.StoreLaws.{words-store}
 use Rattle.map.specs.Marks.{allUsed}
-use Rattle.plain.specs.Unit.{Plain, M, held, freeSlices, freeSectors, entry, withTables}
+use Rattle.plain.specs.Unit.{Plain, held, freeSlices, freeSectors, entry}
 use Rattle.plain.specs.Good.{Good}
 use Rattle.plain.proofs.UnitLaws.{occurrences-held, entry-sys, entry-map, entry-other, system-cases}
 use Rattle.plain.proofs.TakingLaws.{sys-count, sys-first, taking-once}
@@ -30,13 +30,7 @@ use Rattle.refine.proofs.CatalogLaws.{name-cong}
 use Rattle.refine.proofs.Ground.{Ground, ground, entry-named, sys-in, sys-data, part-sys, place-in}
 use Rattle.refine.proofs.Writers.{place-off, place-same, long, write-used, write-layer, layer-old, layer-new, grown-sector}
 use Rattle.steps.proofs.WriteLaws.{counted-on, counted-keep, zeroed-size, zeroed-keep, zeroed-zero, words-zeroed, taken-size, taken-keep, taken-index, words-taken, part-in-map, words-index-part, words-marks, words-sys-entry, write-own}
-
--- the slices that SYS takes for one layer more
-abbrev pub layerSlices : Plain → List ℕ
-layerSlices p = taken (M p) (held p) (lastOf (p .sys)) (ceilDiv (p .H * suc (p .layers)) (p .s) - length (p .sys))
-
-abbrev pub grownUnit : Plain → Plain
-grownUnit p = withTables p (suc (p .layers)) (p .sys ++ layerSlices p) (p .files) (p .areas)
+use Rattle.steps.specs.Units.{layerSlices, grownUnit}
 
 -- SYS's entry alone is another
 pub entry-but-sys : (p : Plain) (m : ℕ) → m ≢ SYS → entry (grownUnit p) m ≡ entry p m

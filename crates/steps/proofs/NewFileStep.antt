@@ -1,9 +1,9 @@
 -- Create and Set as the plain unit has them: where every question is answered yes, the unit is that of a file created on the unit,
 -- or on the unit in which SYS has grown first.
-use mathlib.Core.Path.{_≡_, refl, sym, ap, ap₂, _∙_, subst}
+use mathlib.Core.Path.{_≡_, refl, sym, ap, _∙_, subst}
 use mathlib.Core.Bool.{Bool, true, false, not}
-use mathlib.Core.List.{List, [], _∷_, _++_, append-nil}
-use Prim.Native.Nat.{ℕ, zero, suc, _+_, _/_, _%_, _≤_, _<_}
+use mathlib.Core.List.{List, [], _++_, append-nil}
+use Prim.Native.Nat.{ℕ, suc, _+_, _/_, _%_, _≤_, _<_}
 use native.Mathlib.Omega.{arith}
 use lib.Dec.{T, leb, leb→le}
 use lib.ListN.{length-append}
@@ -17,7 +17,7 @@ use Rattle.disc.proofs.SliceLaws.{occurrences-append, length-taken, sum-law}
 use Rattle.plain.specs.Table.{tablePut, isSome}
 use Rattle.plain.specs.Unit.{Plain, File, M, held, slicesOf, freeSlices, entry, withTables, withFiles}
 use Rattle.plain.specs.Questions.{Outcome, asks, done}
-use Rattle.plain.specs.Taking.{layersFor, zeroSectors}
+use Rattle.plain.specs.Taking.{layersFor}
 use Rattle.plain.specs.Catalog.{newFile}
 use Rattle.plain.specs.Good.{Good, WordsOf}
 use Rattle.plain.proofs.QuestionLaws.{not-some}
@@ -27,26 +27,12 @@ use Rattle.sound.specs.Places.{Unused}
 use Rattle.refine.specs.OnDisc.{OnDisc}
 use Rattle.refine.specs.Writes.{grownImage, createdImage}
 use Rattle.steps.proofs.TakenLaws.{taken-same}
-use Rattle.steps.proofs.GrowStep.{layerSlices, grownUnit, entry-but-sys, grown-good, grow-on}
+use Rattle.steps.specs.Units.{layerSlices, grownUnit, fileWith, newFileOf}
+use Rattle.steps.proofs.GrowStep.{entry-but-sys, grown-good, grow-on}
 use Rattle.steps.proofs.CreateStep.{NewFile, layers-stay, layers-grow, create-on}
 use Rattle.steps.proofs.PlaceLaws.{unused-room, full-key}
 
 -- ---- the new file
-
--- A file of `size` zero sectors with these slices, all booked.
-abbrev pub fileWith : Plain → ℕ → ℕ → List ℕ → List ℕ → List ℕ → File
-fileWith p size attributes optional tail slices = record {
-  attributes = attributes;
-  optional = optional;
-  tail = tail;
-  booked = size;
-  bookedSlices = need (p .s) size;
-  slices = slices;
-  sectors = zeroSectors size;
-}
-
-abbrev pub newFileOf : Plain → ℕ → ℕ → List ℕ → List ℕ → File
-newFileOf p size attributes optional tail = fileWith p size attributes optional tail (taken (M p) (held p) 0 (need (p .s) size))
 
 -- the file's slices, after SYS has taken its own for l layers
 abbrev pub slicesLeft : Plain → ℕ → ℕ → List ℕ

@@ -24,7 +24,8 @@ use Rattle.plain.proofs.WordLaws.{wordsOf-take}
 use Rattle.refine.specs.OnDisc.{OnDisc}
 use Rattle.refine.specs.Writes.{replacedImage, appendedImage}
 use Rattle.refine.proofs.Ground.{ground, block-in, file-data}
-use Rattle.steps.proofs.OutputStep.{appendSlices, replace-on, append-on}
+use Rattle.steps.specs.Units.{appendSlices}
+use Rattle.steps.proofs.OutputStep.{replace-on, append-on}
 use Rattle.steps.proofs.OutputUnit.{Appends}
 use Rattle.steps.proofs.AreaMessages.{move-on, output-on}
 

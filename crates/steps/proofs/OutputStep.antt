@@ -40,6 +40,7 @@ use Rattle.refine.proofs.Ground.{Ground, ground, top, first-in, block-in, file-
 use Rattle.refine.proofs.Writers.{relabel, long, write-used, write-file}
 use Rattle.steps.proofs.TakenLaws.{free-same}
 use Rattle.steps.proofs.WriteLaws.{counted-on, taken-size, taken-keep, taken-holds, taken-index, words-taken, words-index-part, words-marks, entry-beside, entry-of}
+use Rattle.steps.specs.Units.{appendSlices}
 
 -- ---- the unit
 
@@ -242,10 +243,6 @@ index-append : (F s c : ℕ) (l m : List ℕ) → c ≤ length l → indexSector
 index-append F s zero l m h = refl
 index-append F s (suc c) [] m h = absurd (omega arith)
 index-append F s (suc c) (x ∷ l) m h = refl
-
--- The slices that Output at the live length of file f takes: one, or none.
-abbrev pub appendSlices : Plain → File → List ℕ
-appendSlices p f = taken (M p) (held p) (lastOf (f .slices)) (slicesToTake (p .s) f)
 
 -- at most 127 stretches where no slice is needed, too
 pub append-few : {p : Plain} (n : ℕ) (f : File) → Good p → tableFind n (p .files) ≡ some f → (slicesToTake (p .s) f ≡ 0) ⊎ (stretchCount (f .slices ++ appendSlices p f) ≤ 127)

@@ -14,7 +14,7 @@ use Rattle.plain.specs.Questions.{Outcome, replies, done, either, fill}
 use Rattle.plain.specs.Areas.{isWriter, other, moved, positioned, stepPosition}
 use Rattle.plain.specs.Transput.{isOutput, isRandom, refusedAt, transferred, rewritten, withFile, input, output, append, slicesToTake, stepTransput}
 use Rattle.steps.proofs.AskLaws.{asks-yes, asks-no, either-yes, either-no}
-use Rattle.steps.proofs.OutputStep.{appendSlices}
+use Rattle.steps.specs.Units.{appendSlices}
 
 -- ---- Position first
 

@@ -18,7 +18,7 @@ use Rattle.plain.specs.Table.{Row, Table, tableFind, tablePut, tableMap, Sorted
 use Rattle.plain.specs.Unit.{Plain, File, fileEntry, entries, entry}
 use Rattle.plain.specs.Taking.{hasKey, placesTaken}
 use Rattle.plain.specs.Good.{Good}
-use Rattle.plain.proofs.TableLaws.{some≢none, some-inj, weightAt, find-put-other, sorted-put, total-put, find-ext}
+use Rattle.plain.proofs.TableLaws.{some≢none, weightAt, find-put-other, sorted-put, total-put, find-ext}
 use Rattle.plain.proofs.UnitLaws.{mapSome, find-map}
 use Rattle.plain.proofs.Collect.{sumBelow, sum-ext, collect, weightIf, sorted-collect, collect-find, find-collect, total-collect}
 use Rattle.sound.specs.Places.{Unused}
@@ -27,6 +27,7 @@ use Rattle.refine.specs.OnDisc.{OnDisc}
 use Rattle.refine.proofs.CatalogLaws.{Named, name-zero}
 use Rattle.refine.proofs.KeyPlaces.{sum-le, isKey, places-of}
 use Rattle.refine.proofs.Ground.{entry-named}
+use Rattle.refine.proofs.PlaceFiles.{rowOf, row-some}
 
 -- ---- sums
 
@@ -109,15 +110,6 @@ sorted-map f b (r ∷ t) ok = (ok .0, sorted-map f (r .key) t (ok .1))
 total-map : {A B : Type 0} (w : ℕ → ℕ) (f : ℕ → A → B) (t : Table A) → total (λ r. w (r .key)) (tableMap f t) ≡ total (λ r. w (r .key)) t
 total-map w f [] = refl
 total-map w f (r ∷ t) = omega (arith, total-map w f t)
-
--- a row of a name, if it has a value
-abbrev pub rowOf : {A : Type 0} → ℕ → Option A → Option (Row A)
-rowOf n none = none
-rowOf n (some a) = some (record { key = n; val = a })
-
-row-some : {A : Type 0} (n : ℕ) (o : Option A) (r : Row A) → rowOf n o ≡ some r → (n ≡ r .key) × (o ≡ some (r .val))
-row-some n none r e = absurd (some≢none (sym e))
-row-some n (some a) r e = let q = some-inj e in (ap (λ (x : Row _). x .key) q, ap (λ (x : Row _). some (x .val)) q)
 
 module _ (p : Plain) (g : Good p) where
   nm : Named (entry p)

@@ -31,9 +31,7 @@ module _ {image : List ℕ} {p : Plain} (on : CatalogOn image p) {o : Opened} (n
           record {
             number = f .place;
             is = is;
-            key = key;
-            unused = f .has;
-            earlier = λ t x a. f .earlier t x (rw (num .keys) a);
+            first = record { inside = is .inside; key = key; unused = f .has; earlier = λ t x a. f .earlier t x (rw (num .keys) a) };
             room = unused-room on k (f .place) (is .inside) key (f .has);
           }
 

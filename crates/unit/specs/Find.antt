@@ -40,13 +40,18 @@ pub record NameFound (image : List ℕ) (p : Plain) (n : ℕ) (r : Found) : Type
 pub record FindsName (image : List ℕ) (o : Opened) (n : ℕ) (r : Found) : Type 0 where
   pub all : (p : Plain) → CatalogOn image p → NumbersOf o p → NameFound image p n r
 
--- The place is the first unused one of key k: the names of the key take fewer places than it has.
+-- "An entry takes the first unused place": place u, of those of key k.
+pub record FirstUnused (image : List ℕ) (p : Plain) (k u : ℕ) : Type 0 where
+  pub inside : u < placeCount (p .H) (p .layers)
+  pub key : u / 16 % p .H ≡ k
+  pub unused : Unused (unitPlaces image p) u
+  pub earlier : (t : ℕ) → t < u → t / 16 % p .H ≡ k → Unused (unitPlaces image p) t → ⊥
+
+-- The place of the code is the first unused one of key k: the names of the key take fewer places than it has.
 pub record UnusedAt (image : List ℕ) (p : Plain) (k : ℕ) (place : Place) : Type 0 where
   pub number : ℕ
   pub is : PlaceIs p number place
-  pub key : number / 16 % p .H ≡ k
-  pub unused : Unused (unitPlaces image p) number
-  pub earlier : (t : ℕ) → t < number → t / 16 % p .H ≡ k → Unused (unitPlaces image p) t → ⊥
+  pub first : FirstUnused image p k number
   pub room : placesTaken (p .H) k (p .files) < 16 * p .layers
 
 -- "An entry takes the first unused place"; "with all 16 times L places taken by other names, SYS first grows".

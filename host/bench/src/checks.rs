@@ -5,10 +5,10 @@ use std::hint::black_box;
 use std::ops::Range;
 
 use reference::generate::{shaped, Shape, Unit};
-use reference::is_sound;
 use reference::layout::{Kit, BITS, ENTRY, KIT, MAP_SECTOR, PLACES, SECTOR, SYS_INDEX};
 use reference::random::Random;
-use ruzkemp::State;
+use reference::{is_sound, perform, Message};
+use ruzkemp::{Entry, State};
 
 use crate::shapes::{FEW, MANY, MIDDLE};
 use crate::timing::{is_file, needed, read, verdict, Fastest};
@@ -20,41 +20,73 @@ const STRETCHED: f64 = 1.2;
 const STRETCHES_1: usize = 3;
 const STRETCHES_100: usize = 5;
 
-/// The rows: what is measured, the most that the ratio to the Rust version may be, the unit.
-const ROWS: [(&str, f64, Shape); 7] = [
-    ("100 files of about 30 slices", 1.0, FEW),
-    (
+/// What is measured: a unit with so many area processes open, the most that the ratio to the
+/// Rust version may be, and the most that the ratio to reading may be, where there is a target.
+struct Measured {
+    title: &'static str,
+    shape: Shape,
+    opened: usize,
+    rust: f64,
+    reading: Option<f64>,
+}
+
+/// A unit with few files, measured with no area process open.
+const fn few(title: &'static str, shape: Shape) -> Measured {
+    Measured {
+        title,
+        shape,
+        opened: 0,
+        rust: 1.0,
+        reading: None,
+    }
+}
+
+/// The same of a unit with 3,900 files.
+const fn many(title: &'static str, shape: Shape) -> Measured {
+    Measured {
+        rust: 0.25,
+        reading: Some(3.5),
+        ..few(title, shape)
+    }
+}
+
+const ROWS: [Measured; 8] = [
+    few("100 files of about 30 slices", FEW),
+    few(
         "the same, files in stretches of 3 slices",
-        1.0,
         Shape { stretch: 3, ..FEW },
     ),
-    ("1,000 files, H = 64", 0.5, MIDDLE),
-    ("3,900 files, M = 4,096, H = 64", 0.5, MANY),
-    (
+    Measured {
+        rust: 0.25,
+        ..few("1,000 files, H = 64", MIDDLE)
+    },
+    many("3,900 files, M = 4,096, H = 64", MANY),
+    many(
         "the same, SYS in 10 stretches",
-        1.0,
         Shape {
             sys_stretches: 10,
             ..MANY
         },
     ),
-    (
+    many(
         "the same, SYS in 100 stretches",
-        1.0,
         Shape {
             sys_stretches: 100,
             ..MANY
         },
     ),
-    (
+    many(
         "one chain of 3,900 names, H = 1",
-        1.0,
         Shape {
             h: 1,
             layers: 244,
             ..MANY
         },
     ),
+    Measured {
+        opened: 8,
+        ..many("3,900 files, eight area processes open", MANY)
+    },
 ];
 
 /// Copies of an image with one rule broken in each.
@@ -98,11 +130,25 @@ fn disagreement(unit: &Unit, state: &State) -> Option<String> {
     accepted.map(|(what, _)| format!("a unit with {what}"))
 }
 
+/// Opens area processes in both implementations, and answers the proved one's state.
+fn open(unit: &mut Unit, number: usize) -> State {
+    let mut proved = ruzkemp::Unit::new(unit.image.clone(), unit.state.unit);
+    proved.init().expect("a sound unit");
+    let entries = proved.list().expect("words enough");
+    let files = entries.iter().filter(|entry| is_file(&entry.words()));
+    for name in files.take(number).map(Entry::name) {
+        proved.create_area(name).expect("a vacant descriptor");
+        let message = Message::CreateArea { name: name.words() };
+        let answer = perform(&mut unit.image, &mut unit.state, &message, &mut []);
+        assert_eq!(answer.result, 0, "{name} is not opened");
+    }
+    proved.state().clone()
+}
+
 /// A row of the table: its unit, and the fastest times of reading, of the check in Rust and of
 /// the proved one.
 struct Row {
-    title: &'static str,
-    target: f64,
+    measured: &'static Measured,
     unit: Unit,
     state: State,
     parts: Vec<Range<usize>>,
@@ -112,17 +158,16 @@ struct Row {
 }
 
 impl Row {
-    fn new(random: &mut Random, title: &'static str, target: f64, shape: &Shape) -> Row {
-        let unit = shaped(random, shape);
-        let state = State::new(unit.state.unit);
+    fn new(random: &mut Random, measured: &'static Measured) -> Row {
+        let mut unit = shaped(random, &measured.shape);
+        let state = open(&mut unit, measured.opened);
         if let Some(unit) = disagreement(&unit, &state) {
-            panic!("{title}: the checks are wrong on {unit}");
+            panic!("{}: the checks are wrong on {unit}", measured.title);
         }
         Row {
-            title,
-            target,
+            measured,
             state,
-            parts: needed(&unit.image, shape),
+            parts: needed(&unit.image, &measured.shape),
             unit,
             reading: Fastest::NONE,
             rust: Fastest::NONE,
@@ -144,26 +189,31 @@ impl Row {
     }
 
     fn print(&self) {
-        let (title, target) = (self.title, self.target);
+        let title = self.measured.title;
         let (reading, rust, proved) = (self.reading.0, self.rust.0, self.proved.0);
-        let ratio = proved / rust;
-        let verdict = verdict(ratio <= target);
-        println!("| {title} | {reading:.2} | {rust:.2} | {proved:.2} | {ratio:.2} | at most {target:.1}, {verdict} |");
+        let (beside, over) = (proved / rust, proved / reading);
+        let rust_target = target(beside, Some(self.measured.rust));
+        let reading_target = target(over, self.measured.reading);
+        println!("| {title} | {reading:.2} | {rust:.2} | {proved:.2} | {beside:.2} | {rust_target} | {over:.1} | {reading_target} |");
     }
+}
+
+/// A target, and whether it is met.
+fn target(ratio: f64, most: Option<f64>) -> String {
+    most.map_or(String::new(), |most| {
+        format!("at most {most}, {}", verdict(ratio <= most))
+    })
 }
 
 /// Measures and prints the table.
 pub fn run() {
     let random = &mut Random::new(4);
-    let mut rows: Vec<Row> = ROWS
-        .iter()
-        .map(|(title, target, shape)| Row::new(random, title, *target, shape))
-        .collect();
+    let mut rows: Vec<Row> = ROWS.iter().map(|row| Row::new(random, row)).collect();
     for _ in 0..ROUNDS {
         rows.iter_mut().for_each(Row::measure);
     }
-    println!("| microseconds per soundness check | reading | straightforward Rust | proved | proved / Rust | target |");
-    println!("|---|--:|--:|--:|--:|---|");
+    println!("| microseconds per soundness check | reading | straightforward Rust | proved | proved / Rust | target | proved / reading | target |");
+    println!("|---|--:|--:|--:|--:|---|--:|---|");
     rows.iter().for_each(Row::print);
     let ratio = rows[STRETCHES_100].proved.0 / rows[STRETCHES_1].proved.0;
     let verdict = verdict(ratio <= STRETCHED);

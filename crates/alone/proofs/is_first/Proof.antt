@@ -1,8 +1,12 @@
 -- `alone::is_first` meets its contract. Assumes nothing.
+use Prim.Native.Nat.{_+_, _*_, _%_}
 use native.Mathlib.Omega.{arith}
 use borrow.Author.Tests.{eqb-true, eqb-false}
 use borrow.Author.Needs.{needs}
+use Rattle.disc.specs.Names.{pack}
 use Rattle.disc.proofs.DecideLaws.{fails}
+use Rattle.entries.specs.Found.{FirstAt}
+use Rattle.entries.specs.Sys.{placesIn}
 use Rattle.entries.proofs.SysLaws.{sys-small}
 use Rattle.entries.proofs.FindLaws.{found-at, found-none}
 use Rattle.alone.proofs.AloneLaws.{found-here, found-before}
@@ -26,24 +30,32 @@ returns c =
     let pre = c .before .before .before .before .before .pre in
     fails (λ _. found-none (c .enum-told .given .1) (c .before .before .find .ensures) .none _ (omega (arith, pre .2)) (pre .3))
 
-cast-result : tie.Need-cast-result
-cast-result c = search needs
+-- the place that was found
+found : (c : tie.After-struct-known2) → let a = c .before .before .before .before .before .before .before .args in
+    FirstAt (placesIn (a .image .now) (a .g)) (a .g .keys) (pack (a .name .0) (a .name .1) (a .name .2)) (16 * (a .b .0 + 1)) (c .before .before .t .given .0 .0)
+found c = let t = c .before .before in found-at (t .t .given .1) (t .before .before .find .ensures)
 
-mul-result : tie.Need-mul-result
-mul-result c = search needs
-
-cast-result-2 : tie.Need-cast-result-2
-cast-result-2 c = search needs
-
-add-result : tie.Need-add-result
-add-result c = search needs
+cast-if1 : tie.Need-cast-if1
+cast-if1 c = search needs
 
 returns-2 : tie.Need-returns-2
 returns-2 c =
-    let t = c .before .before in
-    let pre = t .before .before .before .before .before .pre in
-    let f = found-at (t .t .given .1) (t .before .before .find .ensures) in
-    record { yes = λ e. found-here (pre .3) f (eqb-true _ _ e); not = λ e. found-before (pre .3) f (eqb-false _ _ e) }
+    let pre = c .before .before .before .before .before .before .before .before .pre in
+    fails (found-before (pre .3) (found (c .before)) (λ e. c .if1 .taken (omega (arith, pre .2))))
+
+cast-result : tie.Need-cast-result
+cast-result c = search needs
+
+returns-3 : tie.Need-returns-3
+returns-3 c =
+    let pre = c .before .before .before .before .before .before .before .before .pre in
+    let f = found (c .before) in
+    let t = c .before .before .before .t .given .0 .0 in
+    let i = c .before .before .before .before .before .before .before .before .args .i in
+    record {
+      yes = λ e. found-here (pre .3) f (omega (arith, eqb-true (t % 16) i e, c .if1 .left));
+      not = λ e. found-before (pre .3) f (λ x. eqb-false (t % 16) i e (omega (arith, pre .2)));
+    }
 
 pub is-first-spec : {M : Type 1} → statement M
 is-first-spec =
@@ -54,8 +66,7 @@ is-first-spec =
     enum-known-t
     enum-told
     returns
+    cast-if1
+    returns-2
     cast-result
-    mul-result
-    cast-result-2
-    add-result
-    returns-2)
+    returns-3)

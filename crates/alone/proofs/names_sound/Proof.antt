@@ -1,6 +1,5 @@
 -- `alone::names_sound` meets its contract. Assumes nothing.
 use mathlib.Core.Path.{refl}
-use native.Mathlib.Nat.{div-le-self}
 use native.Mathlib.Omega.{arith}
 use borrow.Author.Needs.{needs}
 use Rattle.disc.proofs.DecideLaws.{grants}
@@ -9,17 +8,11 @@ use Rattle.alone.proofs.SoundLaws.{not-sound, judged-entered}
 use Rattle.alone.proofs.names_sound.Statement.{statement}
 use Rattle.alone.proofs.names_sound.Tie as tie
 
-cast-t5 : tie.Need-cast-t5
-cast-t5 c = search needs
+inverse-requires : tie.Need-inverse-requires
+inverse-requires c κs = search needs
 
-div-t6 : tie.Need-div-t6
-div-t6 c = search needs
-
-add-t7 : tie.Need-add-t7
-add-t7 c = record { fits = omega (arith, div-le-self 2147483648 (c .before .before .args .g .keys)) }
-
-mul-t8 : tie.Need-mul-t8
-mul-t8 c = let pre = c .before .before .before .pre in record { fits = omega (arith, pre .1, sys-small (pre .0), pre .0 .unit .limits .sectors) }
+mul-t6 : tie.Need-mul-t6
+mul-t6 c = let pre = c .before .before .before .pre in record { fits = omega (arith, pre .1, sys-small (pre .0), pre .0 .unit .limits .sectors) }
 
 sys-sectors-requires : tie.Need-sys-sectors-requires
 sys-sectors-requires c κs = search needs
@@ -49,10 +42,8 @@ pub names-sound-spec : {M : Type 1} → statement M
 names-sound-spec =
     tie.close
     (tie.spec
-    cast-t5
-    div-t6
-    add-t7
-    mul-t8
+    inverse-requires
+    mul-t6
     sys-sectors-requires
     places-sound-requires
     returns

@@ -47,6 +47,12 @@ small c =
 mul-quotient : tie.Need-mul-quotient
 mul-quotient c = record { fits = omega (arith, small c .0) }
 
+cast-quotient-3 : tie.Need-cast-quotient-3
+cast-quotient-3 c = search needs
+
+div-quotient : tie.Need-div-quotient
+div-quotient c = search needs
+
 cast-if1 : tie.Need-cast-if1
 cast-if1 c = search needs
 
@@ -82,6 +88,8 @@ has-key-spec =
     cast-quotient
     cast-quotient-2
     mul-quotient
+    cast-quotient-3
+    div-quotient
     cast-if1
     mul-if1
     add-if1

@@ -4,10 +4,11 @@ use borrow.Author.Needs.{needs}
 use denote.Struct.Laws as LL
 use Rattle.types.specs.declared.State.{State}
 use Rattle.users.proofs.ShapeLaws.{shaped}
+use Rattle.format.specs.declared.Formatted.{Formatted}
 use Rattle.format.specs.Format.{FormatAnswer}
 use Rattle.format.proofs.Formatted as F
 use Rattle.format.proofs.Formatted.Laws as F′
-use Rattle.export.specs.Calls.{formattedOf}
+use Rattle.export.specs.Mirror.{stateOf}
 use Rattle.export.proofs.MirrorLaws.{mirrored}
 use Rattle.export.proofs.format_step.Statement.{statement}
 use Rattle.export.proofs.format_step.Tie as tie
@@ -27,12 +28,15 @@ same-length c = search needs
 returns : tie.Need-returns
 returns c =
     let f = c .before .before .before .before .format in
+    let own = c .before .before .before .before .before .before .state-of in
     let args = c .before .before .before .before .before .before .before .before .before .args in
-    let m = mirrored (f .result .state) (shaped (f .result .state) _ (LL.owed F.the-type F′.the-laws (f .result) _ (f .ok) .1 .0)) (c .mirror-of .result) (c .mirror-of .ensures) in (
-      subst (λ (s : State). FormatAnswer (args .image .now) s (args .bytes) (args .lent .now) (f .last .0) (formattedOf (f .result .result) (c .mirror-of .result))) (c .before .before .before .before .before .before .state-of .ensures)
-          (subst (λ (s : State). FormatAnswer (args .image .now) (c .before .before .before .before .before .before .state-of .result) (args .bytes) (args .lent .now) (f .last .0) (record { result = f .result .result; state = s })) (sym (m .0)) (f .ensures)),
-      m .1,
-    )
+    let m = mirrored (f .result .state) (shaped (f .result .state) _ (LL.owed F.the-type F′.the-laws (f .result) _ (f .ok) .1 .0)) (c .mirror-of .result) (c .mirror-of .ensures) in
+    let left : State → Formatted = λ s. record { result = f .result .result; state = s } in
+    record {
+      formats = subst (λ (s : State). FormatAnswer (args .image .now) s (args .bytes) (args .lent .now) (f .last .0) (left (stateOf (c .mirror-of .result)))) (own .ensures)
+          (subst (λ (s : State). FormatAnswer (args .image .now) (own .result) (args .bytes) (args .lent .now) (f .last .0) (left s)) (sym (m .0)) (f .ensures));
+      mirror = m .1;
+    }
 
 pub format-step-spec : {M : Type 1} → statement M
 format-step-spec =

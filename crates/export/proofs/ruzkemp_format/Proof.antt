@@ -43,9 +43,8 @@ use denote.Triple.Spec.{Meets, tripleOf}
 use denote.Triple.Table.{entered, cited}
 use denote.Triple.Walked.{says, Stays, stay-ref, stay-dropped, gave-slice, walkOf, AllGo, goes-dropped, goes-ref, goes-gave-slice, Walks, ends-at, walked, walk-meets}
 use denote.Exit.{yes}
-use Rattle.format.specs.Format.{FormatAnswer}
-use Rattle.export.specs.Mirror.{stateOf, mirrorOf}
-use Rattle.export.specs.Calls.{formattedOf}
+use Rattle.export.specs.Calls.{UnitFormats}
+-- the types and their laws: T of UnitState, O of FormatOutcome
 use Rattle.export.specs.declared.UnitState.{UnitState}
 use Rattle.export.proofs.UnitState as T
 use Rattle.export.proofs.UnitState.Laws as T′
@@ -126,7 +125,7 @@ module _ {M : Type 1} (𝓤 : URA M) (H : Heap 𝓤) (A : Atoms 𝓤) (W : Given
 
   -- what `format_step` ensures where it returns r and leaves these lists
   abbrev Stepped : FormatOutcome → List ℕ → Type 0
-  Stepped r z0 = FormatAnswer image (stateOf h) bytes lent z0 (formattedOf (r .result) (r .state)) × (mirrorOf (stateOf (r .state)) ≡ r .state)
+  Stepped r z0 = UnitFormats image h bytes lent z0 (r .result) (r .state)
 
   -- the tokens of the slices' lifetimes
   abbrev tokens : Item 𝓤

@@ -6,6 +6,7 @@ use Rattle.types.specs.declared.Answer.{Answer}
 use Rattle.types.specs.declared.Message.{Message}
 use Rattle.types.specs.declared.State.{State}
 use Rattle.users.proofs.ShapeLaws.{shaped}
+use Rattle.refine.specs.Demands.{Performed}
 use Rattle.perform.specs.Perform.{performed, Performs}
 use Rattle.perform.proofs.Outcome as O
 use Rattle.perform.proofs.Outcome.Laws as O′
@@ -43,17 +44,18 @@ returns c =
     let asked = c .before .before .before .before .before .before .before .before .before .before .before .message-of in
     let args = c .before .before .before .before .before .before .before .before .before .before .before .before .before .before .before .args in
     let m = mirrored (o .result .state) (shaped (o .result .state) _ (LL.owed O.the-type O′.the-laws (o .result) _ (o .ok) .1 .0)) (c .mirror-of .result) (c .mirror-of .ensures) in
-    let from-image = args .image .now in
-    let from-lent = args .lent .now in
-    let after = o .last .1 .0 in
-    let lent = o .last .1 .1 .0 in
-    let done = performed after (stateOf (c .mirror-of .result)) (answerOf (c .before .mirror-of-answer .result)) lent in (
-      subst (λ (s : State). Performs from-image s (messageOf (args .message)) from-lent done) (own .ensures)
-          (subst (λ (q : Message). Performs from-image (own .result) q from-lent done) (asked .ensures)
-          (subst (λ (s : State). Performs from-image (own .result) (asked .result) from-lent (performed after s (answerOf (c .before .mirror-of-answer .result)) lent)) (sym (m .0))
-          (subst (λ (a : Answer). Performs from-image (own .result) (asked .result) from-lent (performed after (o .result .state) a lent)) (sym (c .before .mirror-of-answer .ensures)) (o .ensures)))),
-      m .1,
-    )
+    let image = args .image .now in
+    let lent = args .lent .now in
+    let answer = c .before .mirror-of-answer in
+    let left : State → Answer → Performed = λ s a. performed (o .last .1 .0) s a (o .last .1 .1 .0) in
+    let next = stateOf (c .mirror-of .result) in
+    record {
+      performs = subst (λ (s : State). Performs image s (messageOf (args .message)) lent (left next (answerOf (answer .result)))) (own .ensures)
+          (subst (λ (q : Message). Performs image (own .result) q lent (left next (answerOf (answer .result)))) (asked .ensures)
+          (subst (λ (s : State). Performs image (own .result) (asked .result) lent (left s (answerOf (answer .result)))) (sym (m .0))
+          (subst (λ (a : Answer). Performs image (own .result) (asked .result) lent (left (o .result .state) a)) (sym (answer .ensures)) (o .ensures))));
+      mirror = m .1;
+    }
 
 pub step-spec : {M : Type 1} → statement M
 step-spec =

@@ -15,22 +15,26 @@ flatten-requires c κs = search needs
 open-upto-requires : tie.Need-open-upto-requires
 open-upto-requires c κs = search needs
 
+fill-cells-requires : tie.Need-fill-cells-requires
+fill-cells-requires c κs = search needs
+
 mul-stretches-sound : tie.Need-mul-stretches-sound
 mul-stretches-sound c =
-    let flat = c .before .before .before in
+    let flat = c .before .before .before .before .before .before in
     let known = flat .before .before .before .before .before .pre .0 in
     omega (arith, known .room, sys-small (known-sys known), known .unit .limits .sectors)
 
 stretches-sound-requires : tie.Need-stretches-sound-requires
 stretches-sound-requires c κs =
-    let upto = c .before .before .before .before .before in
+    let fill = c .before .before .before .before .before .before in
+    let upto = fill .before .before .before in
     let flat = upto .before .before in
     let pre = flat .before .before .before .before .before .pre in
-    (pre .0, upto .open-upto .ensures .eight, ordinary-known (pre .1))
+    (pre .0, upto .open-upto .ensures .eight, fill .fill-cells .ensures, ordinary-known (pre .1))
 
 returns : tie.Need-returns
 returns c =
-    let upto = c .before .before .before .before .before .before in
+    let upto = c .before .before .before .before .before .before .before .before .before .before in
     let flat = upto .before .before in
     let start = flat .before .before .before .before .before in
     let a = start .args in
@@ -38,4 +42,4 @@ returns c =
 
 pub files-sound-spec : {M : Type 1} → statement M
 files-sound-spec =
-    tie.close (tie.spec flatten-requires open-upto-requires mul-stretches-sound stretches-sound-requires returns)
+    tie.close (tie.spec flatten-requires open-upto-requires fill-cells-requires mul-stretches-sound stretches-sound-requires returns)

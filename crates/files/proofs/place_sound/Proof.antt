@@ -21,15 +21,15 @@ returns-2 c =
 live-of-requires : tie.Need-live-of-requires
 live-of-requires c κs = search needs
 
-any-file-requires : tie.Need-any-file-requires
-any-file-requires c κs = search needs
+file-sound-requires : tie.Need-file-sound-requires
+file-sound-requires c κs = search needs
 
 returns-3 : tie.Need-returns-3
 returns-3 c =
     let live = c .before .before in
     let system = live .before .before in
     let name = system .before .before in
-    place-file (name .name-at .result) (name .name-at .ensures) (system .before .if1 .left) (system .is-system .ensures) (live .before .if2 .left) (live .live-of .ensures) (c .any-file .ensures)
+    place-file (name .name-at .result) (name .name-at .ensures) (system .before .if1 .left) (system .is-system .ensures) (live .before .if2 .left) (live .live-of .ensures) (c .file-sound .ensures)
 
 pub place-sound-spec : {M : Type 1} → statement M
 place-sound-spec =
@@ -40,5 +40,5 @@ place-sound-spec =
     is-system-requires
     returns-2
     live-of-requires
-    any-file-requires
+    file-sound-requires
     returns-3)

@@ -1,8 +1,5 @@
 -- `files::plain_file` meets its contract. Assumes nothing.
-use mathlib.Core.Path.{subst}
 use borrow.Author.Tests.{not-false}
-use Rattle.files.specs.declared.Entry.{Entry}
-use Rattle.files.specs.Rules.{ClosedMarking}
 use Rattle.files.proofs.PlainLaws.{closed-left, closed-moved, closed-marked}
 use borrow.Author.Needs.{needs}
 use Rattle.files.proofs.plain_file.Statement.{statement}

@@ -6,21 +6,29 @@ use native.Mathlib.Omega.{arith}
 use borrow.Author.Needs.{needs}
 use borrow.Author.Tests.{not-true, not-false}
 use Rattle.files.specs.Walk.{placesFrom}
-use Rattle.files.proofs.PlainLaws.{ClosedPassed, closed-none, closed-some, closed-more, closed-end, closed-open}
+use Rattle.files.proofs.PlainLaws.{ClosedPassed, closed-none, closed-some, closed-more, closed-end}
 use Rattle.files.proofs.plain_run.Statement.{statement}
 use Rattle.files.proofs.plain_run.Tie as tie
 
 abbrev Inv-loop : tie.InvT-loop
-Inv-loop image at count upto g marks₀ i₀ marks i = (i ≤ count) × ClosedPassed image g (placesFrom image at) marks₀ marks i
+Inv-loop image at count upto cells g marks₀ reciprocal i₀ marks i = (i ≤ count) × ClosedPassed image g (placesFrom image at) upto cells marks₀ marks i
 
 abbrev μ-loop : tie.MeasureT-loop
-μ-loop image at count upto g marks₀ i₀ marks i = count - i
+μ-loop image at count upto cells g marks₀ reciprocal i₀ marks i = count - i
+
+guarded-run-requires : tie.Need-guarded-run-requires Inv-loop μ-loop
+guarded-run-requires c κs = search needs
 
 returns : tie.Need-returns Inv-loop μ-loop
-returns c = let s = c .before .before in closed-open (s .args .image .now) (s .args .g) (placesFrom (s .args .image .now) (s .args .at)) _ _ _ (s .pre .1)
+returns c = search needs
+
+reciprocal-requires : tie.Need-reciprocal-requires Inv-loop μ-loop
+reciprocal-requires c κs = c .before .before .pre .0 .limits .slice-low
 
 loop-holds : tie.Need-loop-holds Inv-loop μ-loop
-loop-holds c = (omega arith, closed-none _ _ _ _)
+loop-holds c =
+    let s = c .before .before .before in
+    (omega arith, closed-none (s .args .image .now) (s .args .g) (placesFrom (s .args .image .now) (s .args .at)) (s .args .upto) (s .args .cells .now) _)
 
 mul-plain-place : tie.Need-mul-plain-place Inv-loop μ-loop
 mul-plain-place c = search needs
@@ -31,14 +39,14 @@ add-plain-place c = search needs
 plain-place-requires : tie.Need-plain-place-requires Inv-loop μ-loop
 plain-place-requires c κs =
     let l = c .before .before in
-    let s = l .before .before .before in
-    (s .pre .0, closed-some (s .args .image .now) (s .args .g) (placesFrom (s .args .image .now) (s .args .at)) (l .loop .i) (s .pre .1) (l .loop .inv .1), omega arith, s .pre .3 (l .loop .i) (omega arith))
+    let s = l .before .before .before .before in
+    (s .pre .0, closed-some (s .args .image .now) (s .args .g) (placesFrom (s .args .image .now) (s .args .at)) (s .args .upto) (s .args .cells .now) (l .loop .i) (s .pre .1) (l .loop .inv .1), omega arith, l .before .reciprocal .ensures .1, s .pre .3 (l .loop .i) (omega arith))
 
 returns-2 : tie.Need-returns-2 Inv-loop μ-loop
 returns-2 c =
     let l = c .before .before .before .before in
-    let s = l .before .before .before in
-    closed-end (s .args .image .now) (s .args .g) (placesFrom (s .args .image .now) (s .args .at)) (l .loop .i) (s .pre .1) (l .loop .inv .1) _ _ (l .loop .inv .0) (l .before .if1 .left)
+    let s = l .before .before .before .before in
+    closed-end (s .args .image .now) (s .args .g) (placesFrom (s .args .image .now) (s .args .at)) (s .args .upto) (s .args .cells .now) (l .loop .i) (s .pre .1) (l .loop .inv .1) _ (l .loop .inv .0)
     (c .before .plain-place .ensures .not (not-true _ (c .if2 .taken)))
 
 add-i : tie.Need-add-i Inv-loop μ-loop
@@ -50,16 +58,17 @@ loop-less c = search needs
 loop-again : tie.Need-loop-again Inv-loop μ-loop
 loop-again c =
     let l = c .before .before .before .before in
-    let s = l .before .before .before in (
+    let s = l .before .before .before .before in (
       omega arith,
-      closed-more (s .args .image .now) (s .args .g) (placesFrom (s .args .image .now) (s .args .at)) (l .loop .i) (s .pre .1) (l .loop .inv .1) (c .before .plain-place .ensures) (not-false _ (c .if2 .left)),
+      closed-more (s .args .image .now) (s .args .g) (placesFrom (s .args .image .now) (s .args .at)) (s .args .upto) (s .args .cells .now) (l .loop .i) (s .pre .1) (l .loop .inv .1) (c .before .plain-place .ensures) (not-false _ (c .if2 .left))
+          (λ d. absurd (d (l .before .before .if1 .left))),
     )
 
 returns-3 : tie.Need-returns-3 Inv-loop μ-loop
 returns-3 c =
     let l = c .before in
-    let s = l .before .before .before in
-    closed-end (s .args .image .now) (s .args .g) (placesFrom (s .args .image .now) (s .args .at)) (l .loop .i) (s .pre .1) (l .loop .inv .1) _ _ (l .loop .inv .0) (l .before .if1 .left) refl
+    let s = l .before .before .before .before in
+    closed-end (s .args .image .now) (s .args .g) (placesFrom (s .args .image .now) (s .args .at)) (s .args .upto) (s .args .cells .now) (l .loop .i) (s .pre .1) (l .loop .inv .1) _ (l .loop .inv .0) refl
 
 pub plain-run-spec : {M : Type 1} → statement M
 plain-run-spec =
@@ -67,7 +76,9 @@ plain-run-spec =
     (tie.spec
     Inv-loop
     μ-loop
+    guarded-run-requires
     returns
+    reciprocal-requires
     loop-holds
     mul-plain-place
     add-plain-place

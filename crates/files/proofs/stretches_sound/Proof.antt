@@ -18,11 +18,11 @@ use Rattle.files.proofs.stretches_sound.Statement.{statement}
 use Rattle.files.proofs.stretches_sound.Tie as tie
 
 abbrev Inv-loop : tie.InvT-loop
-Inv-loop image size names indexes lengths upto g marks₀ b₀ j₀ marks b j =
+Inv-loop image size names indexes lengths upto cells g marks₀ b₀ j₀ marks b j =
     (j ≤ word image 6 0) × (b ≤ size) × (b < size → b ≡ sectorsBefore image 6 j) × PlacesPassed image g (liveIn names indexes lengths upto) (placesIn image g) marks₀ marks (16 * b)
 
 abbrev μ-loop : tie.MeasureT-loop
-μ-loop image size names indexes lengths upto g marks₀ b₀ j₀ marks b j = word image 6 0 - j
+μ-loop image size names indexes lengths upto cells g marks₀ b₀ j₀ marks b j = word image 6 0 - j
 
 -- what is known of the area processes
 abbrev lives : tie.At-loop Inv-loop μ-loop → ℕ → Live
@@ -71,8 +71,8 @@ run-sound-requires c κs =
     let known = pre .0 in
     let t = turn-of read in
     let ordinary : OrdinaryPlaces (placesFrom (at .before .before .args .image .now) (read .pair-start .result .0 * 256)) (16 * read .before .lesser .result) = λ i h.
-    subst OrdinaryPlace (sym (turn-places t i h)) (pre .2 (16 * at .loop .b + i) (omega (arith, t .high))) in
-    (known .unit, places-some _ _ _ _ _ (at .loop .inv .3) (some-sys known), omega (arith, t .fits), pre .1, ordinary)
+    subst OrdinaryPlace (sym (turn-places t i h)) (pre .3 (16 * at .loop .b + i) (omega (arith, t .high))) in
+    (known .unit, places-some _ _ _ _ _ (at .loop .inv .3) (some-sys known), omega (arith, t .fits), pre .1, pre .2, ordinary)
 
 returns : tie.Need-returns Inv-loop μ-loop
 returns c =

@@ -44,13 +44,13 @@ use denote.Triple.Table.{entered, cited}
 use denote.Triple.Walked.{says, Stays, stay-ref, stay-dropped, gave-slice, walkOf, AllGo, goes-dropped, goes-ref, goes-gave-slice, Walks, ends-at, walked, walk-meets}
 use denote.Exit.{yes}
 use Rattle.perform.specs.Perform.{performed, Performs}
+-- the types and their laws: T of State, O of Outcome, B of Answer, Q of Message
 use Rattle.types.specs.declared.State.{State}
 use Rattle.types.proofs.State as T
 use Rattle.types.proofs.State.Laws as T′
 use Rattle.perform.specs.declared.Outcome.{Outcome}
 use Rattle.perform.proofs.Outcome as O
 use Rattle.perform.proofs.Outcome.Laws as O′
-use Rattle.types.specs.declared.Answer.{Answer}
 use Rattle.types.proofs.Answer as B
 use Rattle.types.proofs.Answer.Laws as B′
 use Rattle.types.specs.declared.Message.{Message}

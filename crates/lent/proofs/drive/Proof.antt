@@ -45,6 +45,7 @@ use denote.Triple.Table.{entered, cited}
 use denote.Triple.Walked.{says, Stays, stay-dropped, gave-slice, walkOf, AllGo, goes-dropped, goes-gave-slice, Walks, ends-at, walked, walk-meets}
 use denote.Exit.{yes}
 use Rattle.perform.specs.Perform.{performed, Performs}
+-- the types and their laws: T of State, O of Outcome, B of Answer, Q of Message
 use Rattle.types.specs.declared.State.{State}
 use Rattle.types.proofs.State as T
 use Rattle.types.proofs.State.Laws as T′

@@ -5,7 +5,8 @@ use native.Mathlib.Omega.{arith}
 use borrow.Author.Needs.{needs}
 use borrow.Author.Tests.{not-true, not-false}
 use Rattle.kit.proofs.KitLaws.{whole-product}
-use Rattle.marks.proofs.PairLaws.{refuse-pair, past-unit, mark-pair}
+use Rattle.marks.proofs.PairLaws.{refuse-pair, some-count, past-unit, mark-pair}
+use Rattle.marks.proofs.RunLaws.{run-marking}
 use Rattle.marks.proofs.mark_pair.Statement.{statement}
 use Rattle.marks.proofs.mark_pair.Tie as tie
 
@@ -53,31 +54,38 @@ returns-4 c =
     let a = c .before .before .before .before .before .before .before .before .args in
     refuse-pair _ _ _ (λ held marked. past-unit (a .g) (a .sectors) (a .start) held (c .if4 .taken))
 
-cast-mark-run : tie.Need-cast-mark-run
-cast-mark-run c = search needs
-
-cast-mark-run-2 : tie.Need-cast-mark-run-2
-cast-mark-run-2 c = search needs
-
-mark-run-requires : tie.Need-mark-run-requires
-mark-run-requires c κs = search needs
-
 returns-5 : tie.Need-returns-5
 returns-5 c =
-    let e = c .before .before .before in
-    let a = e .before .before .before .before .before .before .before .before .args in
+    let a = c .before .before .before .before .before .before .before .before .before .args in
+    refuse-pair _ _ _ (λ held marked whole once. omega (arith, some-count (a .g) (a .sectors) (a .start) whole, c .if5 .taken))
+
+cast-mark-slices : tie.Need-cast-mark-slices
+cast-mark-slices c = search needs
+
+cast-mark-slices-2 : tie.Need-cast-mark-slices-2
+cast-mark-slices-2 c = search needs
+
+mark-slices-requires : tie.Need-mark-slices-requires
+mark-slices-requires c κs = search needs
+
+returns-6 : tie.Need-returns-6
+returns-6 c =
+    let e = c .before .before .before .before in
+    let s = e .before .before .before .before .before .before .before .before in
+    let a = s .args in
     refuse-pair _ _ _ (λ held marked whole once.
-    c .before .mark-run .ensures (a .g .slices) held (e .if4 .left) marked .not (not-true _ (c .if5 .taken)) tt once)
+    run-marking _ _ (omega (arith, s .pre .1, s .pre .0 .slices-high)) (c .before .mark-slices .ensures) (a .g .slices) held (e .if4 .left) marked .not (not-true _ (c .if6 .taken)) tt once)
 
 cast-result : tie.Need-cast-result
 cast-result c = search needs
 
-returns-6 : tie.Need-returns-6
-returns-6 c =
-    let e = c .before .before .before in
+returns-7 : tie.Need-returns-7
+returns-7 c =
+    let e = c .before .before .before .before in
     let s = e .before .before .before .before .before .before .before .before in
     mark-pair (s .args .g) (s .args .sectors) (s .args .start) (s .pre .0) (s .pre .1) (e .before .before .before .before .before .before .if1 .left)
-    (e .before .before .before .if2 .left) (e .before .before .if3 .left) (e .if4 .left) (not-false _ (c .if5 .left)) (c .before .mark-run .ensures)
+    (e .before .before .before .if2 .left) (e .before .before .if3 .left) (e .if4 .left) (not-false _ (c .if6 .left))
+    (run-marking _ _ (omega (arith, s .pre .1, s .pre .0 .slices-high)) (c .before .mark-slices .ensures))
 
 pub mark-pair-spec : {M : Type 1} → statement M
 mark-pair-spec =
@@ -95,9 +103,10 @@ mark-pair-spec =
     cast-if4
     add-if4
     returns-4
-    cast-mark-run
-    cast-mark-run-2
-    mark-run-requires
     returns-5
+    cast-mark-slices
+    cast-mark-slices-2
+    mark-slices-requires
+    returns-6
     cast-result
-    returns-6)
+    returns-7)

@@ -1,0 +1,64 @@
+-- `files::fill_cells` meets its contract: the cells of the names passed are filled. Assumes nothing.
+use mathlib.Core.Path.{_≡_, _∙_, subst}
+use Prim.Native.Nat.{ℕ, _-_, _≤_}
+use native.Mathlib.Omega.{arith}
+use lib.ListN.{length, length-set}
+use borrow.Author.Needs.{needs}
+use Rattle.files.specs.Live.{CellsOf}
+use Rattle.files.proofs.PlainLaws.{cells-none, cells-more}
+use Rattle.files.proofs.fill_cells.Statement.{statement}
+use Rattle.files.proofs.fill_cells.Tie as tie
+
+abbrev Inv-loop : tie.InvT-loop
+Inv-loop names upto cells₀ j₀ cells j = (j ≤ upto) × (length cells ≡ 256) × CellsOf names j cells
+
+abbrev μ-loop : tie.MeasureT-loop
+μ-loop names upto cells₀ j₀ cells j = upto - j
+
+loop-holds : tie.Need-loop-holds Inv-loop μ-loop
+loop-holds c = (omega arith, c .pre .1, cells-none _ _)
+
+mul-name-cell : tie.Need-mul-name-cell Inv-loop μ-loop
+mul-name-cell c = search needs
+
+element-copy-out-name-cell : tie.Need-element-copy-out-name-cell Inv-loop μ-loop
+element-copy-out-name-cell c = search needs
+
+name-cell-requires : tie.Need-name-cell-requires Inv-loop μ-loop
+name-cell-requires c κs = search needs
+
+element-write-cells : tie.Need-element-write-cells Inv-loop μ-loop
+element-write-cells c = search needs
+
+add-j : tie.Need-add-j Inv-loop μ-loop
+add-j c = search needs
+
+loop-less : tie.Need-loop-less Inv-loop μ-loop
+loop-less c = search needs
+
+loop-again : tie.Need-loop-again Inv-loop μ-loop
+loop-again c =
+    let l = c .before .before .before .loop in
+    let e = c .name-cell .ensures in
+    (omega arith, length-set (l .cells) (c .name-cell .result) 1 ∙ l .inv .1, cells-more (c .name-cell .result) (e .0) (omega (arith, l .inv .1)) (l .inv .2))
+
+returns : tie.Need-returns Inv-loop μ-loop
+returns c =
+    let l = c .before in
+    subst (λ (n : ℕ). CellsOf (l .before .args .names .now) n (l .loop .cells)) (let e : l .loop .j ≡ l .before .args .upto = omega arith in e) (l .loop .inv .2)
+
+pub fill-cells-spec : {M : Type 1} → statement M
+fill-cells-spec =
+    tie.close
+    (tie.spec
+    Inv-loop
+    μ-loop
+    loop-holds
+    mul-name-cell
+    element-copy-out-name-cell
+    name-cell-requires
+    element-write-cells
+    add-j
+    loop-less
+    loop-again
+    returns)

@@ -1,0 +1,114 @@
+-- `files::guarded_run` meets its contract: the places before place i are legal if no area process of an unopened name is open, and
+-- their slices marked. Assumes nothing.
+use mathlib.Core.Path.{refl, sym, ap, _∙_}
+use Prim.Native.Nat.{ℕ, _-_, _≤_}
+use native.Mathlib.Omega.{arith}
+use lib.ListN.{getD}
+use borrow.Author.Needs.{needs}
+use borrow.Author.Tests.{not-true, not-false}
+use Rattle.files.specs.Live.{nameCell}
+use Rattle.files.specs.Walk.{placesFrom}
+use Rattle.files.proofs.PlainLaws.{ClosedPassed, closed-none, closed-some, closed-more, closed-end}
+use Rattle.files.proofs.guarded_run.Statement.{statement}
+use Rattle.files.proofs.guarded_run.Tie as tie
+
+abbrev Inv-loop : tie.InvT-loop
+Inv-loop image at count upto cells g marks₀ reciprocal i₀ marks i =
+    (i ≤ count) × ClosedPassed image g (placesFrom image at) upto cells marks₀ marks i
+
+abbrev μ-loop : tie.MeasureT-loop
+μ-loop image at count upto cells g marks₀ reciprocal i₀ marks i = count - i
+
+reciprocal-requires : tie.Need-reciprocal-requires Inv-loop μ-loop
+reciprocal-requires c κs = c .before .pre .0 .limits .slice-low
+
+loop-holds : tie.Need-loop-holds Inv-loop μ-loop
+loop-holds c =
+    let s = c .before .before in
+    (omega arith, closed-none (s .args .image .now) (s .args .g) (placesFrom (s .args .image .now) (s .args .at)) (s .args .upto) (s .args .cells .now) _)
+
+mul-name-at : tie.Need-mul-name-at Inv-loop μ-loop
+mul-name-at c = search needs
+
+add-name-at : tie.Need-add-name-at Inv-loop μ-loop
+add-name-at c = search needs
+
+name-at-requires : tie.Need-name-at-requires Inv-loop μ-loop
+name-at-requires c κs = search needs
+
+name-cell-requires : tie.Need-name-cell-requires Inv-loop μ-loop
+name-cell-requires c κs = search needs
+
+element-copy-out-if1 : tie.Need-element-copy-out-if1 Inv-loop μ-loop
+element-copy-out-if1 c = search needs
+
+returns : tie.Need-returns Inv-loop μ-loop
+returns c =
+    let l = c .before .before .before .before .before in
+    let s = l .before .before .before in
+    closed-end (s .args .image .now) (s .args .g) (placesFrom (s .args .image .now) (s .args .at)) (s .args .upto) (s .args .cells .now) (l .loop .i) (s .pre .1) (l .loop .inv .1) _ (l .loop .inv .0) refl
+
+mul-plain-place : tie.Need-mul-plain-place Inv-loop μ-loop
+mul-plain-place c = search needs
+
+add-plain-place : tie.Need-add-plain-place Inv-loop μ-loop
+add-plain-place c = search needs
+
+plain-place-requires : tie.Need-plain-place-requires Inv-loop μ-loop
+plain-place-requires c κs =
+    let l = c .before .before .before .before .before .before in
+    let s = l .before .before .before in
+    (s .pre .0, closed-some (s .args .image .now) (s .args .g) (placesFrom (s .args .image .now) (s .args .at)) (s .args .upto) (s .args .cells .now) (l .loop .i) (s .pre .1) (l .loop .inv .1), omega arith, l .before .reciprocal .ensures .1, s .pre .3 (l .loop .i) (omega arith))
+
+returns-2 : tie.Need-returns-2 Inv-loop μ-loop
+returns-2 c =
+    let l = c .before .before .before .before .before .before .before .before in
+    let s = l .before .before .before in
+    closed-end (s .args .image .now) (s .args .g) (placesFrom (s .args .image .now) (s .args .at)) (s .args .upto) (s .args .cells .now) (l .loop .i) (s .pre .1) (l .loop .inv .1) _ (l .loop .inv .0)
+    (c .before .plain-place .ensures .not (not-true _ (c .if2 .taken)))
+
+add-i : tie.Need-add-i Inv-loop μ-loop
+add-i c = search needs
+
+loop-less : tie.Need-loop-less Inv-loop μ-loop
+loop-less c = search needs
+
+loop-again : tie.Need-loop-again Inv-loop μ-loop
+loop-again c =
+    let else1 = c .before .before .before in
+    let cell = else1 .before .before in
+    let l = cell .before .before .before in
+    let s = l .before .before .before in (
+      omega arith,
+      closed-more (s .args .image .now) (s .args .g) (placesFrom (s .args .image .now) (s .args .at)) (s .args .upto) (s .args .cells .now) (l .loop .i) (s .pre .1) (l .loop .inv .1) (c .before .plain-place .ensures) (not-false _ (c .if2 .left))
+          (λ _. ap (λ (k : ℕ). getD (s .args .cells .now) k 0) (sym (cell .name-cell .ensures .0 ∙ ap nameCell (cell .before .name-at .ensures))) ∙ else1 .if1 .left),
+    )
+
+returns-3 : tie.Need-returns-3 Inv-loop μ-loop
+returns-3 c =
+    let l = c .before in
+    let s = l .before .before .before in
+    closed-end (s .args .image .now) (s .args .g) (placesFrom (s .args .image .now) (s .args .at)) (s .args .upto) (s .args .cells .now) (l .loop .i) (s .pre .1) (l .loop .inv .1) _ (l .loop .inv .0) refl
+
+pub guarded-run-spec : {M : Type 1} → statement M
+guarded-run-spec =
+    tie.close
+    (tie.spec
+    Inv-loop
+    μ-loop
+    reciprocal-requires
+    loop-holds
+    mul-name-at
+    add-name-at
+    name-at-requires
+    name-cell-requires
+    element-copy-out-if1
+    returns
+    mul-plain-place
+    add-plain-place
+    plain-place-requires
+    returns-2
+    add-i
+    loop-less
+    loop-again
+    returns-3)

@@ -1,0 +1,50 @@
+-- `marks::set_run` meets its contract: the slices passed are marked. Assumes nothing.
+use mathlib.Core.Path.{_≡_, ap, _∙_}
+use Prim.Native.Nat.{_-_, _≤_}
+use native.Mathlib.Omega.{arith}
+use borrow.Author.Needs.{needs}
+use Rattle.marks.specs.Marked.{runMarks}
+use Rattle.marks.proofs.RunLaws.{run-none, run-more}
+use Rattle.marks.proofs.set_run.Statement.{statement}
+use Rattle.marks.proofs.set_run.Tie as tie
+
+abbrev Inv-loop : tie.InvT-loop
+Inv-loop marks₀ from count n₀ marks n = (n ≤ count) × (marks ≡ runMarks marks₀ from n)
+
+abbrev μ-loop : tie.MeasureT-loop
+μ-loop marks₀ from count n₀ marks n = count - n
+
+loop-holds : tie.Need-loop-holds Inv-loop μ-loop
+loop-holds c = (omega arith, run-none _ _)
+
+add-marks : tie.Need-add-marks Inv-loop μ-loop
+add-marks c = search needs
+
+element-write-marks : tie.Need-element-write-marks Inv-loop μ-loop
+element-write-marks c = search needs
+
+add-n : tie.Need-add-n Inv-loop μ-loop
+add-n c = search needs
+
+loop-less : tie.Need-loop-less Inv-loop μ-loop
+loop-less c = search needs
+
+loop-again : tie.Need-loop-again Inv-loop μ-loop
+loop-again c = let l = c .before .loop in (omega arith, run-more _ _ (l .n) (l .inv .1))
+
+returns : tie.Need-returns Inv-loop μ-loop
+returns c = let l = c .before .loop in l .inv .1 ∙ ap (runMarks _ _) (let e : l .n ≡ c .before .before .args .count = omega arith in e)
+
+pub set-run-spec : {M : Type 1} → statement M
+set-run-spec =
+    tie.close
+    (tie.spec
+    Inv-loop
+    μ-loop
+    loop-holds
+    add-marks
+    element-write-marks
+    add-n
+    loop-less
+    loop-again
+    returns)
