@@ -377,56 +377,76 @@ fn check_file(
     area: Option<&Area>,
 ) -> Result<Vec<(usize, usize)>, Unsound> {
     let name = entry.name();
-    let (attributes, booked_length) = (entry.words[6], entry.words[7]);
-    let (booked_index, reserved) = (entry.words[8], entry.words[9] as usize);
     let (index, length) = match area {
         Some(area) => (area.index, area.length),
-        None => (booked_index, booked_length),
+        None => (entry.words[8], entry.words[7]),
     };
     if length > 32_767 {
         return Err(Unsound::FileLength(name));
     }
-    let pairs = match index as usize {
-        0 => Vec::new(),
-        sector if kit.slice_at(sector).is_none() => return Err(Unsound::IndexSector(name)),
-        sector => {
-            let pairs = read_pairs(image, kit, sector);
-            let pairs = pairs.map_err(|fault| Unsound::Index(name, fault))?;
-            if pairs[0].0 != sector {
-                return Err(Unsound::IndexElsewhere(name));
-            }
-            pairs
-        }
-    };
+    let pairs = file_pairs(image, kit, name, index as usize)?;
     let slices = pairs.iter().map(|&(_, length)| length).sum::<usize>() / kit.s;
-    if !legal_attributes(attributes, 0) {
-        return Err(Unsound::Attributes(name));
-    }
-    if !legal_attributes(attributes, slices) {
-        return Err(Unsound::EntryOnlySlices(name));
-    }
+    check_attributes(entry, slices)?;
     if slices < kit.need(length as usize) {
         return Err(Unsound::TooFewSlices(name));
     }
-    if area.is_none() {
-        if reserved != kit.s * slices {
-            return Err(Unsound::Reserved(name));
-        }
-        return Ok(pairs);
+    match area {
+        Some(area) => check_booked(kit, entry, area, slices)?,
+        None if entry.words[9] as usize != kit.s * slices => return Err(Unsound::Reserved(name)),
+        None => {}
     }
-    if booked_length > length {
+    Ok(pairs)
+}
+
+/// The pairs of a file's index, which is the first sector of its first slice; none for index 0.
+fn file_pairs(
+    image: &[u16],
+    kit: &Kit,
+    name: Name,
+    index: usize,
+) -> Result<Vec<(usize, usize)>, Unsound> {
+    if index == 0 {
+        return Ok(Vec::new());
+    }
+    if kit.slice_at(index).is_none() {
+        return Err(Unsound::IndexSector(name));
+    }
+    let pairs = read_pairs(image, kit, index).map_err(|fault| Unsound::Index(name, fault))?;
+    if pairs[0].0 != index {
+        return Err(Unsound::IndexElsewhere(name));
+    }
+    Ok(pairs)
+}
+
+/// Attributes such as a caller may set, bit 13 only with no slices.
+fn check_attributes(entry: &Entry, slices: usize) -> Result<(), Unsound> {
+    if !legal_attributes(entry.words[6], 0) {
+        return Err(Unsound::Attributes(entry.name()));
+    }
+    if !legal_attributes(entry.words[6], slices) {
+        return Err(Unsound::EntryOnlySlices(entry.name()));
+    }
+    Ok(())
+}
+
+/// Where an area process is open, the entry keeps the booked length and slices (with none, word
+/// 8 is 0), neither above the live ones, the slices at least need of the length.
+fn check_booked(kit: &Kit, entry: &Entry, area: &Area, slices: usize) -> Result<(), Unsound> {
+    let name = entry.name();
+    let (length, index, reserved) = (entry.words[7], entry.words[8], entry.words[9] as usize);
+    if length > area.length {
         return Err(Unsound::BookedLength(name));
     }
     if !reserved.is_multiple_of(kit.s) || reserved > kit.s * slices {
         return Err(Unsound::BookedSlices(name));
     }
-    if reserved / kit.s < kit.need(booked_length as usize) {
+    if reserved / kit.s < kit.need(length as usize) {
         return Err(Unsound::BookedTooFew(name));
     }
-    if booked_index != if reserved == 0 { 0 } else { index } {
+    if index != if reserved == 0 { 0 } else { area.index } {
         return Err(Unsound::BookedIndex(name));
     }
-    Ok(pairs)
+    Ok(())
 }
 
 /// The state's area names are distinct and entered, no SYS or MAP; the rules on users hold

@@ -225,18 +225,6 @@ impl Message {
 
 impl From<&Message> for UnitMessage {
     fn from(message: &Message) -> UnitMessage {
-        let plain = |call| UnitMessage {
-            call,
-            ..UnitMessage::default()
-        };
-        let of_unit = |call, unit| UnitMessage {
-            unit,
-            ..plain(call)
-        };
-        let named = |call, name| UnitMessage {
-            name,
-            ..plain(call)
-        };
         match *message {
             Message::Init { unit } => of_unit(call::INIT, unit),
             Message::Set { name } => named(call::SET, name),
@@ -258,14 +246,7 @@ impl From<&Message> for UnitMessage {
                 name,
                 sender,
                 operation,
-            } => {
-                let mut raw = UnitMessage {
-                    sender,
-                    ..named(call::AREA_MESSAGE, name)
-                };
-                operation.fill(&mut raw);
-                raw
-            }
+            } => to_area(name, sender, operation),
             Message::UnitDescription { unit, bytes } => UnitMessage {
                 bytes,
                 ..of_unit(call::UNIT_DESCRIPTION, unit)
@@ -273,6 +254,34 @@ impl From<&Message> for UnitMessage {
             Message::Listing { unit } => of_unit(call::LISTING, unit),
         }
     }
+}
+
+/// A message that names a unit, its other words 0.
+fn of_unit(call: u16, unit: u16) -> UnitMessage {
+    UnitMessage {
+        call,
+        unit,
+        ..UnitMessage::default()
+    }
+}
+
+/// A message that names a file, its other words 0.
+fn named(call: u16, name: NameWords) -> UnitMessage {
+    UnitMessage {
+        call,
+        name,
+        ..UnitMessage::default()
+    }
+}
+
+/// A message to an area process.
+fn to_area(name: NameWords, sender: u16, operation: Operation) -> UnitMessage {
+    let mut raw = UnitMessage {
+        sender,
+        ..named(call::AREA_MESSAGE, name)
+    };
+    operation.fill(&mut raw);
+    raw
 }
 
 impl From<UnitAnswer> for Answer {

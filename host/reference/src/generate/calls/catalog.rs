@@ -1,0 +1,157 @@
+//! Calls of each kind.
+
+use super::choice::{any_attributes, any_unit, entry_lent, needless_lent};
+use super::{open_names, Call, Caller, Kind, Mix};
+use crate::generate::builder::attributes;
+use crate::generate::names::in_message;
+use crate::random::Random;
+use crate::sound::survey;
+use crate::types::{Area, Message, Name, State};
+
+impl Caller {
+    /// A call of a kind.
+    pub(super) fn call_of(
+        &self,
+        random: &mut Random,
+        image: &[u16],
+        state: &State,
+        kind: Kind,
+    ) -> Call {
+        let unit = any_unit(random, state.unit);
+        let lent = needless_lent(random);
+        let message = match kind {
+            Kind::Init => Message::Init { unit },
+            Kind::Set => return self.set(random, image, state),
+            Kind::Create => Message::Create {
+                name: self.unused(random, image, state),
+                size: self.size(random, image),
+                attributes: any_attributes(random),
+            },
+            Kind::LookUp => return self.look_up(random, image, state),
+            Kind::Change => return self.change(random, image, state),
+            Kind::Remove => Message::Remove {
+                name: self.standing(random, image, state, true),
+            },
+            Kind::CreateArea => self.create_area(random, image, state),
+            Kind::RemoveArea => self.remove_area(random, state),
+            Kind::Area => return self.area_message(random, state),
+            Kind::Description => return description(random, unit),
+            Kind::Listing => return listing(random, image, state, unit),
+        };
+        Call { message, lent }
+    }
+
+    /// Set Entry.
+    fn set(&self, random: &mut Random, image: &[u16], state: &State) -> Call {
+        let mut lent = entry_lent(random);
+        if lent.len() >= 10 {
+            lent[6] = any_attributes(random);
+            lent[9] = self.size(random, image);
+        }
+        let name = self.unused(random, image, state);
+        let message = Message::Set { name };
+        Call { message, lent }
+    }
+
+    /// Look-up Entry.
+    fn look_up(&self, random: &mut Random, image: &[u16], state: &State) -> Call {
+        let lent = entry_lent(random);
+        let name = self.standing(random, image, state, false);
+        let message = Message::LookUp { name };
+        Call { message, lent }
+    }
+
+    /// Change Entry.
+    fn change(&self, random: &mut Random, image: &[u16], state: &State) -> Call {
+        let mut lent = entry_lent(random);
+        if lent.len() >= 10 {
+            self.fill_change(random, image, state, &mut lent);
+        }
+        let name = self.standing(random, image, state, true);
+        let message = Message::Change { name };
+        Call { message, lent }
+    }
+
+    /// Writes the name, the attributes and the length that Change Entry shall set or keep.
+    fn fill_change(&self, random: &mut Random, image: &[u16], state: &State, lent: &mut [u16]) {
+        let keeps = if self.mix == Mix::Fill { 20 } else { 50 };
+        if random.chance(keeps) {
+            lent[0] = 0;
+        } else {
+            let new = self.unused(random, image, state);
+            lent[..3].copy_from_slice(&new);
+        }
+        lent[6] = if random.chance(50) {
+            random.pick(&[0xFFFF, 0x8000, 0x8010])
+        } else {
+            any_attributes(random)
+        };
+        lent[9] = if random.chance(45) {
+            random.pick(&[0xFFFF, 0x8000, 0x8001])
+        } else {
+            self.size(random, image)
+        };
+        if random.chance(12) {
+            // Attributes only, which a permanent file takes too.
+            lent[0] = 0;
+            lent[6] = attributes(random);
+            lent[9] = 0xFFFF;
+        }
+    }
+
+    /// Create Area Process, often for a file that has slices.
+    fn create_area(&self, random: &mut Random, image: &[u16], state: &State) -> Message {
+        let long: Vec<Name> = survey(image, state).map_or(vec![], |survey| {
+            let long = survey.entries.iter().filter(|e| !e.slices.is_empty());
+            long.map(|entry| entry.name()).collect()
+        });
+        let name = if !long.is_empty() && random.chance(60) {
+            let name = random.pick(&long);
+            in_message(random, name, state.unit)
+        } else {
+            self.standing(random, image, state, true)
+        };
+        Message::CreateArea { name }
+    }
+
+    /// Remove Area Process, often of one without users.
+    fn remove_area(&self, random: &mut Random, state: &State) -> Message {
+        let mut open: Vec<Name> = open_names(state);
+        let used = |area: &Area| area.users.iter().any(|user| !user.is_vacant());
+        let idle = state.areas.iter().filter(|area| area.live && !used(area));
+        let idle: Vec<Name> = idle.map(|area| area.name).collect();
+        if !idle.is_empty() && random.chance(70) {
+            open = idle;
+        }
+        let name = if !open.is_empty() && random.chance(85) {
+            let name = random.pick(&open);
+            in_message(random, name, state.unit)
+        } else {
+            self.name(random, state.unit)
+        };
+        Message::RemoveArea { name }
+    }
+}
+
+/// Get Unit Description.
+fn description(random: &mut Random, unit: u16) -> Call {
+    let number = random.pick(&[16, 16, 16, 17, 40, 15, 0]);
+    let lent = random.words(number);
+    let bytes = random.pick(&[32, 32, 32, 33, 512, 0x8000, 0xFFFF, 31, 0]);
+    let message = Message::UnitDescription { unit, bytes };
+    Call { message, lent }
+}
+
+/// The listing, with room for all entries most of the time.
+fn listing(random: &mut Random, image: &[u16], state: &State, unit: u16) -> Call {
+    let entries = survey(image, state).map_or(2, |survey| survey.entries.len());
+    let number = match random.below(5) {
+        0 => random.below(16 * entries),
+        1 => 16 * entries - 1,
+        2 => 16 * entries,
+        _ => 16 * entries + random.below(40),
+    };
+    let lent = random.words(number);
+    let message = Message::Listing { unit };
+    Call { message, lent }
+}

@@ -1,0 +1,146 @@
+//! Names, sizes, attributes and lent words of calls.
+
+use super::{names_in, Caller, Mix, Sizes};
+use crate::generate::builder::attributes;
+use crate::generate::names::in_message;
+use crate::layout::{Kit, BITS, KIT, MAP, SECTOR, SYS};
+use crate::random::Random;
+use crate::sound::survey;
+use crate::types::{Name, State};
+
+impl Caller {
+    /// A name, standing or not.
+    pub(super) fn name(&self, random: &mut Random, unit: u16) -> Name {
+        let name = if random.chance(2) {
+            random.pick(&[SYS, MAP])
+        } else {
+            random.pick(&self.names)
+        };
+        in_message(random, name, unit)
+    }
+
+    /// A name that does not stand in the catalog, most of the time.
+    pub(super) fn unused(&self, random: &mut Random, image: &[u16], state: &State) -> Name {
+        if random.chance(60) {
+            if let Ok(survey) = survey(image, state) {
+                let mut names = self.names.clone();
+                names.retain(|name| survey.find(*name).is_none());
+                return self.one_of(random, &names, state.unit);
+            }
+        }
+        self.name(random, state.unit)
+    }
+
+    /// A name that stands in the catalog, most of the time; `files` leaves SYS and MAP out.
+    pub(super) fn standing(
+        &self,
+        random: &mut Random,
+        image: &[u16],
+        state: &State,
+        files: bool,
+    ) -> Name {
+        if random.chance(80) {
+            if let Ok(survey) = survey(image, state) {
+                let mut names = names_in(&survey);
+                names.retain(|name| !files || (*name != SYS && *name != MAP));
+                return self.one_of(random, &names, state.unit);
+            }
+        }
+        self.name(random, state.unit)
+    }
+
+    /// One of the names, any name if there are none.
+    fn one_of(&self, random: &mut Random, names: &[Name], unit: u16) -> Name {
+        if names.is_empty() {
+            return self.name(random, unit);
+        }
+        let name = random.pick(names);
+        in_message(random, name, unit)
+    }
+
+    /// A size as the mix has it.
+    pub(super) fn size(&self, random: &mut Random, image: &[u16]) -> u16 {
+        if self.mix == Mix::Fill && random.chance(70) {
+            random.between(0, 3) as u16
+        } else {
+            size(random, image, self.sizes)
+        }
+    }
+}
+
+/// A size, mostly small, at times around what is free or what an index holds.
+fn size(random: &mut Random, image: &[u16], sizes: Sizes) -> u16 {
+    let (s, free) = if image.len() >= (KIT + 1) * SECTOR {
+        let kit = Kit::read(image);
+        (kit.s.clamp(2, 64), kit.free)
+    } else {
+        (2, 0)
+    };
+    let draw = match sizes {
+        Sizes::Stretches if random.chance(40) => 10,
+        _ => random.below(16),
+    };
+    match draw {
+        0..=5 => random.between(0, 3 * s) as u16,
+        6..=7 => {
+            let slices = random.between(1, 8);
+            around(random, slices * s, s)
+        }
+        8 => around(random, free, s),
+        9 => around(random, free / 2, s),
+        10 if sizes == Sizes::Stretches => {
+            let stretches = random.pick(&[127, 128, 129, 130]);
+            around(random, stretches * s, s)
+        }
+        10 => random.between(0, free / 4) as u16,
+        11 => random.pick(&[32_767, 32_766, 32_768, 65_535, 0, 1]),
+        12 => random.between(0, free) as u16,
+        _ => random.pick(&[0, 0, 1, 1]),
+    }
+}
+
+/// A size at most one more than a slice away from another.
+fn around(random: &mut Random, middle: usize, s: usize) -> u16 {
+    let low = middle.saturating_sub(s + 1);
+    random.between(low, middle + s + 1).min(65_535) as u16
+}
+
+/// Attributes, now and then illegal ones.
+pub(super) fn any_attributes(random: &mut Random) -> u16 {
+    match random.below(20) {
+        0 => 0x0004,
+        1 => 0x0005,
+        2 => random.word(),
+        3 => random.pick(&BITS),
+        _ => attributes(random),
+    }
+}
+
+/// The unit's number, now and then another.
+pub(super) fn any_unit(random: &mut Random, unit: u16) -> u16 {
+    if random.chance(90) {
+        return unit;
+    }
+    let other = random.word();
+    random.pick(&[0, 1, 2, 3, 4, unit.wrapping_add(256), other])
+}
+
+/// Lent words for a call that needs none: now and then some.
+pub(super) fn needless_lent(random: &mut Random) -> Vec<u16> {
+    if !random.chance(10) {
+        return Vec::new();
+    }
+    let number = random.below(20);
+    random.words(number)
+}
+
+/// A lent record of 16 random words, now and then longer or too short.
+pub(super) fn entry_lent(random: &mut Random) -> Vec<u16> {
+    let number = match random.below(25) {
+        0 => random.below(16),
+        1 => 15,
+        2..=5 => 16 + random.below(5),
+        _ => 16,
+    };
+    random.words(number)
+}

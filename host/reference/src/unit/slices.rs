@@ -1,0 +1,112 @@
+//! Taking slices, and giving them back.
+
+use super::image::{mark, unused_place, write_entry, write_index, zero_sector};
+use super::Question;
+use crate::layout::*;
+use crate::sound::Survey;
+
+/// Which slices are free, counted from 1; number 0 is never free.
+pub(super) fn free_slices(image: &[u16], kit: &Kit) -> Vec<bool> {
+    let mut free = vec![false];
+    free.extend((1..=kit.slices()).map(|slice| marked_free(image, slice)));
+    free
+}
+
+/// Takes one slice: the next number after the file's last if free, else the lowest free.
+/// At least one is free.
+pub(super) fn take(free: &mut [bool], slices: &mut Vec<usize>) {
+    let next = slices.last().map_or(0, |last| last + 1);
+    let slice = if next < free.len() && free[next] {
+        next
+    } else {
+        free.iter().position(|&free| free).expect("one is free")
+    };
+    free[slice] = false;
+    slices.push(slice);
+}
+
+/// How SYS and a file would stand after a message.
+pub(super) struct Plan {
+    pub(super) layers: usize,
+    pub(super) sys: Vec<usize>,
+    pub(super) file: Vec<usize>,
+}
+
+/// Catalog questions 7 and 8. `entering` is the key that needs a place, with a place that
+/// counts as unused; `held` are the file's slices and `wanted` how many it shall have.
+pub(super) fn plan(
+    image: &[u16],
+    survey: &Survey,
+    entering: Option<(usize, Option<(usize, usize)>)>,
+    held: &[usize],
+    wanted: usize,
+) -> Result<Plan, Question> {
+    let kit = &survey.kit;
+    let full = entering.is_some_and(|(key, counted_unused)| {
+        unused_place(image, kit, &survey.sys, survey.layers, key, counted_unused).is_none()
+    });
+    let layers = survey.layers + full as usize;
+    let sys_slices = (kit.h * layers).div_ceil(kit.s);
+    let mut free = free_slices(image, kit);
+    let enough = free.iter().filter(|&&free| free).count();
+    if sys_slices - survey.sys.len() + wanted.saturating_sub(held.len()) > enough {
+        return Err(Question::EnoughFree);
+    }
+    let mut sys = survey.sys.clone();
+    while sys.len() < sys_slices {
+        take(&mut free, &mut sys);
+    }
+    let mut file = held.to_vec();
+    file.truncate(wanted);
+    while file.len() < wanted {
+        take(&mut free, &mut file);
+    }
+    if stretches(&sys).len() > STRETCHES || stretches(&file).len() > STRETCHES {
+        return Err(Question::FewStretches);
+    }
+    Ok(Plan { layers, sys, file })
+}
+
+/// Lets SYS grow as planned.
+pub(super) fn grow(image: &mut [u16], survey: &Survey, plan: &Plan) {
+    let kit = &survey.kit;
+    if plan.layers == survey.layers {
+        return;
+    }
+    for &slice in &plan.sys[survey.sys.len()..] {
+        mark(image, slice, false);
+    }
+    if plan.sys.len() > survey.sys.len() {
+        write_index(image, kit, SYS_INDEX, &plan.sys);
+    }
+    for block in kit.h * survey.layers..kit.h * plan.layers {
+        zero_sector(image, kit.sys_sector(&plan.sys, block));
+    }
+    let old = survey.find(SYS).expect("SYS is entered");
+    let (length, reserved) = (kit.h * plan.layers, kit.s * plan.sys.len());
+    let entry = system_entry(SYS, length, SYS_INDEX, reserved);
+    write_entry(image, old.sector, old.place, &entry);
+}
+
+/// Lets a file give back or take as planned: map, index, and the sectors that join.
+pub(super) fn resize(
+    image: &mut [u16],
+    kit: &Kit,
+    held: &[usize],
+    planned: &[usize],
+    old_length: usize,
+    new_length: usize,
+) {
+    for &slice in held.iter().skip(planned.len()) {
+        mark(image, slice, true);
+    }
+    for &slice in planned.iter().skip(held.len()) {
+        mark(image, slice, false);
+    }
+    if held != planned && !planned.is_empty() {
+        write_index(image, kit, kit.first_sector(planned[0]), planned);
+    }
+    for block in old_length..new_length {
+        zero_sector(image, kit.file_sector(planned, block));
+    }
+}
