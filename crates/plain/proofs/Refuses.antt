@@ -1,44 +1,90 @@
--- What a refused call leaves: the unit, but for the sender's position where Position, 5 and 7 moved it, and the lent
--- words; the byte count and the number of entries are 0.
-use mathlib.Core.Path.{_≡_, refl}
-use mathlib.Core.Bool.{Bool}
-use mathlib.Core.List.{List}
+-- One walk over the questions of every call. What a refused call leaves: the unit, but for the sender's position where Position, 5
+-- and 7 moved it, and the lent words; the byte count and the number of entries are 0. No result word is 9000h or 8800h, and SYS has
+-- not shrunk.
+use mathlib.Core.Path.{_≡_, refl, sym, ap, _∙_}
+use mathlib.Core.Bool.{Bool, true, false, not, _||_, cond}
+use mathlib.Core.List.{List, [], _∷_, _++_, append-nil, append-assoc}
 use mathlib.Core.Logic.{_≢_}
 use mathlib.Core.Option.{Option, none, some}
-use Prim.Native.Nat.{ℕ}
+use Prim.Native.Nat.{ℕ, _≤_}
+use native.Mathlib.Omega.{arith}
+use lib.Dec.{T, eqb}
 use Rattle.types.specs.declared.Name.{Name}
 use Rattle.types.specs.declared.Operation.{Operation}
 use Rattle.types.specs.declared.Operation.the-variants.{Reserve, Position, Sense, Transput, Other}
 use Rattle.types.specs.declared.Message.{Message}
 use Rattle.types.specs.declared.Message.the-variants.{Init, Set, Create, LookUp, Change, Remove, CreateArea, RemoveArea, AreaMessage, UnitDescription, Listing}
 use Rattle.disc.specs.Names.{named}
-use Rattle.plain.specs.Table.{Table, tableFind}
-use Rattle.plain.specs.Unit.{Plain, File, AreaUser}
-use Rattle.plain.specs.Questions.{Outcome, asks, given, either}
+use Rattle.plain.specs.Table.{Table, tableFind, tableRemove}
+use Rattle.plain.specs.Unit.{Plain, File, AreaUser, withTables, withFiles}
+use Rattle.plain.specs.Questions.{Outcome, asks, given, either, done}
+use Rattle.plain.specs.Taking.{layersFor}
 use Rattle.plain.specs.Catalog.{stepInit, newFile, stepCreate, stepSet, stepLookUp, stepRemove, changeFile, stepChange}
 use Rattle.plain.specs.Areas.{stepCreateArea, stepRemoveArea, stepReserve, stepRelease, moved, positioned}
 use Rattle.plain.specs.Transput.{isOutput, refusedAt, input, append, output, stepTransput}
 use Rattle.plain.specs.Reports.{stepListing, stepDescription}
-use Rattle.plain.specs.Step.{reserveCount, userStep, operationStep, stepArea, step}
-use Rattle.plain.specs.Claims.{Moves, position, random, Left, everything, butPosition, Refused}
+use Rattle.plain.specs.Step.{Call, reserveCount, userStep, operationStep, stepArea, step, after, answers}
+use Rattle.plain.specs.Claims.{Moves, position, random, Left, everything, butPosition, Refused, NeverShrinks, NeverUnsound, EachNeverUnsound}
 use Rattle.plain.proofs.QuestionLaws.{asks-law, given-law, either-law}
+use Rattle.plain.proofs.TakingLaws.{layers-up, sysTaken}
 
--- The claim of one outcome.
+-- ---- SYS
+
+module _ {p : Plain} where
+  -- where layers and SYS's slices stay
+  same-sys : {files : Table File} {areas : Table (Table AreaUser)} → NeverShrinks p (withTables p (p .layers) (p .sys) files areas)
+  same-sys = record { keys = refl; layers = omega arith; new = []; slices = sym (append-nil (p .sys)) }
+
+  -- where SYS has taken its slices for more layers
+  more-sys : {layers : ℕ} {files : Table File} {areas : Table (Table AreaUser)} → p .layers ≤ layers
+      → NeverShrinks p (withTables p layers (p .sys ++ sysTaken p layers) files areas)
+  more-sys {layers} up = record { keys = refl; layers = up; new = sysTaken p layers; slices = refl }
+
+  then-file : {q : Plain} {files : Table File} → NeverShrinks p q → NeverShrinks p (withFiles q files)
+  then-file g = record { keys = g .keys; layers = g .layers; new = g .new; slices = g .slices }
+
+  left-sys : {message : Message} {q : Plain} → Left p message q → NeverShrinks p q
+  left-sys everything = same-sys
+  left-sys (butPosition m o) = rw (o .moves) same-sys
+
+shrinks-trans : {p q r : Plain} → NeverShrinks p q → NeverShrinks q r → NeverShrinks p r
+shrinks-trans {p} a b = record {
+  keys = b .keys ∙ a .keys;
+  layers = omega (arith, a .layers, b .layers);
+  new = a .new ++ b .new;
+  slices = b .slices ∙ ap (λ (l : List ℕ). l ++ b .new) (a .slices) ∙ append-assoc (p .sys) (a .new) (b .new);
+}
+
+-- ---- the claims of one outcome
+
+-- a word that is none of the two, as a test
+abbrev other : ℕ → Bool
+other word = not (eqb word 0x9000 || eqb word 0x8800)
+
+not-unsound : (word : ℕ) → T (other word) → NeverUnsound word
+not-unsound word t = record { catalog = λ e. rw e at t; area = λ e. rw e at t }
+
 record Stays (p : Plain) (message : Message) (lent : List ℕ) (o : Outcome) : Type 0 where
   refused : o .answer .result ≢ 0 → Refused p message lent o
+  word : NeverUnsound (o .answer .result)
+  sys : NeverShrinks p (o .unit)
 
 module _ {p : Plain} {message : Message} {lent : List ℕ} where
-  -- A refusal that leaves the unit q, with any word and block.
-  leaves : {q : Plain} {word k : ℕ} → Left p message q → Stays p message lent (refusedAt q word k lent)
-  leaves l = record { refused = λ h. record { unit = l; words = refl; bytes = refl; entries = refl } }
+  -- A refusal that leaves the unit q, with any block.
+  leaves : {q : Plain} (word : ℕ) {k : ℕ} → T (other word) → Left p message q → Stays p message lent (refusedAt q word k lent)
+  leaves word t l = record {
+    refused = λ h. record { unit = l; words = refl; bytes = refl; entries = refl };
+    word = not-unsound word t;
+    sys = left-sys l;
+  }
 
   -- A call that is not refused.
-  accepts : {o : Outcome} → o .answer .result ≡ 0 → Stays p message lent o
-  accepts e = record { refused = λ h. absurd (h e) }
+  accepts : {o : Outcome} → o .answer .result ≡ 0 → NeverShrinks p (o .unit) → Stays p message lent o
+  accepts e g = record { refused = λ h. absurd (h e); word = rw e (not-unsound 0 tt); sys = g }
 
   -- A refusal that leaves everything.
-  keeps : {word k : ℕ} → Stays p message lent (refusedAt p word k lent)
-  keeps = leaves everything
+  keeps : (word : ℕ) {k : ℕ} → T (other word) → Stays p message lent (refusedAt p word k lent)
+  keeps word t = leaves word t everything
 
   -- A question; one that brings a value.
   ask : (b : Bool) {refusal next : Outcome} → Stays p message lent refusal → Stays p message lent next → Stays p message lent (asks b refusal next)
@@ -51,77 +97,91 @@ module _ {p : Plain} {message : Message} {lent : List ℕ} where
 -- ---- catalog messages, area create and remove, reports
 
 module _ (p : Plain) (message : Message) (lent : List ℕ) where
+  -- the refusal of most questions
+  no : Stays p message lent (refusedAt p 0x1200 0 lent)
+  no = keeps 0x1200 tt
+
   init : (unit : ℕ) → Stays p message lent (stepInit p unit lent)
-  init unit = ask _ keeps (ask _ keeps (accepts refl))
+  init unit = ask _ no (ask _ no (accepts refl same-sys))
 
   newFileStays : (n size attributes : ℕ) (optional tail : List ℕ) → Stays p message lent (newFile p n size attributes optional tail lent)
   unfolding newFile
   newFileStays n size attributes optional tail =
-      ask _ keeps (ask _ keeps (ask _ keeps (ask _ keeps (ask _ keeps
-      (ask _ keeps (ask _ keeps (ask _ keeps (accepts refl))))))))
+      ask _ no (ask _ no (ask _ no (ask _ no (ask _ (keeps _ tt)
+      (ask _ (keeps _ tt) (ask _ (keeps _ tt) (ask _ (keeps _ tt) (accepts refl (more-sys (layers-up p n (p .files)))))))))))
 
   create : (name : Name) (size attributes : ℕ) → Stays p message lent (stepCreate p name size attributes lent)
-  create name size attributes = ask _ keeps (newFileStays _ _ _ _ _)
+  create name size attributes = ask _ no (newFileStays _ _ _ _ _)
 
   set : (name : Name) → Stays p message lent (stepSet p name lent)
-  set name = ask _ keeps (ask _ keeps (newFileStays _ _ _ _ _))
+  set name = ask _ no (ask _ no (newFileStays _ _ _ _ _))
 
   lookUp : (name : Name) → Stays p message lent (stepLookUp p name lent)
-  lookUp name = ask _ keeps (bring _ keeps λ e _. ask _ keeps (accepts refl))
+  lookUp name = ask _ no (bring _ (keeps _ tt) λ e _. ask _ no (accepts refl same-sys))
 
   remove : (name : Name) → Stays p message lent (stepRemove p name lent)
-  remove name = ask _ keeps (ask _ keeps (bring _ keeps λ f _. ask _ keeps (ask _ keeps (accepts refl))))
+  remove name = ask _ no (ask _ (keeps _ tt) (bring _ no λ f _. ask _ no (ask _ no (accepts refl same-sys))))
+
+  -- a kept name needs no layer more
+  change-up : (same : Bool) (m : ℕ) (others : Table File) → p .layers ≤ cond same (p .layers) (layersFor p m others)
+  change-up true m others = omega arith
+  change-up false m others = layers-up p m others
 
   changeStays : (n : ℕ) (f : File) (m size attributes : ℕ) → Stays p message lent (changeFile p n f m size attributes lent)
   unfolding changeFile
   changeStays n f m size attributes =
-      ask _ keeps (ask _ keeps (ask _ keeps (ask _ keeps (ask _ keeps (ask _ keeps
-      (ask _ keeps (ask _ keeps (ask _ keeps (accepts refl)))))))))
+      ask _ no (ask _ no (ask _ no (ask _ no (ask _ no (ask _ (keeps _ tt)
+      (ask _ (keeps _ tt) (ask _ (keeps _ tt) (ask _ (keeps _ tt) (accepts refl (more-sys (change-up (eqb m n) m (tableRemove n (p .files)))))))))))))
 
   change : (name : Name) → Stays p message lent (stepChange p name lent)
-  change name = ask _ keeps (ask _ keeps (ask _ keeps (bring _ keeps λ f _. changeStays _ _ _ _ _)))
+  change name = ask _ no (ask _ (keeps _ tt) (ask _ no (bring _ no λ f _. changeStays _ _ _ _ _)))
 
   -- the dummies answer 0
+  dummy : Stays p message lent (done p lent)
+  dummy = accepts refl same-sys
+
   createArea : (name : Name) → Stays p message lent (stepCreateArea p name lent)
-  createArea name = ask _ keeps (ask _ keeps (ask _ keeps (ask _ (accepts refl) (ask _ keeps (accepts refl)))))
+  createArea name =
+      ask _ (keeps _ tt) (ask _ (keeps _ tt) (ask _ (keeps _ tt) (ask _ dummy (ask _ (keeps _ tt) (accepts refl same-sys)))))
 
   removeArea : (name : Name) → Stays p message lent (stepRemoveArea p name lent)
   removeArea name =
-      ask _ keeps (ask _ keeps (bring _ (accepts refl) λ users _. ask _ (accepts refl) (bring _ (accepts refl) λ f _. accepts refl)))
+      ask _ (keeps _ tt) (ask _ (keeps _ tt) (bring _ dummy λ users _. ask _ dummy (bring _ dummy λ f _. accepts refl same-sys)))
 
   description : (unit bytes : ℕ) → Stays p message lent (stepDescription p unit bytes lent)
   unfolding stepDescription
-  description unit bytes = ask _ keeps (ask _ keeps (ask _ keeps (accepts refl)))
+  description unit bytes = ask _ no (ask _ no (ask _ no (accepts refl same-sys)))
 
   listing : (unit : ℕ) → Stays p message lent (stepListing p unit lent)
   unfolding stepListing
-  listing unit = ask _ keeps (ask _ keeps (accepts refl))
+  listing unit = ask _ no (ask _ no (accepts refl same-sys))
 
 -- ---- area messages
 
 -- Position, done by itself or before 5 and 7: both refusals and what follows start from a moved unit.
 positionStays : {p : Plain} {message : Message} {lent : List ℕ} (move : ℕ → Plain) (block len : ℕ)
     (refusal : Plain → ℕ → ℕ → Outcome) (next : Plain → ℕ → Outcome)
-    → ((word k : ℕ) → Stays p message lent (refusal (move k) word k)) → ((k : ℕ) → Stays p message lent (next (move k) k))
+    → ((word k : ℕ) → T (other word) → Stays p message lent (refusal (move k) word k)) → ((k : ℕ) → Stays p message lent (next (move k) k))
     → Stays p message lent (positioned move block len refusal next)
 unfolding positioned
-positionStays move block len refusal next stop go = ask _ (stop _ _) (ask _ (stop _ _) (go block))
+positionStays move block len refusal next stop go = ask _ (stop _ _ tt) (ask _ (stop _ _ tt) (go block))
 
-module _ (p : Plain) (message : Message) (lent : List ℕ) (n : ℕ) (move : ℕ → Plain) (f : File) where
+module _ (p : Plain) (message : Message) (lent : List ℕ) (n : ℕ) (move : ℕ → Plain) (stays : (k : ℕ) → NeverShrinks p (move k)) (f : File) where
   -- Input and output from the unit q that Position left.
   inputStays : (q : Plain) (k : ℕ) → Left p message q → Stays p message lent (input q move f k lent)
   unfolding input
-  inputStays q k l = ask _ (leaves l) (accepts refl)
+  inputStays q k l = ask _ (leaves _ tt l) (accepts refl (stays _))
 
   outputStays : (q : Plain) (k : ℕ) → Left p message q → Stays p message lent (output p q move n f k lent)
   unfolding output append
   outputStays q k l =
-      either-law (Stays p message lent) _ (λ _. accepts refl) (λ _. ask _ (leaves l) (ask _ (leaves l) (ask _ (leaves l) (accepts refl))))
+      either-law (Stays p message lent) _ (λ _. accepts refl (then-file (stays _)))
+      (λ _. ask _ (leaves _ tt l) (ask _ (leaves _ tt l) (ask _ (leaves _ tt l) (accepts refl (then-file (stays _))))))
 
 module _ (p : Plain) (lent : List ℕ) (name : Name) (sender : ℕ) (users : Table AreaUser) (isOpen : tableFind (named name) (p .areas) ≡ some users) where
   reserveStays : (operation : Operation) (count : ℕ) → Stays p (AreaMessage name sender operation) lent (stepReserve p (named name) sender users count lent)
   unfolding stepReserve
-  reserveStays operation count = ask _ keeps (ask _ keeps (ask _ keeps (ask _ keeps (accepts refl))))
+  reserveStays operation count = ask _ (keeps _ tt) (ask _ (keeps _ tt) (ask _ (keeps _ tt) (ask _ (keeps _ tt) (accepts refl same-sys))))
 
   module _ (u : AreaUser) (isUser : tableFind sender users ≡ some u) (f : File) where
     movedLeft : {operation : Operation} (k : ℕ) → Moves operation → Left p (AreaMessage name sender operation) (moved p (named name) sender users u k)
@@ -131,8 +191,8 @@ module _ (p : Plain) (lent : List ℕ) (name : Name) (sender : ℕ) (users : Tab
         → Stays p (AreaMessage name sender (Transput operation bytes block)) lent (stepTransput p (named name) sender users u f operation bytes block lent)
     unfolding stepTransput
     transputStays operation bytes block =
-        ask _ keeps (ask _ keeps (ask _ keeps (ask _ keeps (either-law P _
-        (λ t. positionStays _ _ _ _ _ (λ word k. leaves (movedLeft k (random t))) (λ k. go _ k (movedLeft k (random t))))
+        ask _ (keeps _ tt) (ask _ (keeps _ tt) (ask _ (keeps _ tt) (ask _ (keeps _ tt) (either-law P _
+        (λ t. positionStays _ _ _ _ _ (λ word k w. leaves word w (movedLeft k (random t))) (λ k. go _ k (movedLeft k (random t))))
         (λ _. go p (u .position) everything)))))
       where
         P : Outcome → Type 0
@@ -143,26 +203,28 @@ module _ (p : Plain) (lent : List ℕ) (name : Name) (sender : ℕ) (users : Tab
 
         go : (q : Plain) (k : ℕ) → Left p (AreaMessage name sender (Transput operation bytes block)) q
             → P (either (isOutput operation) (output p q move (named name) f k lent) (input q move f k lent))
-        go q k l = either-law P _ (λ _. outputStays p _ lent (named name) move f q k l) (λ _. inputStays p _ lent (named name) move f q k l)
+        go q k l = either-law P _
+            (λ _. outputStays p _ lent (named name) move (λ j. same-sys) f q k l)
+            (λ _. inputStays p _ lent (named name) move (λ j. same-sys) f q k l)
 
     userStays : (operation : Operation) → Stays p (AreaMessage name sender operation) lent (userStep p (named name) sender users u f operation lent)
     unfolding userStep stepRelease
-    userStays (Reserve count) = accepts refl
-    userStays (Position block) = positionStays _ _ _ _ _ (λ word k. leaves (movedLeft k position)) (λ k. accepts refl)
-    userStays Sense = accepts refl
+    userStays (Reserve count) = accepts refl same-sys
+    userStays (Position block) = positionStays _ _ _ _ _ (λ word k w. leaves word w (movedLeft k position)) (λ k. accepts refl same-sys)
+    userStays Sense = accepts refl same-sys
     userStays (Transput operation bytes block) = transputStays operation bytes block
-    userStays (Other operation) = leaves everything
+    userStays (Other operation) = keeps _ tt
 
   operationStays : (operation : Operation) (count : Option ℕ)
       → Stays p (AreaMessage name sender operation) lent (operationStep p (named name) sender users operation count lent)
   unfolding operationStep
   operationStays operation (some count) = reserveStays operation count
-  operationStays operation none = bring _ keeps λ u isUser. bring _ keeps λ f _. userStays u isUser f operation
+  operationStays operation none = bring _ (keeps _ tt) λ u isUser. bring _ (keeps _ tt) λ f _. userStays u isUser f operation
 
 area : (p : Plain) (lent : List ℕ) (name : Name) (sender : ℕ) (operation : Operation)
     → Stays p (AreaMessage name sender operation) lent (stepArea p name sender operation lent)
 area p lent name sender operation =
-    ask _ keeps (bring _ keeps λ users isOpen. ask _ keeps (ask _ keeps (ask _ keeps
+    ask _ (keeps _ tt) (bring _ (keeps _ tt) λ users isOpen. ask _ (keeps _ tt) (ask _ (keeps _ tt) (ask _ (keeps _ tt)
     (operationStays p lent name sender users isOpen operation (reserveCount operation)))))
 
 -- ---- every call
@@ -182,3 +244,18 @@ stays p (Listing unit) lent = listing p _ lent unit
 
 pub refuses : (p : Plain) (message : Message) (lent : List ℕ) → step p message lent .answer .result ≢ 0 → Refused p message lent (step p message lent)
 refuses p message lent = stays p message lent .refused
+
+-- ---- every list of calls
+
+pub never-unsound : (p : Plain) (message : Message) (lent : List ℕ) → NeverUnsound (step p message lent .answer .result)
+never-unsound p message lent = stays p message lent .word
+
+pub never-unsound-after : (calls : List Call) (p : Plain) → EachNeverUnsound (answers p calls)
+never-unsound-after [] p = tt
+never-unsound-after (c ∷ calls) p = (never-unsound p (c .message) (c .lent), never-unsound-after calls (step p (c .message) (c .lent) .unit))
+
+pub never-shrinks : (calls : List Call) (p : Plain) → NeverShrinks p (after p calls)
+never-shrinks [] p = same-sys
+never-shrinks (c ∷ calls) p =
+    let q : Plain = step p (c .message) (c .lent) .unit in
+    shrinks-trans (stays p (c .message) (c .lent) .sys) (never-shrinks calls q)

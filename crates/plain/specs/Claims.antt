@@ -1,9 +1,10 @@
--- What is claimed of the plain unit alone: `Good` is kept, the sum, and what a refused call leaves.
+-- What is claimed of the plain unit alone: `Good` is kept, the sum, what a refused call leaves, that SYS never shrinks, and which
+-- result words never come.
 use mathlib.Core.Path.{_≡_}
-use mathlib.Core.List.{List, [], _∷_}
+use mathlib.Core.List.{List, [], _∷_, _++_}
 use mathlib.Core.Option.{some}
 use mathlib.Core.Logic.{_≢_, _⊎_}
-use Prim.Native.Nat.{ℕ, _+_}
+use Prim.Native.Nat.{ℕ, _+_, _≤_}
 use lib.ListN.{length}
 use lib.Dec.{T}
 use Rattle.types.specs.declared.Operation.{Operation}
@@ -18,7 +19,7 @@ use Rattle.plain.specs.Table.{Table, tableFind}
 use Rattle.plain.specs.Unit.{Plain, AreaUser, M, held, freeSlices}
 use Rattle.plain.specs.Areas.{moved}
 use Rattle.plain.specs.Transput.{isRandom}
-use Rattle.plain.specs.Step.{Call, step, after}
+use Rattle.plain.specs.Step.{Call, Reply, step, after, answers}
 use Rattle.plain.specs.Questions.{Outcome}
 use Rattle.plain.specs.Good.{Good}
 
@@ -59,8 +60,29 @@ pub record Refused (p : Plain) (message : Message) (lent : List ℕ) (o : Outcom
   pub bytes : o .answer .bytes ≡ 0
   pub entries : o .answer .entries ≡ 0
 
--- The three claims.
+-- "SYS has H times L sectors .. It never shrinks": q has p's H and at least p's layers, and the slices that SYS has in p are the first
+-- of those that it has in q.
+pub record NeverShrinks (p q : Plain) : Type 0 where
+  pub keys : q .H ≡ p .H
+  pub layers : p .layers ≤ q .layers
+  pub new : List ℕ
+  pub slices : q .sys ≡ p .sys ++ new
+
+-- "9000h and 8800h never come": a result word is neither.
+pub record NeverUnsound (word : ℕ) : Type 0 where
+  pub catalog : word ≢ 0x9000
+  pub area : word ≢ 0x8800
+
+-- The same of every reply of a list.
+abbrev pub EachNeverUnsound : List Reply → Type 0
+EachNeverUnsound [] = Unit {0}
+EachNeverUnsound (r ∷ replies) = NeverUnsound (r .answer .result) × EachNeverUnsound replies
+
+-- The claims. The last four hold of every plain unit, good or not.
 pub record PlainClaims : Type 0 where
   pub keeps : (p : Plain) (message : Message) (lent : List ℕ) → Good p → Words lent → Good (step p message lent .unit)
   pub adds : (calls : List Call) (p : Plain) → Good p → LentWords calls → Good (after p calls) × Adds (after p calls)
   pub refuses : (p : Plain) (message : Message) (lent : List ℕ) → step p message lent .answer .result ≢ 0 → Refused p message lent (step p message lent)
+  pub never-shrinks : (calls : List Call) (p : Plain) → NeverShrinks p (after p calls)
+  pub never-unsound : (p : Plain) (message : Message) (lent : List ℕ) → NeverUnsound (step p message lent .answer .result)
+  pub never-unsound-after : (calls : List Call) (p : Plain) → EachNeverUnsound (answers p calls)

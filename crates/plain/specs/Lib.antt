@@ -1,5 +1,6 @@
 pub mod Table
 pub mod Unit
+pub mod Fresh
 pub mod Questions
 pub mod Taking
 pub mod Catalog

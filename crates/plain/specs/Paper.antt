@@ -14,12 +14,13 @@ use Rattle.disc.specs.Stretches.{indexWords}
 use Rattle.disc.specs.Map.{mapWord}
 use Rattle.plain.specs.Table.{tableFind}
 use Rattle.plain.specs.Unit.{Plain, File, M, held, freeSectors}
+use Rattle.plain.specs.Fresh.{freshUnit}
 use Rattle.plain.specs.Step.{after}
 use Rattle.plain.specs.Cases.{Case, gives, givesAt, callsOf, Shows, wordsAfter}
 
--- "H = 1, s = 2, N = 20, F = 10", fresh: SYS has one layer in slice 1, and there is no file.
+-- "H = 1, s = 2, N = 20, F = 10", fresh: unit 0 as Format makes it.
 abbrev pub paperUnit : Plain
-paperUnit = record { unit = 0; H = 1; s = 2; F = 10; N = 20; layers = 1; sys = 1 ∷ []; files = []; areas = [] }
+paperUnit = freshUnit 0 1 2 10 20
 
 -- 'PASS' of unit 0, and 'ZZZZZ'.
 abbrev pub pass : Name

@@ -1,4 +1,4 @@
--- Format: the unit that it makes, and the image that it writes: "It writes sectors 6 to 9 and SYS (L = 1, 'SYS' entered
+-- Format: the image that it writes: "It writes sectors 6 to 9 and SYS (L = 1, 'SYS' entered
 -- before 'MAP'), kit words 6 and 7 as given, zeros elsewhere there". All other words stay.
 use mathlib.Core.List.{List, [], _∷_, _++_}
 use Prim.Native.Nat.{ℕ, zero, suc, _+_, _*_, _-_, compare}
@@ -6,21 +6,12 @@ use lib.ListN.{length}
 use Rattle.disc.specs.Numbers.{ceilDiv, sliceCount}
 use Rattle.disc.specs.Names.{SYS, MAP, keyOf}
 use Rattle.disc.specs.Slices.{oneIfSame, freeCount}
-use Rattle.disc.specs.Stretches.{span}
 use Rattle.disc.specs.Kit.{sysIndexSector, mapIndexSector, kitSector, mapSector}
 use Rattle.disc.specs.Map.{mapWord}
 use Rattle.disc.specs.Entries.{sysEntry, mapEntry}
 use Rattle.words.specs.Store.{store, zeroWords}
-use Rattle.plain.specs.Unit.{Plain}
-
--- "SYS has .. H times L / s slices, rounded up, slice 1 first", for L = 1: slices 1, 2 and so on.
-abbrev pub sysSlices : ℕ → ℕ → List ℕ
-sysSlices H s = span 1 (ceilDiv H s)
-
--- The unit after Format: one layer, no file, no area.
-abbrev pub freshUnit : ℕ → ℕ → ℕ → ℕ → ℕ → Plain
-freshUnit unit H s F N =
-    record { unit = unit; H = H; s = s; F = F; N = N; layers = 1; sys = sysSlices H s; files = []; areas = [] }
+-- The unit itself stands with the plain unit.
+pub use Rattle.plain.specs.Fresh.{sysSlices, freshUnit}
 
 -- Sector q with the words vs from its start on, and zeros behind them.
 unfoldable pub storeBlock : List ℕ → ℕ → List ℕ → List ℕ
