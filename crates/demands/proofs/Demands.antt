@@ -25,7 +25,7 @@ use Rattle.format.proofs.FormatUnit.{format-sound}
 use Rattle.perform.specs.Perform.{Performs, unknown, unsound, obeyed}
 use Rattle.perform.proofs.ObeyLaws.{init-done}
 use Rattle.perform.proofs.Demand3 as perform
-use Rattle.demands.specs.Demands.{ReadFrom, Answered, Demand1, Later, here, Demand2, AfterInit, Demands}
+use Rattle.demands.specs.Demands.{ReadFrom, Answered, Demand1, Later, here, Demand2, AfterInit, TheDemands}
 use Rattle.demands.specs.Demands as demands
 use Rattle.demands.proofs.Refused.{refused-later}
 use Rattle.demands.proofs.Determined.{determined}
@@ -151,5 +151,5 @@ after-init = record {
   holds = λ c z words run. let s = init-accepted c z in demand-3 .holds _ _ _ _ _ _ (s .2) (s .1) words run;
 }
 
-pub the-demands : Demands Performs FormatAnswer
+pub the-demands : TheDemands
 the-demands = record { first = demand-1; second = demand-2; third = demand-3; after-init = after-init }

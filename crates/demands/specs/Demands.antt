@@ -25,7 +25,7 @@ use Rattle.sharing.specs.Sharing.{atPosition}
 use Rattle.known.specs.Known.{unknownWord, unsoundWord, Known}
 use Rattle.format.specs.declared.Formatted.{Formatted}
 use Rattle.format.specs.Format.{FormatAnswer}
-use Rattle.perform.specs.Perform.{Untouched, Obeyed}
+use Rattle.perform.specs.Perform.{Untouched, Obeyed, Performs}
 
 -- Format, by its contract: what may come of an image, a state, a byte count and lent words, which it only reads: the image after it,
 -- its result word and the state.
@@ -135,3 +135,7 @@ pub record Demands (C : Contract) (F : FormatContract) : Type 0 where
   pub second : Demand2 C F
   pub third : Demand3 C
   pub after-init : AfterInit C
+
+-- The same of the very contracts of `perform::perform` and `format::format`.
+abbrev pub TheDemands : Type 0
+TheDemands = Demands Performs FormatAnswer

@@ -20,11 +20,13 @@ use Rattle.plain.specs.Step.{Call, Reply, step, reply, after, answers}
 use Rattle.plain.specs.Good.{Good}
 use Rattle.plain.specs.Claims.{LentWords}
 use Rattle.plain.proofs.Keeps.{step-keeps, good-adds}
+use Rattle.plain.proofs.Refuses.{never-shrinks}
 use Rattle.state.specs.Areas.{anyOpen}
 use Rattle.users.proofs.AreaLaws.{none-open}
 use Rattle.refine.specs.Represents.{Represents}
 use Rattle.refine.specs.Demands.{empty, then, Performed, Run, SameReply, SameReplies, Demand3}
 use Rattle.refine.proofs.SoundRepresents.{sound-represents}
+use Rattle.refine.proofs.SysStays.{sys-never-shrinks}
 use Rattle.map.proofs.CountLaws.{ones-free}
 use Rattle.refine.proofs.StateLaws.{same-any}
 use Rattle.steps.proofs.AskLaws.{asks-yes, asks-no}
@@ -132,5 +134,7 @@ demand-3 = record {
         once = adds .once;
         same = l .0;
         represented = r;
+        good-after = l .1 .good;
+        sys-stays = sys-never-shrinks (x .1) (x .2) (l .1 .good) r (never-shrinks calls p);
       };
 }

@@ -22,3 +22,4 @@ pub mod UnitAreas
 pub mod SoundRepresents
 pub mod FormatImage
 pub mod Format
+pub mod SysStays

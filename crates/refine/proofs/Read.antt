@@ -217,3 +217,8 @@ pub record Reads (image : List ℕ) (state : State) : Type 0 where
 
 pub sound-reads : (image : List ℕ) (state : State) → SoundUnit image state → Reads image state
 sound-reads image state u = record { plain = readUnit (u .rules); good = read-good (u .rules) refl; represents = read-represents (u .rules) refl }
+
+-- its layers are those with which the rules are met
+pub reads-layers : (image : List ℕ) (state : State) (u : SoundUnit image state) → sound-reads image state u .plain .layers ≡ u .rules .layers
+unfolding sound-reads
+reads-layers image state u = refl

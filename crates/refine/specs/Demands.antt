@@ -1,7 +1,7 @@
 -- Demand 3 of the letter, as a type over an implementation that is given by its contract.
 use mathlib.Core.Path.{_≡_}
 use mathlib.Core.Bool.{true, false}
-use mathlib.Core.List.{List, [], _∷_}
+use mathlib.Core.List.{List, [], _∷_, _++_}
 use Prim.Native.Nat.{ℕ, _+_, _*_, _≤_, _<_}
 use lib.ListN.{length, getD}
 use Rattle.types.specs.declared.Answer.{Answer}
@@ -9,7 +9,10 @@ use Rattle.types.specs.declared.State.{State}
 use Rattle.types.specs.declared.Message.{Message}
 use Rattle.types.specs.declared.Message.the-variants.{Init, Set, Create, LookUp, Change, Remove, CreateArea, RemoveArea, AreaMessage, UnitDescription, Listing}
 use Rattle.types.specs.State.{areaAt}
+use Rattle.disc.specs.Words.{word}
 use Rattle.disc.specs.Slices.{InRangeOnce}
+use Rattle.disc.specs.Stretches.{slicesAt}
+use Rattle.disc.specs.Kit.{kitSector, sysIndexSector}
 use Rattle.disc.specs.Map.{onesInMap}
 use Rattle.plain.specs.Unit.{Plain, M, held}
 use Rattle.plain.specs.Step.{Call, Reply, after, answers}
@@ -80,6 +83,20 @@ pub record AcceptedState (state : State) : Type 0 where
   pub initialized : state .initialized ≡ true
   pub closed : (j : ℕ) → j < 8 → areaAt state j .live ≡ false
 
+-- SYS on a sound image: its number of blocks, "H times L", where L is the one with which the rules are met, and its slices as its index
+-- block in sector 6 describes them.
+abbrev pub sysBlocks : {image : List ℕ} {state : State} → SoundUnit image state → ℕ
+sysBlocks {image} unit = word image kitSector 0 * unit .rules .layers
+
+abbrev pub sysSlicesOn : List ℕ → List ℕ
+sysSlicesOn image = slicesAt image (word image kitSector 4) (word image kitSector 1) sysIndexSector
+
+-- "It never shrinks": at the end SYS has no fewer blocks, and the slices that it had are the first of those that it has.
+pub record SysNeverShrinks (image : List ℕ) (state : State) (end : List ℕ) (stop : State) : Type 0 where
+  pub blocks : (before : SoundUnit image state) (after : SoundUnit end stop) → sysBlocks before ≤ sysBlocks after
+  pub new : List ℕ
+  pub slices : sysSlicesOn end ≡ sysSlicesOn image ++ new
+
 -- What holds after a list of calls.
 pub record Demand3After (image : List ℕ) (state : State) (calls : List Call) (replies : List Reply) (end : List ℕ) (stop : State) : Type 0 where
   -- the plain unit: "its start is read from the accepted image", which determines it
@@ -96,6 +113,10 @@ pub record Demand3After (image : List ℕ) (state : State) (calls : List Call) (
   pub same : SameReplies calls replies (answers start calls)
   -- "Entries, files and open areas at the end are the plain unit's too."
   pub represented : Represents end stop (after start calls)
+  -- the unit at the end is one that a sound image has
+  pub good-after : Good (after start calls)
+  -- "[SYS] never shrinks."
+  pub sys-stays : SysNeverShrinks image state end stop
 
 -- "One claim holds for every list, the empty one too": from "any image that is sound by document 01, with no area process
 -- open, and the state that Init left on accepting it just before".
