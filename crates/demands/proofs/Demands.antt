@@ -28,12 +28,10 @@ use Rattle.perform.proofs.Demand3 as perform
 use Rattle.demands.specs.Demands.{ReadFrom, Answered, Demand1, Later, here, Demand2, AfterInit, TheDemands}
 use Rattle.demands.specs.Demands as demands
 use Rattle.demands.proofs.Refused.{refused-later}
-use Rattle.demands.proofs.Determined.{determined}
+use Rattle.demands.proofs.Determined.{determined, format-same}
+use Rattle.demands.proofs.Reserved.{reserved-sectors}
 
 -- ---- demand 1
-
-format-same : (r q : Formatted) → r .result ≡ q .result → r .state ≡ q .state → r ≡ q
-format-same r q e f = λ i. record { result = e i; state = f i }
 
 format-refused : {word : ℕ} {image : List ℕ} {state : State} {a b : List ℕ} {r q : Formatted} → Refused word image state a r → Refused word image state b q → (a ≡ b) × (r ≡ q)
 format-refused {r = r} {q = q} x y = (x .same ∙ sym (y .same), format-same r q (x .word ∙ sym (y .word)) (x .kept ∙ sym (y .kept)))
@@ -152,4 +150,4 @@ after-init = record {
 }
 
 pub the-demands : TheDemands
-the-demands = record { first = demand-1; second = demand-2; third = demand-3; after-init = after-init }
+the-demands = record { first = demand-1; second = demand-2; third = demand-3; after-init = after-init; reserved = reserved-sectors }

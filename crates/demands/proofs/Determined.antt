@@ -43,6 +43,7 @@ use Rattle.rewrite.specs.Rewrite.{Rewrites, stayed, moved}
 use Rattle.areas.specs.Areas.{AreaMade, AreaCreated, dummyCreate, made, AreaBooked, AreaRemoved, dummyRemove, books}
 use Rattle.change.specs.Change as change
 use Rattle.change.proofs.ChangeUnit.{change-grown}
+use Rattle.format.specs.declared.Formatted.{Formatted}
 use Rattle.perform.specs.Perform.{Wrote, Untouched, Performs, unknown, unsound, obeyed}
 use Rattle.perform.proofs.ObeyLaws.{words-equal}
 use Rattle.demands.specs.Demands.{SameResult}
@@ -165,7 +166,7 @@ module _ {image : List ℕ} {state : State} {p : Plain} (g : Good p) (r : Repres
   abbrev result : Answer → ℕ
   result a = a .result
 
-  wrote-same : (message : Message) (lent : List ℕ) (x y : Performed) → x .answer ≡ y .answer → Wrote p image state message lent x → Wrote p image state message lent y
+  pub wrote-same : (message : Message) (lent : List ℕ) (x y : Performed) → x .answer ≡ y .answer → Wrote p image state message lent x → Wrote p image state message lent y
       → (x .image ≡ y .image) × (x .state ≡ y .state)
   wrote-same (Init unit) lent x y e a b = (a .0 ∙ sym (b .0), a .1 ∙ sym (b .1))
   wrote-same (Set name) lent x y e a b =
@@ -185,7 +186,7 @@ module _ {image : List ℕ} {state : State} {p : Plain} (g : Good p) (r : Repres
 
 -- ---- the lent words
 
-words-join : (message : Message) (count : ℕ) (a b c : List ℕ) → SameWords message count a c → SameWords message count b c → SameWords message count a b
+pub words-join : (message : Message) (count : ℕ) (a b c : List ℕ) → SameWords message count a c → SameWords message count b c → SameWords message count a b
 words-join (Init unit) count a b c e f = e ∙ sym f
 words-join (Set name) count a b c e f = e ∙ sym f
 words-join (Create name size attributes) count a b c e f = e ∙ sym f
@@ -243,3 +244,8 @@ determined {image} {state} {message} {lent} {x} {y} (obeyed k s a) (obeyed _ _ b
       answer = e;
       words = subst (λ (n : ℕ). SameWords message n (x .lent) (y .lent)) count (words-join message _ (x .lent) (y .lent) _ (oa .same .words) (ob .same .words));
     }
+
+-- ---- two results of Format
+
+pub format-same : (r q : Formatted) → r .result ≡ q .result → r .state ≡ q .state → r ≡ q
+format-same r q e f = λ i. record { result = e i; state = f i }

@@ -2,4 +2,8 @@ pub mod TransputRefused
 pub mod AreaRefused
 pub mod Refused
 pub mod Determined
+pub mod Overlaid
+pub mod OverlaidWrites
+pub mod OverlaidUnit
+pub mod Reserved
 pub mod Demands

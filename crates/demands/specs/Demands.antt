@@ -26,11 +26,8 @@ use Rattle.known.specs.Known.{unknownWord, unsoundWord, Known}
 use Rattle.format.specs.declared.Formatted.{Formatted}
 use Rattle.format.specs.Format.{FormatAnswer}
 use Rattle.perform.specs.Perform.{Untouched, Obeyed, Performs}
-
--- Format, by its contract: what may come of an image, a state, a byte count and lent words, which it only reads: the image after it,
--- its result word and the state.
-abbrev pub FormatContract : Type 1
-FormatContract = List ℕ → State → ℕ → List ℕ → List ℕ → Formatted → Type 0
+use Rattle.demands.specs.FormatContract.{FormatContract}
+use Rattle.demands.specs.Reserved.{ReservedSectors}
 
 -- ---- demand 1
 
@@ -128,13 +125,15 @@ pub record AfterInit (C : Contract) : Type 0 where
       → C image state (Init unit) words r → r .answer .result ≡ 0 → LentWords calls → Run C (r .image) (r .state) calls replies end stop
       → Demand3After (r .image) (r .state) calls replies end stop
 
--- ---- the three demands
+-- ---- the three demands, and what document 01 says of every call beside them
 
 pub record Demands (C : Contract) (F : FormatContract) : Type 0 where
   pub first : Demand1 C F
   pub second : Demand2 C F
   pub third : Demand3 C
   pub after-init : AfterInit C
+  -- "Sectors 0 to 5 are never read or written."
+  pub reserved : ReservedSectors C F
 
 -- The same of the very contracts of `perform::perform` and `format::format`.
 abbrev pub TheDemands : Type 0

@@ -1,1 +1,3 @@
+pub mod FormatContract
+pub mod Reserved
 pub mod Demands

@@ -1,0 +1,198 @@
+-- "Sectors 0 to 5 are never read or written", proved of the contracts of `perform::perform` and `format::format`.
+use mathlib.Core.Path.{_≡_, sym, ap, _∙_, subst}
+use mathlib.Core.List.{List}
+use Prim.Native.Nat.{ℕ, _≤_}
+use native.Mathlib.Omega.{arith}
+use lib.ListN.{length, getD}
+use Rattle.types.specs.declared.Answer.{Answer}
+use Rattle.types.specs.declared.State.{State}
+use Rattle.types.specs.declared.Message.{Message}
+use Rattle.types.specs.declared.Message.the-variants.{Init, Set, Create, LookUp, Change, Remove, CreateArea, RemoveArea, AreaMessage, UnitDescription, Listing}
+use Rattle.disc.specs.Words.{Words}
+use Rattle.plain.specs.Unit.{Plain, File}
+use Rattle.plain.specs.Questions.{Outcome}
+use Rattle.plain.specs.Step.{step}
+use Rattle.plain.specs.Good.{Good}
+use Rattle.sound.specs.Sound.{SoundUnit}
+use Rattle.refine.specs.Represents.{Represents}
+use Rattle.refine.specs.Replies.{Replies, refused, written}
+use Rattle.refine.specs.Demands.{Performed, SameWords}
+use Rattle.refine.proofs.SoundRepresents.{sound-represents}
+use Rattle.steps.specs.Units.{grownUnit}
+use Rattle.grow.specs.Grow.{GrownFrom}
+use Rattle.create.specs.Create.{CreatedOn, Created, stays, grows}
+use Rattle.rewrite.specs.Rewrite.{Rewrites, stayed, moved}
+use Rattle.change.specs.Change as change
+use Rattle.areas.specs.Areas.{AreaRemoved, dummyRemove, books}
+use Rattle.format.specs.declared.Formatted.{Formatted}
+use Rattle.format.specs.Format.{lentKeys, lentSlice, lentFirst, lentSectors, formattedBy, Formattable, FormatAnswer, notLent, notAllowed}
+use Rattle.format.specs.Format as format
+use Rattle.perform.proofs.ObeyLaws.{words-equal}
+use Rattle.perform.specs.Perform.{Wrote, Untouched, Obeyed, Performs, unknown, unsound, obeyed}
+use Rattle.demands.specs.Reserved.{SameReserved, SameOthers, SameButReserved, ReservedSectors}
+use Rattle.demands.proofs.Determined.{wrote-same, words-join, format-same}
+use Rattle.demands.proofs.Overlaid.{overlaid, overlaid-is, overlaid-others, Beyond, beyond-kept}
+use Rattle.demands.proofs.OverlaidWrites.{beyond-removed, beyond-grown, beyond-created, beyond-changed, beyond-renamed, beyond-booked, beyond-message, beyond-formatted}
+use Rattle.demands.proofs.OverlaidUnit.{represents-overlaid, sound-overlaid, elsewhere, wrote-overlaid}
+
+-- ---- never written
+
+as-before : {i j : List ℕ} → j ≡ i → SameReserved i j
+as-before e = record { size = ap length (sym e); words = λ k h. ap (λ (l : List ℕ). getD l k 0) (sym e) }
+
+kept-then : {i j k : List ℕ} → SameReserved i j → SameReserved j k → SameReserved i k
+kept-then a b = record { size = a .size ∙ b .size; words = λ k h. a .words k h ∙ b .words k h }
+
+by : {w : List ℕ → List ℕ} {i j : List ℕ} → Beyond w → j ≡ w i → SameReserved i j
+by {i = i} b e = rw e (beyond-kept b i)
+
+either : {p : Plain} {o : Outcome} {lent : List ℕ} {result : ℕ} {A C : Type 0} {P : Plain → Type 0} → (A → C) → ((q : Plain) → P q → C) → Replies p o lent result A P → C
+either f g (refused d e s) = f s
+either f g (written z q e w) = g q w
+
+module _ (p : Plain) (low : 6 ≤ p .F) where
+  grown-kept : {i j : List ℕ} → GrownFrom i p j → SameReserved i j
+  grown-kept g = by (beyond-grown p low (g .place) _) (g .written)
+
+  created-on-kept : {i j : List ℕ} {n : ℕ} {f : File} → CreatedOn p i n f j → SameReserved i j
+  created-on-kept {n = n} {f = f} c = by (beyond-created p low (c .place) n f) (c .written)
+
+  changed-on-kept : {i j : List ℕ} {n : ℕ} {f : File} {lent : List ℕ} → change.ChangedOn p i n f lent j → SameReserved i j
+  changed-on-kept {i} {j} {n} {f} c = go (c .rewrites)
+    where
+      go : {m : ℕ} {f′ : File} → Rewrites i p (c .t) n m f f′ j → SameReserved i j
+      go {f′ = f′} (stayed e w) = by (beyond-changed p low (c .t) n f f′) w
+      go {m} {f′} (moved d u first w) = by (beyond-renamed p low (c .t) u m f f′) w
+
+module _ (p : Plain) (low : 6 ≤ p .F) where
+  created-kept : {i j : List ℕ} {n size attributes : ℕ} {optional tail : List ℕ} {q : Plain} → Created p i n size attributes optional tail j q → SameReserved i j
+  created-kept (stays c e) = created-on-kept p low c
+  created-kept (grows c e) = kept-then (grown-kept p low (c .grows)) (created-on-kept (grownUnit p) low (c .created))
+
+  changed-kept : {i j : List ℕ} {n : ℕ} {f : File} {lent : List ℕ} {q : Plain} → change.Changed p i n f lent j q → SameReserved i j
+  changed-kept (change.stays s c e) = changed-on-kept p low c
+  changed-kept (change.grows s grown g c e) = kept-then (grown-kept p low g) (changed-on-kept (grownUnit p) low c)
+
+  area-removed-kept : {i j : List ℕ} {state next : State} {n : ℕ} {q : Plain} → AreaRemoved p i state n j next q → SameReserved i j
+  area-removed-kept (dummyRemove e s t) = as-before s
+  area-removed-kept {n = n} (books b) = by (beyond-booked p low (b .t) n (b .f)) (b .written)
+
+  wrote-kept : (i : List ℕ) (state : State) (message : Message) (lent : List ℕ) (r : Performed) → Wrote p i state message lent r → SameReserved i (r .image)
+  wrote-kept i state (Init unit) lent r w = as-before (w .0)
+  wrote-kept i state (Set name) lent r w = either as-before (λ q. created-kept) (w .0 .step)
+  wrote-kept i state (Create name size attributes) lent r w = either as-before (λ q. created-kept) (w .0 .step lent)
+  wrote-kept i state (LookUp name) lent r w = as-before (w .0)
+  wrote-kept i state (Change name) lent r w = either as-before (λ q d. changed-kept (d .changed)) (w .0 .step)
+  wrote-kept i state (Remove name) lent r w = either as-before (λ q d. by (beyond-removed p low (d .t) (d .f)) (d .written)) (w .0 .step lent)
+  wrote-kept i state (CreateArea name) lent r w = as-before (w .0)
+  wrote-kept i state (RemoveArea name) lent r w = either (λ s. as-before (s .0)) (λ q. area-removed-kept) (w .step lent)
+  wrote-kept i state (AreaMessage name sender operation) lent r w = by (beyond-message p low operation (r .answer) lent _) (w .written)
+  wrote-kept i state (UnitDescription unit bytes) lent r w = as-before (w .0)
+  wrote-kept i state (Listing unit) lent r w = as-before (w .0)
+
+data-low : {p : Plain} → Good p → 6 ≤ p .F
+data-low g = omega (arith, g .limits .first)
+
+call-kept : {image : List ℕ} {state : State} {message : Message} {lent : List ℕ} {r : Performed} → Performs image state message lent r → SameReserved image (r .image)
+call-kept (unknown other u) = as-before (u .same-image)
+call-kept (unsound k other u) = as-before (u .same-image)
+call-kept {image} {state} {message} {lent} {r} (obeyed k s all) =
+    let x = sound-represents .reads image state s in
+    wrote-kept (x .0) (data-low (x .1)) image state message lent r (all (x .0) (x .1) (x .2) .wrote)
+
+-- ---- never read
+
+others-back : {a b : List ℕ} → SameOthers a b → SameOthers b a
+others-back s = record { size = sym (s .size); words = λ k h. sym (s .words k h) }
+
+sound-same : {a b : List ℕ} {state : State} → SameOthers a b → Words b → SoundUnit a state → SoundUnit b state
+sound-same {a} {b} {state} s w u = subst (λ (i : List ℕ). SoundUnit i state) (overlaid-is a b s) (sound-overlaid b w u)
+
+-- two calls that the first or the second question refuses
+untouched-alike : (message : Message) {word : ℕ} {a b : List ℕ} {state : State} {lent : List ℕ} {r q : Performed} → SameOthers a b → Untouched word a state lent r → Untouched word b state lent q
+    → SameButReserved message r q
+untouched-alike message {r = r} {q = q} same x y = record {
+  image = rw (x .same-image, y .same-image) same;
+  state = x .same-state ∙ sym (y .same-state);
+  answer = x .answered ∙ sym (y .answered);
+  words = words-equal message (r .answer .entries) (r .lent) (q .lent) (x .same-lent ∙ sym (y .same-lent));
+}
+
+-- two that are obeyed: what is written on a, with the words of b in sectors 0 to 5, is what is written on b
+module _ {a b : List ℕ} {state : State} {p : Plain} (same : SameOthers a b) (words : Words b) (g : Good p) (rep : Represents a state p) where
+  represents-same : Represents b state p
+  represents-same = subst (λ (i : List ℕ). Represents i state p) (overlaid-is a b same) (represents-overlaid b words g rep)
+
+  obeyed-alike : (message : Message) (lent : List ℕ) (r q : Performed) → Obeyed p a state message lent r → Obeyed p b state message lent q → SameButReserved message r q
+  obeyed-alike message lent r q x y =
+      let e = x .same .answer ∙ sym (y .same .answer) in
+      let moved : Wrote p b state message lent (elsewhere b r) = subst (λ (i : List ℕ). Wrote p i state message lent (elsewhere b r)) (overlaid-is a b same)
+      (wrote-overlaid b p (data-low g) a state message lent r words (x .wrote)) in
+      let w = wrote-same g represents-same message lent (elsewhere b r) q e moved (y .wrote) in
+      let count : step p message lent .answer .entries ≡ r .answer .entries = ap (λ (c : Answer). c .entries) (sym (x .same .answer)) in
+      record {
+        image = subst (SameOthers (r .image)) (w .0) (overlaid-others b (r .image));
+        state = w .1;
+        answer = e;
+        words = subst (λ (n : ℕ). SameWords message n (r .lent) (q .lent)) count (words-join message _ (r .lent) (q .lent) _ (x .same .words) (y .same .words));
+      }
+
+call-alike : {a b : List ℕ} {state : State} {message : Message} {lent : List ℕ} {r q : Performed} → SameOthers a b → Words a → Words b → Performs a state message lent r → Performs b state message lent q
+    → SameButReserved message r q
+call-alike {message = message} s wa wb (unknown _ x) (unknown _ y) = untouched-alike message s x y
+call-alike s wa wb (unknown n x) (unsound k _ y) = absurd (n k)
+call-alike s wa wb (unknown n x) (obeyed k _ y) = absurd (n k)
+call-alike s wa wb (unsound k _ x) (unknown n y) = absurd (n k)
+call-alike {message = message} s wa wb (unsound _ _ x) (unsound _ _ y) = untouched-alike message s x y
+call-alike s wa wb (unsound _ n x) (obeyed _ t y) = absurd (n (sound-same (others-back s) wa t))
+call-alike s wa wb (obeyed k _ x) (unknown n y) = absurd (n k)
+call-alike s wa wb (obeyed _ t x) (unsound _ n y) = absurd (n (sound-same s wb t))
+call-alike {a} {b} {state} {message} {lent} {r} {q} s wa wb (obeyed _ t x) (obeyed _ _ y) =
+    let read = sound-represents .reads a state t in
+    obeyed-alike s wb (read .1) (read .2) message lent r q (x (read .0) (read .1) (read .2)) (y (read .0) (read .1) (represents-same s wb (read .1) (read .2)))
+
+-- ---- Format
+
+format-kept : {image : List ℕ} {state : State} {bytes : ℕ} {lent after : List ℕ} {r : Formatted} → FormatAnswer image state bytes lent after r → SameReserved image after
+format-kept (notLent _ x) = as-before (x .same)
+format-kept (notAllowed _ _ x) = as-before (x .same)
+format-kept {lent = lent} (format.written _ f x) = by (beyond-formatted (lentKeys lent) (lentSlice lent) (lentFirst lent) (lentSectors lent) (getD lent 7 0) (getD lent 8 0) (omega (arith, f .limits .first))) (x .whole)
+
+formattable-same : {a b : List ℕ} {state : State} {lent : List ℕ} → SameOthers a b → Formattable a state lent → Formattable b state lent
+formattable-same s f = record {
+  number = f .number;
+  known = f .known;
+  closed = f .closed;
+  limits = f .limits;
+  free = f .free;
+  top = f .top;
+  size = sym (s .size) ∙ f .size;
+}
+
+format-refused : {word : ℕ} {a b : List ℕ} {state : State} {afterA afterB : List ℕ} {r q : Formatted} → SameOthers a b → format.Refused word a state afterA r → format.Refused word b state afterB q
+    → SameOthers afterA afterB × (r ≡ q)
+format-refused {r = r} {q = q} s x y = (rw (x .same, y .same) s, format-same r q (x .word ∙ sym (y .word)) (x .kept ∙ sym (y .kept)))
+
+format-alike : {a b : List ℕ} {state : State} {bytes : ℕ} {lent afterA afterB : List ℕ} {r q : Formatted} → SameOthers a b → FormatAnswer a state bytes lent afterA r
+    → FormatAnswer b state bytes lent afterB q → SameOthers afterA afterB × (r ≡ q)
+format-alike s (notLent _ x) (notLent _ y) = format-refused s x y
+format-alike s (notLent n x) (notAllowed l _ y) = absurd (n l)
+format-alike s (notLent n x) (format.written l _ y) = absurd (n l)
+format-alike s (notAllowed l _ x) (notLent n y) = absurd (n l)
+format-alike s (notAllowed _ _ x) (notAllowed _ _ y) = format-refused s x y
+format-alike s (notAllowed _ n x) (format.written _ f y) = absurd (n (formattable-same (others-back s) f))
+format-alike s (format.written l _ x) (notLent n y) = absurd (n l)
+format-alike s (format.written _ f x) (notAllowed _ n y) = absurd (n (formattable-same s f))
+format-alike {a} {b} {lent = lent} {r = r} {q = q} s (format.written _ f x) (format.written _ _ y) =
+    let w = beyond-formatted (lentKeys lent) (lentSlice lent) (lentFirst lent) (lentSectors lent) (getD lent 7 0) (getD lent 8 0) (omega (arith, f .limits .first)) in
+    let e = ap (overlaid b) (x .whole) ∙ w .past b a ∙ ap (λ (i : List ℕ). formattedBy i lent) (overlaid-is a b s) ∙ sym (y .whole) in
+    (subst (SameOthers _) e (overlaid-others b _), format-same r q (x .word ∙ sym (y .word)) (x .left ∙ sym (y .left)))
+
+pub reserved-sectors : ReservedSectors Performs FormatAnswer
+reserved-sectors = record {
+  written = call-kept;
+  sound = λ s wa wb. (sound-same s wb, sound-same (others-back s) wa);
+  read = call-alike;
+  format-written = format-kept;
+  format-read = format-alike;
+}
