@@ -4,7 +4,11 @@
  * A unit is an image (256 words of 16 bits to a sector, in the machine's own byte order) and a state. Both belong to the caller and are lent
  * with every call; the library keeps no pointer, has no memory of its own and no locks, so calls on different units may run at once. It
  * reads and writes nothing but the words lent. Every entry point takes any image, state, message and lent words: whatever cannot be
- * done is refused with a result word, and then nothing changes but, where said, the sender's position.
+ * done is refused with a result word other than 0, and then no word of image, state and lent words changes but, where said, the sender's
+ * position.
+ *
+ * Some words of the state can stand for the same value: any word but 0 for yes, any role from 2 on for an exclusive user. A call that is
+ * obeyed leaves a word that stands for the new value already as it is; any other becomes 1 for yes, 0 for no, and 0, 1 or 2 for a role.
  *
  * Four rules for the caller: pointers are those of uint16_t or of the structs below, never null; state, image and lent words do not
  * overlap; nobody else uses them during a call; a call has 128 KiB of stack (it takes about 40).
@@ -119,10 +123,11 @@ enum {
     RUZKEMP_NOT_USER_OR_PAST_END = 0x0810, /* sender 0 or no user; position past the length; input at the length */
     RUZKEMP_USERS_OR_INDEX_FULL = 0x0808,  /* Reserve: three users, or 65,535 opens; output: more than 127 stretches */
     RUZKEMP_BLOCK_SIZE = 0x0880,           /* transput: not 512 bytes, or fewer than 256 words lent */
-    RUZKEMP_WRITE_PROTECTED_FILE = 0x0C00  /* output: the file is write protected */
+    RUZKEMP_WRITE_PROTECTED_FILE = 0x0C00, /* output: the file is write protected */
+    RUZKEMP_NO_SUCH_CALL = 0xFFFF          /* the number of the message is no call's; not a word of document 01 */
 };
 
-/* Which call a message is; any other number is a Listing too. */
+/* Which call a message is. Any other number is answered RUZKEMP_NO_SUCH_CALL, and nothing changes. */
 enum {
     RUZKEMP_CALL_INIT = 0,
     RUZKEMP_CALL_SET = 1,

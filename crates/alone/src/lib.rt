@@ -77,7 +77,7 @@ fn place_sound(
     classes: &[u8; 256],
     filter: &mut [u64; 4096],
 ) -> bool
-    requires { ⌜ Judging (now image) g catalog (b .0 + 1) × ClassesOf (now classes) × (q .0 ≡ sectorIn (g .first) (g .slice) (sysSlices (now image) g) (b .0)) × (key ≡ b .0 % g .keys) × (i < 16) × Passed (placesIn (now image) g) (g .keys) (ownEntry catalog) (now filter) (16 * b .0 + i) ⌝ }
+    requires { ⌜ Judging (now image) g catalog (b .0 + 1) × ClassesOf (now classes) × (q .0 ≡ sectorIn (g .first .0) (g .slice) (sysSlices (now image) g) (b .0)) × (key ≡ b .0 % g .keys) × (i < 16) × Passed (placesIn (now image) g) (g .keys) (ownEntry catalog) (now filter) (16 * b .0 + i) ⌝ }
     ensures { λ r. ⌜ Scanned r (placesIn (now (image .entry)) g) (g .keys) (ownEntry catalog) (now (filter .exit)) (16 * b .0 + i + 1) ⌝ }
 {
     if !entries::place_legal(image, q, i, key, catalog, classes) {
@@ -104,7 +104,7 @@ fn sector_sound(
     classes: &[u8; 256],
     filter: &mut [u64; 4096],
 ) -> bool
-    requires { ⌜ Judging (now image) g catalog (b .0 + 1) × ClassesOf (now classes) × (q .0 ≡ sectorIn (g .first) (g .slice) (sysSlices (now image) g) (b .0)) × (key ≡ b .0 % g .keys) × Passed (placesIn (now image) g) (g .keys) (ownEntry catalog) (now filter) (16 * b .0) ⌝ }
+    requires { ⌜ Judging (now image) g catalog (b .0 + 1) × ClassesOf (now classes) × (q .0 ≡ sectorIn (g .first .0) (g .slice) (sysSlices (now image) g) (b .0)) × (key ≡ b .0 % g .keys) × Passed (placesIn (now image) g) (g .keys) (ownEntry catalog) (now filter) (16 * b .0) ⌝ }
     ensures { λ r. ⌜ Scanned r (placesIn (now (image .entry)) g) (g .keys) (ownEntry catalog) (now (filter .exit)) (16 * (b .0 + 1)) ⌝ }
 {
     let mut i = 0;
@@ -128,7 +128,7 @@ fn stretch_sound(
     classes: &[u8; 256],
     filter: &mut [u64; 4096],
 ) -> bool
-    requires { ⌜ Judging (now image) g catalog (b .0 + n) × ClassesOf (now classes) × ((c : ℕ) → c < n → sectorIn (g .first) (g .slice) (sysSlices (now image) g) (b .0 + c) ≡ q .0 + c) × (q .0 + n < 65536) × Passed (placesIn (now image) g) (g .keys) (ownEntry catalog) (now filter) (16 * b .0) ⌝ }
+    requires { ⌜ Judging (now image) g catalog (b .0 + n) × ClassesOf (now classes) × ((c : ℕ) → c < n → sectorIn (g .first .0) (g .slice) (sysSlices (now image) g) (b .0 + c) ≡ q .0 + c) × (q .0 + n < 65536) × Passed (placesIn (now image) g) (g .keys) (ownEntry catalog) (now filter) (16 * b .0) ⌝ }
     ensures { λ r. ⌜ Scanned r (placesIn (now (image .entry)) g) (g .keys) (ownEntry catalog) (now (filter .exit)) (16 * (b .0 + n)) ⌝ }
 {
     let first = q.0;
@@ -167,15 +167,15 @@ fn stretches_sound(
     ensures { λ r. ⌜ Scanned r (placesIn (now (image .entry)) g) (g .keys) (ownEntry catalog) (now (filter .exit)) (16 * catalog .size) ⌝ }
 {
     let size = catalog.size;
-    let mut b = 0;
+    let mut b = Block(0);
     let mut j = 0;
-    while b < size {
-        let n = entries::lesser(entries::pair_length(image, j), size - b);
+    while b.0 < size {
+        let n = entries::lesser(entries::pair_length(image, j), size - b.0);
         let start = entries::pair_start(image, j);
-        if !stretch_sound(image, g, start, n, Block(b), catalog, classes, filter) {
+        if !stretch_sound(image, g, start, n, b, catalog, classes, filter) {
             return false;
         }
-        b += n;
+        b = Block(b.0 + n);
         j += 1;
     }
     true

@@ -35,7 +35,8 @@ use Rattle.steps.proofs.Whole.{represents}
 use Rattle.steps.proofs.AreaMessages.{area-low, area-found, area-other, sender-absent, sender-found, area-file}
 use Rattle.steps.proofs.AreaUnit.{area-shut, area-reserved, area-nobody, area-strange, area-asked, operation-reserve, operation-stranger, operation-user, user-position, user-sense, user-transput}
 use Rattle.unit.specs.declared.Opened.{Opened}
-use Rattle.unit.specs.Opened.{NumbersOf, Represented}
+use Rattle.unit.specs.Opened.{NumbersOf, Meant}
+use Rattle.unit.proofs.MeantLaws.{meant-known}
 use Rattle.sharing.specs.declared.AreaReply.{AreaReply}
 use Rattle.sharing.specs.Sharing.{areaReply, atPosition, positionWord, positionReached, reservedReply, releasedReply, positionReply}
 use Rattle.sharing.specs.Leaves.{Leaves, Seat, areaUsers, areaUser}
@@ -283,15 +284,20 @@ module _ (p : Plain) (state : State) (sender : ℕ) (operation : Operation) (a :
   unfolding messageState
   state-admitted found j o f e s q = rw (e, s, q) refl
 
-module _ (image : List ℕ) (state : State) (o : Opened) (name : Name) (sender : ℕ) (operation : Operation) {n : ℕ} (is : n ≡ named name) {found : Found} (search : found ≡ areaNamed n state) where
+module _ {image : List ℕ} {state : State} {o : Opened} (name : Name) (meant : Meant image state o (unitIn name)) (sender : ℕ) (operation : Operation) {n : ℕ} (is : n ≡ named name)
+    {found : Found} (search : found ≡ areaNamed n state) where
+  -- question 1 is answered yes
+  mine : {p : Plain} → Represents image state p → known p (unitIn name) ≡ true
+  mine {p} r = is-true (known p (unitIn name)) (meant-known meant r)
+
   found-is : areaNamed (named name) state ≡ found
   found-is = ap (λ (m : ℕ). areaNamed m state) (sym is) ∙ sym search
 
   pub message-shut : {lent : List ℕ} {reply : AreaReply} → found ≡ Absent → reply ≡ areaReply state 0x4800 0 0 → AreaMessages image state o name sender operation lent reply lent image
   message-shut {lent} absent e = record {
-    all = λ p g r num mine.
+    all = λ p g r num.
         rw e (record {
-          leaves = leaves (area-shut p name sender operation lent (is-true (known p (unitIn name)) mine) (same-absent state p (r .areas) (named name) (found-is ∙ absent))) g r;
+          leaves = leaves (area-shut p name sender operation lent (mine r) (same-absent state p (r .areas) (named name) (found-is ∙ absent))) g r;
           written = refused-image p image lent operation (answer 0x4800 0 0 0) (λ q. omega arith) (tableFind (named name) (p .files));
           reached = state-shut p state sender operation _ (areaNamed (named name) state) (tableFind (named name) (p .files)) (found-is ∙ absent);
         });
@@ -302,12 +308,12 @@ module _ (image : List ℕ) (state : State) (o : Opened) (name : Name) (sender :
     here = found-is ∙ at
 
     kept : {lent : List ℕ} {reply : AreaReply} (word : ℕ) → word ≢ 0 → admitted (areaAt state j) sender operation ≡ false
-        → ((p : Plain) → Good p → Represents image state p → T (known p (unitIn name)) → stepArea p name sender operation lent ≡ replies p word lent)
+        → ((p : Plain) → Good p → Represents image state p → stepArea p name sender operation lent ≡ replies p word lent)
         → reply ≡ areaReply state word 0 0 → AreaMessages image state o name sender operation lent reply lent image
     kept {lent} word d q step e = record {
-      all = λ p g r num mine.
+      all = λ p g r num.
           rw e (record {
-            leaves = leaves (step p g r mine) g r;
+            leaves = leaves (step p g r) g r;
             written = refused-image p image lent operation (answer word 0 0 0) d (tableFind (named name) (p .files));
             reached = state-refused p state sender operation _ (areaNamed (named name) state) j (tableFind (named name) (p .files)) here q;
           });
@@ -319,7 +325,7 @@ module _ (image : List ℕ) (state : State) (o : Opened) (name : Name) (sender :
     pub message-reserved : {lent : List ℕ} {reply : AreaReply} → anyOther Exclusive sender area ≡ true → reply ≡ areaReply state 0x0200 0 0 → AreaMessages image state o name sender operation lent reply lent image
     message-reserved {lent} x e = kept 0x0200 (λ q. omega arith)
         (ap (λ (b : Bool). not b && (not (eqb sender 0) && isKnown operation)) (ap (anyOther Exclusive sender) (sym own) ∙ x))
-        (λ p g r mine. area-reserved p name sender operation lent (is-true (known p (unitIn name)) mine) (area-found (r .areas) (named name) j here) (exclusive-is p r ∙ x)) e
+        (λ p g r. area-reserved p name sender operation lent (mine r) (area-found (r .areas) (named name) j here) (exclusive-is p r ∙ x)) e
 
     module _ (x : anyOther Exclusive sender area ≡ false) where
       first-yes : admitted (areaAt state j) sender operation ≡ (not (eqb sender 0) && isKnown operation)
@@ -328,31 +334,32 @@ module _ (image : List ℕ) (state : State) (o : Opened) (name : Name) (sender :
       pub message-nobody : {lent : List ℕ} {reply : AreaReply} → sender ≡ 0 → reply ≡ areaReply state 0x0810 0 0 → AreaMessages image state o name sender operation lent reply lent image
       message-nobody {lent} z e = kept 0x0810 (λ q. omega arith)
           (first-yes ∙ ap (λ (b : Bool). not b && isKnown operation) (eq-eqb sender 0 z))
-          (λ p g r mine. area-nobody p name sender operation lent (is-true (known p (unitIn name)) mine) (area-found (r .areas) (named name) j here) (exclusive-is p r ∙ x) (eq-eqb sender 0 z)) e
+          (λ p g r. area-nobody p name sender operation lent (mine r) (area-found (r .areas) (named name) j here) (exclusive-is p r ∙ x) (eq-eqb sender 0 z)) e
 
       module _ (d : sender ≢ 0) where
         pub message-strange : {lent : List ℕ} {reply : AreaReply} → isKnown operation ≡ false → reply ≡ areaReply state 0x0A00 0 0 → AreaMessages image state o name sender operation lent reply lent image
         message-strange {lent} s e = kept 0x0A00 (λ q. omega arith)
             (first-yes ∙ ap₂ (λ (b c : Bool). not b && c) (ne-eqb sender 0 d) s)
-            (λ p g r mine. area-strange p name sender operation lent (is-true (known p (unitIn name)) mine) (area-found (r .areas) (named name) j here) (exclusive-is p r ∙ x) (ne-eqb sender 0 d) s) e
+            (λ p g r. area-strange p name sender operation lent (mine r) (area-found (r .areas) (named name) j here) (exclusive-is p r ∙ x) (ne-eqb sender 0 d) s) e
 
         operates-from : {p : Plain} {f : File} → Good p → Represents image state p → NumbersOf o p → tableFind (named name) (p .files) ≡ some f → OperatesFrom image state o j sender p (named name) f
         operates-from g r num file =
             record { good = g; represents = r; numbers = num; named = here; file = file; nonzero = d; alone = ap (anyOther Exclusive sender) (sym own) ∙ x }
 
-        pub message-can : Represented image state o → CanOperate image state o j sender
-        message-can h =
+        pub message-can : CanOperate image state o j sender
+        message-can =
+            let h = meant .standing in
             let file = area-file (h .good) (named name) (area-found (h .represents .areas) (named name) j here) in
             record { p = h .unit; n = named name; f = file .0; can = operates-from (h .good) (h .represents) (h .numbers) (file .1) }
 
         pub message-asked : {lent filled after : List ℕ} {reply : AreaReply} → isKnown operation ≡ true → Operates image state o j sender operation lent reply filled after
             → AreaMessages image state o name sender operation lent reply filled after
         message-asked {lent} {filled} {after} {reply} s h = record {
-          all = λ p g r num mine.
+          all = λ p g r num.
               let live = area-found (r .areas) (named name) j here in
               let file = area-file g (named name) live in
               let l = h .all p (named name) (file .0) (operates-from g r num (file .1)) in
-              let step = area-asked p name sender operation lent (is-true (known p (unitIn name)) mine) live (exclusive-is p r ∙ x) (ne-eqb sender 0 d) s in
+              let step = area-asked p name sender operation lent (mine r) live (exclusive-is p r ∙ x) (ne-eqb sender 0 d) s in
               let yes = first-yes ∙ ap₂ (λ (b c : Bool). not b && c) (ne-eqb sender 0 d) s in
               record {
                 leaves = subst (λ (y : Outcome). Leaves y (reply .answer) filled after (reply .state)) (sym step) (l .leaves);

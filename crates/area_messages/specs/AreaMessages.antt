@@ -5,7 +5,7 @@ use mathlib.Core.List.{List, [], _∷_}
 use mathlib.Core.Logic.{_≢_}
 use mathlib.Core.Option.{Option, none, some}
 use Prim.Native.Nat.{ℕ, zero, suc}
-use lib.Dec.{T, eqb}
+use lib.Dec.{eqb}
 use lib.ListN.{length}
 use Rattle.types.specs.declared.Name.{Name}
 use Rattle.types.specs.declared.Answer.{Answer}
@@ -14,14 +14,14 @@ use Rattle.types.specs.declared.State.{State}
 use Rattle.types.specs.declared.Operation.{Operation}
 use Rattle.types.specs.declared.Operation.the-variants.{Reserve, Position, Sense, Transput, Other}
 use Rattle.types.specs.State.{areaAt}
-use Rattle.disc.specs.Names.{named, unitIn}
+use Rattle.disc.specs.Names.{named}
 use Rattle.state.specs.declared.Found.{Found}
 use Rattle.state.specs.declared.Found.the-variants.{At, Absent}
 use Rattle.state.specs.declared.Kind.the-variants.{Exclusive}
 use Rattle.state.specs.Areas.{setArea, areaNamed, entryOf, anyOther, reserved, released}
 use Rattle.plain.specs.Table.{tableFind}
 use Rattle.plain.specs.Unit.{Plain, File}
-use Rattle.plain.specs.Questions.{Outcome, known}
+use Rattle.plain.specs.Questions.{Outcome}
 use Rattle.plain.specs.Transput.{oneOf}
 use Rattle.plain.specs.Step.{isKnown, reserveCount, userStep, operationStep, stepArea}
 use Rattle.plain.specs.Good.{Good}
@@ -131,6 +131,6 @@ pub record AreaLeaves (image : List ℕ) (state : State) (p : Plain) (name : Nam
   pub written : after ≡ messageImage p image operation (r .answer) lent (tableFind (named name) (p .files))
   pub reached : r .state ≡ messageState p state sender operation (r .answer) (areaNamed (named name) state) (tableFind (named name) (p .files))
 
--- The same of every unit that image and state represent and that the message means.
+-- The same of every unit that image and state represent.
 pub record AreaMessages (image : List ℕ) (state : State) (o : Opened) (name : Name) (sender : ℕ) (operation : Operation) (lent : List ℕ) (r : AreaReply) (filled after : List ℕ) : Type 0 where
-  pub all : (p : Plain) → Good p → Represents image state p → NumbersOf o p → T (known p (unitIn name)) → AreaLeaves image state p name sender operation lent r filled after
+  pub all : (p : Plain) → Good p → Represents image state p → NumbersOf o p → AreaLeaves image state p name sender operation lent r filled after

@@ -1,8 +1,9 @@
 // The messages to an area process, from 'open?' on: Reserve, Release, Position, Sense and transput.
 
 ghost use mathlib.Core.Path.{_≡_};
+ghost use Rattle.disc.specs.Names.{unitIn};
 ghost use Rattle.plain.specs.Step.{isKnown};
-ghost use Rattle.unit.specs.Opened.{Represented};
+ghost use Rattle.unit.specs.Opened.{Meant};
 ghost use Rattle.transput.specs.Transput.{Seated};
 ghost use Rattle.area_messages.specs.AreaMessages.{knownCount, knownTransput, reserveWord, UserSteps, CanOperate, Operates, AreaMessages};
 use sharing::AreaReply;
@@ -132,7 +133,7 @@ pub fn area_message(
     operation: Operation,
     lent: &mut [u16],
 ) -> AreaReply
-    requires { ⌜ Represented (now image) state o ⌝ }
+    requires { ⌜ Meant (now image) state o (unitIn name) ⌝ }
     ensures { λ r. ⌜ AreaMessages (now (image .entry)) state o name sender operation (now (lent .entry)) r (now (lent .exit)) (now (image .exit)) ⌝ }
 {
     let Found::At(j) = state::find_area(state, names::fold(name)) else {

@@ -19,7 +19,7 @@ use Rattle.catalog.specs.Catalog.{entryWord}
 use Rattle.state.specs.declared.Found.the-variants.{At, Absent}
 use Rattle.state.specs.Areas.{vacantAreaOf, areaOpened}
 use Rattle.plain.specs.Table.{tableFind, tablePut, isSome}
-use Rattle.plain.specs.Unit.{Plain, File, entry, withAreas}
+use Rattle.plain.specs.Unit.{Plain, entry, withAreas}
 use Rattle.plain.specs.Good.{Good}
 use Rattle.plain.specs.Questions.{replies, done, known}
 use Rattle.plain.specs.Areas.{stepCreateArea}
@@ -28,10 +28,11 @@ use Rattle.refine.specs.Replies.{refused, written}
 use Rattle.refine.proofs.StateLaws.{same-room, same-full}
 use Rattle.steps.proofs.Whole.{on-disc}
 use Rattle.unit.specs.declared.Opened.{Opened}
-use Rattle.unit.specs.Opened.{NumbersOf}
+use Rattle.unit.specs.Opened.{NumbersOf, Meant}
 use Rattle.unit.specs.Find.{NameAt, NameFound, FindsName}
 use Rattle.unit.specs.Files.{nameOpen}
 use Rattle.unit.proofs.OpenLaws.{on-catalog}
+use Rattle.unit.proofs.MeantLaws.{meant-known}
 use Rattle.unit.proofs.AskLaws.{false-no, asks-yes, asks-no}
 use Rattle.unit.proofs.FileLaws.{found-file, live-size, live-index, name-open, name-closed, name-absent}
 use Rattle.areas.specs.Areas.{CreatesArea, dummyCreate, made}
@@ -63,13 +64,14 @@ module _ (p : Plain) (name : Name) (lent : List ℕ) (mine : T (known p (unitIn 
 
 -- ---- by what was found
 
-module _ {image : List ℕ} {o : Opened} {n : ℕ} {r : Found} (state : State) (name : Name) (is : n ≡ named name) (finds : FindsName image o n r) where
+module _ {image : List ℕ} {o : Opened} {n : ℕ} {r : Found} (state : State) (name : Name) (meant : Meant image state o (unitIn name)) (is : n ≡ named name)
+    (finds : FindsName image o n r) where
   found : (p : Plain) → Good p → Represents image state p → NumbersOf o p → NameFound image p (named name) r
   found p g rep num = subst (λ (m : ℕ). NameFound image p m r) is (finds .all p (on-catalog (on-disc g rep)) num)
 
   pub creates-none : r ≡ place.Nothing → CreatesArea image o state name (record { result = 0x4800; state = state })
   creates-none e = record {
-    all = λ p g rep num mine. record { step = λ lent. refused (λ z. omega arith) (create-none p name lent mine (found p g rep num .nothing e)) refl };
+    all = λ p g rep num. record { step = λ lent. refused (λ z. omega arith) (create-none p name lent (meant-known meant rep) (found p g rep num .nothing e)) refl };
   }
 
   module _ {at : Place} (e : r ≡ place.At at) where
@@ -78,8 +80,8 @@ module _ {image : List ℕ} {o : Opened} {n : ℕ} {r : Found} (state : State) (
 
     pub creates-system : isSystem n ≡ true → CreatesArea image o state name (record { result = 0x0A00; state = state })
     creates-system h = record {
-      all = λ p g rep num mine. record {
-        step = λ lent. refused (λ z. omega arith) (create-system p name lent mine (stands p g rep num .entered) (ap isSystem (sym is) ∙ h)) refl;
+      all = λ p g rep num. record {
+        step = λ lent. refused (λ z. omega arith) (create-system p name lent (meant-known meant rep) (stands p g rep num .entered) (ap isSystem (sym is) ∙ h)) refl;
       };
     }
 
@@ -89,10 +91,10 @@ module _ {image : List ℕ} {o : Opened} {n : ℕ} {r : Found} (state : State) (
 
       pub creates-open : nameOpen n state ≡ true → CreatesArea image o state name (record { result = 0; state = state })
       creates-open h = record {
-        all = λ p g rep num mine. record {
+        all = λ p g rep num. record {
           step = λ lent.
               let there = sym (name-open (rep .areas) (named name)) ∙ ap (λ (m : ℕ). nameOpen m state) (sym is) ∙ h in
-              written refl p (create-open p name lent mine (stands p g rep num .entered) ordinary there) (dummyCreate refl refl);
+              written refl p (create-open p name lent (meant-known meant rep) (stands p g rep num .entered) ordinary there) (dummyCreate refl refl);
         };
       }
 
@@ -105,10 +107,10 @@ module _ {image : List ℕ} {o : Opened} {n : ℕ} {r : Found} (state : State) (
 
         pub creates-full : vacantAreaOf state ≡ Absent → CreatesArea image o state name (record { result = 0x0900; state = state })
         creates-full h = record {
-          all = λ p g rep num mine. record {
+          all = λ p g rep num. record {
             step = λ lent.
                 let full = same-full state p (rep .areas) (g .areaNames) h in
-                refused (λ z. omega arith) (create-full p name lent mine (stands p g rep num .entered) ordinary (closed p rep) full) refl;
+                refused (λ z. omega arith) (create-full p name lent (meant-known meant rep) (stands p g rep num .entered) ordinary (closed p rep) full) refl;
           };
         }
 
@@ -117,7 +119,7 @@ module _ {image : List ℕ} {o : Opened} {n : ℕ} {r : Found} (state : State) (
             → size ≡ entryWord image at 7 → sector ≡ entryWord image at 8 → next ≡ areaOpened state j folded (record { 0 = sector }) size
             → CreatesArea image o state name (record { result = 0; state = next })
         creates-done {j} {folded} {size} {sector} {next} vacant capitals long first opens = record {
-          all = λ p g rep num mine. record {
+          all = λ p g rep num. record {
             step = λ lent.
                 let a = stands p g rep num in
                 let f = found-file a (false-no ordinary) in
@@ -125,7 +127,7 @@ module _ {image : List ℕ} {o : Opened} {n : ℕ} {r : Found} (state : State) (
                 let live = long ∙ live-size g a (f .0) (f .1) shut′ in
                 let index = first ∙ live-index g a (f .0) (f .1) shut′ in
                 written refl (withAreas p (tablePut (named name) [] (p .areas)))
-                (create-done p name lent mine (a .entered) ordinary shut′ (same-room state p (rep .areas) j (g .areaNames) vacant))
+                (create-done p name lent (meant-known meant rep) (a .entered) ordinary shut′ (same-room state p (rep .areas) j (g .areaNames) vacant))
                 (made (record {
                   f = f .0;
                   file = f .1;

@@ -32,13 +32,14 @@ use Rattle.refine.proofs.StateLaws.{named-inside, named-open, same-found, same-
 use Rattle.steps.proofs.Whole.{on-disc}
 use Rattle.steps.proofs.WriteLaws.{entry-of}
 use Rattle.unit.specs.declared.Opened.{Opened}
-use Rattle.unit.specs.Opened.{NumbersOf, Represented}
+use Rattle.unit.specs.Opened.{NumbersOf, Meant}
 use Rattle.unit.specs.Find.{NameAt, NameFound, FindsName}
 use Rattle.unit.proofs.OpenLaws.{on-catalog}
+use Rattle.unit.proofs.MeantLaws.{meant-known}
 use Rattle.unit.proofs.AskLaws.{asks-yes, asks-no, given-none, given-some}
 use Rattle.areas.specs.Areas.{CanBookFrom, CanBook, Booked, RemovesArea, dummyRemove, books}
 
-none-left : {A : Type 0} (l : List A) → length l ≡ 0 → l ≡ []
+pub none-left : {A : Type 0} (l : List A) → length l ≡ 0 → l ≡ []
 none-left [] e = refl
 none-left (x ∷ l) e = absurd (omega arith)
 
@@ -65,10 +66,10 @@ module _ (p : Plain) (name : Name) (lent : List ℕ) (mine : T (known p (unitIn 
 
 -- ---- by what was found
 
-module _ (image : List ℕ) (o : Opened) {n : ℕ} (state : State) (name : Name) (is : n ≡ named name) where
+module _ {image : List ℕ} {o : Opened} {n : ℕ} (state : State) (name : Name) (meant : Meant image state o (unitIn name)) (is : n ≡ named name) where
   pub removes-system : isSystem n ≡ true → RemovesArea image o state name image (record { result = 0x0A00; state = state })
   removes-system h = record {
-    all = λ p g rep num mine. record { step = λ lent. refused (λ z. omega arith) (remove-system p name lent mine (ap isSystem (sym is) ∙ h)) (refl, refl) };
+    all = λ p g rep num. record { step = λ lent. refused (λ z. omega arith) (remove-system p name lent (meant-known meant rep) (ap isSystem (sym is) ∙ h)) (refl, refl) };
   }
 
   module _ (other : isSystem n ≡ false) where
@@ -77,10 +78,10 @@ module _ (image : List ℕ) (o : Opened) {n : ℕ} (state : State) (name : Name)
 
     pub removes-none : areaNamed n state ≡ Absent → RemovesArea image o state name image (record { result = 0; state = state })
     removes-none h = record {
-      all = λ p g rep num mine. record {
+      all = λ p g rep num. record {
         step = λ lent.
             let gone = same-absent state p (rep .areas) (named name) (ap (λ (m : ℕ). areaNamed m state) (sym is) ∙ h) in
-            written refl p (remove-none p name lent mine ordinary gone) (dummyRemove refl refl refl);
+            written refl p (remove-none p name lent (meant-known meant rep) ordinary gone) (dummyRemove refl refl refl);
       };
     }
 
@@ -88,8 +89,8 @@ module _ (image : List ℕ) (o : Opened) {n : ℕ} (state : State) (name : Name)
       here : areaNamed (named name) state ≡ At j
       here = ap (λ (m : ℕ). areaNamed m state) (sym is) ∙ found
 
-      pub area-inside : Represented image state o → j < 8
-      area-inside h = omega (arith, named-inside state n j found, h .represents .areas .shaped .eight)
+      pub area-inside : j < 8
+      area-inside = omega (arith, named-inside state n j found, meant .standing .represents .areas .shaped .eight)
 
       module _ {area : Area} (its : area ≡ areaAt state j) where
         abbrev users : Table AreaUser
@@ -105,8 +106,8 @@ module _ (image : List ℕ) (o : Opened) {n : ℕ} (state : State) (name : Name)
 
         pub removes-used : userCount area ≢ 0 → RemovesArea image o state name image (record { result = 0; state = state })
         removes-used h = record {
-          all = λ p g rep num mine. record {
-            step = λ lent. written refl p (remove-used p name lent mine ordinary users (there p rep) (λ z. h (sym (count-is p rep) ∙ z))) (dummyRemove refl refl refl);
+          all = λ p g rep num. record {
+            step = λ lent. written refl p (remove-used p name lent (meant-known meant rep) ordinary users (there p rep) (λ z. h (sym (count-is p rep) ∙ z))) (dummyRemove refl refl refl);
           };
         }
 
@@ -120,7 +121,7 @@ module _ (image : List ℕ) (o : Opened) {n : ℕ} (state : State) (name : Name)
           -- the name of an open area is entered
           pub removes-lost : {after : List ℕ} → r ≡ place.Nothing → RemovesArea image o state name after (record { result = 0; state = state })
           removes-lost e = record {
-            all = λ p g rep num mine.
+            all = λ p g rep num.
                 let f = file-of p g rep in
                 let entered = entry-of p (named name) (f .0) (g .files (named name) (f .0) (f .1) .ordinary) (f .1) in
                 absurd (some≢none (sym entered ∙ name-of p g rep num .nothing e));
@@ -143,20 +144,20 @@ module _ (image : List ℕ) (o : Opened) {n : ℕ} (state : State) (name : Name)
                   live = ap (λ (a : Area). a .length) its ∙ same-size state p (rep .areas) (named name) j (f .0) here (f .1);
                 }
 
-            pub can-book : Represented image state o → CanBook image o at (area .index .0) (area .length)
-            can-book h = record { unit = h .unit; name = named name; file = _; can = can-from (h .unit) (h .good) (h .represents) (h .numbers) }
+            pub can-book : CanBook image o at (area .index .0) (area .length)
+            can-book = let h = meant .standing in record { unit = h .unit; name = named name; file = _; can = can-from (h .unit) (h .good) (h .represents) (h .numbers) }
 
             pub removes-done : {after : List ℕ} {next : State} → Booked image o at (area .index .0) (area .length) after → next ≡ areaClosed state j
                 → RemovesArea image o state name after (record { result = 0; state = next })
             unfolding stands can-from
             removes-done {after} {next} book closes = record {
-              all = λ p g rep num mine. record {
+              all = λ p g rep num. record {
                 step = λ lent.
                     let f = file-of p g rep in
                     let a = stands p g rep num in
                     let none-there : length users ≡ 0 = count-is p rep ∙ vacant in
                     written refl (withTables p (p .layers) (p .sys) (tablePut (named name) (bookLive (f .0)) (p .files)) (tableRemove (named name) (p .areas)))
-                    (remove-done p name lent mine ordinary users (there p rep) none-there (f .0) (f .1))
+                    (remove-done p name lent (meant-known meant rep) ordinary users (there p rep) none-there (f .0) (f .1))
                     (books (record {
                       f = f .0;
                       file = f .1;

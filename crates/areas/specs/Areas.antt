@@ -4,10 +4,9 @@ use mathlib.Core.List.{List, []}
 use mathlib.Core.Option.{some}
 use Prim.Native.Nat.{ℕ, _<_}
 use lib.ListN.{length}
-use lib.Dec.{T}
 use Rattle.types.specs.declared.Name.{Name}
 use Rattle.types.specs.declared.State.{State}
-use Rattle.disc.specs.Names.{named, unitIn}
+use Rattle.disc.specs.Names.{named}
 use Rattle.disc.specs.Entries.{placeCount, nameAt, indexSector}
 use Rattle.names.specs.NameIs.{NameIs}
 use Rattle.catalog.specs.declared.Place.{Place}
@@ -16,7 +15,6 @@ use Rattle.state.specs.Areas.{areaNamed, vacantAreaOf, areaOpened, areaClosed}
 use Rattle.plain.specs.Table.{tableFind, tablePut, tableRemove}
 use Rattle.plain.specs.Unit.{Plain, File, withTables, withAreas}
 use Rattle.plain.specs.Good.{Good}
-use Rattle.plain.specs.Questions.{known}
 use Rattle.plain.specs.Areas.{bookLive, stepCreateArea, stepRemoveArea}
 use Rattle.refine.specs.Represents.{Represents}
 use Rattle.refine.specs.OnDisc.{OnDisc}
@@ -51,9 +49,9 @@ pub data AreaCreated (p : Plain) (state : State) (n : ℕ) (next : State) (q : P
 pub record CreateAreaStep (p : Plain) (state : State) (name : Name) (r : AreaDone) : Type 0 where
   pub step : (lent : List ℕ) → Replies p (stepCreateArea p name lent) lent (r .result) (r .state ≡ state) (AreaCreated p state (named name) (r .state))
 
--- The same of every unit that image and state represent and that the message means.
+-- The same of every unit that image and state represent.
 pub record CreatesArea (image : List ℕ) (o : Opened) (state : State) (name : Name) (r : AreaDone) : Type 0 where
-  pub all : (p : Plain) → Good p → Represents image state p → NumbersOf o p → T (known p (unitIn name)) → CreateAreaStep p state name r
+  pub all : (p : Plain) → Good p → Represents image state p → NumbersOf o p → CreateAreaStep p state name r
 
 -- ---- booking
 
@@ -102,6 +100,6 @@ pub record RemoveAreaStep (p : Plain) (image : List ℕ) (state : State) (name :
   pub step : (lent : List ℕ)
       → Replies p (stepRemoveArea p name lent) lent (r .result) ((after ≡ image) × (r .state ≡ state)) (AreaRemoved p image state (named name) after (r .state))
 
--- The same of every unit that image and state represent and that the message means.
+-- The same of every unit that image and state represent.
 pub record RemovesArea (image : List ℕ) (o : Opened) (state : State) (name : Name) (after : List ℕ) (r : AreaDone) : Type 0 where
-  pub all : (p : Plain) → Good p → Represents image state p → NumbersOf o p → T (known p (unitIn name)) → RemoveAreaStep p image state name after r
+  pub all : (p : Plain) → Good p → Represents image state p → NumbersOf o p → RemoveAreaStep p image state name after r

@@ -1,6 +1,7 @@
 // Area create and remove, from the question whether the name is entered, or none of SYS and MAP, on.
 
-ghost use Rattle.unit.specs.Opened.{OpenedOn, Represented};
+ghost use Rattle.disc.specs.Names.{unitIn};
+ghost use Rattle.unit.specs.Opened.{Meant};
 ghost use Rattle.areas.specs.Areas.{CanBook, Booked, CreatesArea, RemovesArea};
 use catalog::Found;
 use catalog::Place;
@@ -17,7 +18,7 @@ pub struct AreaDone {
 
 // Create area of the name in a message that means this unit. The image is only read.
 pub fn create_area(image: &[u16], o: Opened, state: State, name: Name) -> AreaDone
-    requires { ⌜ OpenedOn (now image) o ⌝ }
+    requires { ⌜ Meant (now image) state o (unitIn name) ⌝ }
     ensures { λ r. ⌜ CreatesArea (now (image .entry)) o state name r ⌝ }
 {
     let n = names::fold(name);
@@ -71,7 +72,7 @@ fn book(image: &mut [u16], o: Opened, place: Place, index: Sector, length: u16)
 
 // Remove area of the name in a message that means this unit.
 pub fn remove_area(image: &mut [u16], o: Opened, state: State, name: Name) -> AreaDone
-    requires { ⌜ Represented (now image) state o ⌝ }
+    requires { ⌜ Meant (now image) state o (unitIn name) ⌝ }
     ensures { λ r. ⌜ RemovesArea (now (image .entry)) o state name (now (image .exit)) r ⌝ }
 {
     let n = names::fold(name);

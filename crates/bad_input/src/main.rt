@@ -9,7 +9,7 @@
 //   14 to 17: its users, each with identification, role (0 sharing, 1 exclusive writer, 2 exclusive user), open count, position.
 //   PLACE 200 is all else. WORD 0: the state's unit; 1: initialized; 2: the unit that Init is called with; 3: how many words of
 //   the image are lent; 4: the unit is formatted anew with this H and has no files; 5: every word of the image; 6: all
-//   descriptors are as the first.
+//   descriptors are as the first; 7: the unit is formatted anew with this F, H = 1, and has no files.
 
 mod cases;
 mod report;

@@ -34,13 +34,9 @@ fn same_area(a: Area, b: Area) -> bool {
     if a.live != b.live {
         return false;
     }
-    if a.name.0 != b.name.0 {
-        return false;
-    }
-    if a.name.1 != b.name.1 {
-        return false;
-    }
-    if a.name.2 != b.name.2 {
+    let a_name = a.name;
+    let b_name = b.name;
+    if !names::same_name(a_name, b_name) {
         return false;
     }
     if a.index.0 != b.index.0 {

@@ -129,11 +129,15 @@ fn with_number(image: &mut Disc, setup: Setup, i: u16, value: u16) -> Setup {
         return next;
     }
     if i == 4 {
-        fresh(image, value);
+        fresh(image, value, 10);
         return next;
     }
     if i == 5 {
         fill(image, value);
+        return next;
+    }
+    if i == 7 {
+        fresh(image, 1, value);
         return next;
     }
     let area = state::area_at(state, 0);

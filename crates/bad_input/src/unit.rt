@@ -28,19 +28,20 @@ pub fn fill(image: &mut Disc, value: u16) {
     }
 }
 
-// Formats the first 20 sectors.
-fn format_first(words: &mut [u16], keys: u16) {
-    let lent = [0, keys, 2, 20, 10, 10, 20, 0, 0];
+// Formats the first 20 sectors; Format refuses an F from 20 on.
+fn format_first(words: &mut [u16], keys: u16, first: u16) {
+    let free = std::num::wrapping_sub_u16(20, first);
+    let lent = [0, keys, 2, 20, free, first, 20, 0, 0];
     if words.len() < 5120 {
         return;
     }
     format::format(&mut words[..5120], types::fresh_state(0), 18, &lent);
 }
 
-// A fresh unit with H = `keys`.
-pub fn fresh(image: &mut Disc, keys: u16) {
+// A fresh unit with H = `keys` and F = `first`.
+pub fn fresh(image: &mut Disc, keys: u16, first: u16) {
     fill(image, 0);
-    format_first(image, keys);
+    format_first(image, keys, first);
 }
 
 // A unit with 'PASS', extendable, of length 2 in slices 2 and 3, and 'DAY' of length 1 in slice 4, in places 2 and 3; slice 5 is
@@ -50,7 +51,7 @@ pub fn build(image: &mut Disc) {
     let day = [0x4441, 0x5900, 0, 0, 0, 0, 0, 1, 16, 2];
     let pass_index = [1, 4, 12, 0, 0, 0, 0, 0, 0, 0];
     let day_index = [1, 2, 16, 0, 0, 0, 0, 0, 0, 0];
-    fresh(image, 1);
+    fresh(image, 1, 10);
     store(image, 10 * 256 + 32, &pass);
     store(image, 10 * 256 + 48, &day);
     store(image, 12 * 256, &pass_index);

@@ -1,3 +1,4 @@
 pub mod WalkLaws
 pub mod SearchLaws
 pub mod PlaceLaws
+pub mod AnswerLaws

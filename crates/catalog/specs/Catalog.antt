@@ -1,10 +1,12 @@
 -- The places of a catalog as its blocks lie in the image: the blocks of a key, the words of a place, and searches along a key's
 -- places. SYS is such a catalog.
+use mathlib.Core.Path.{_≡_}
 use mathlib.Core.Bool.{Bool, true, _&&_, cond}
 use mathlib.Core.List.{List}
-use Prim.Native.Nat.{ℕ, zero, suc, _+_, _*_}
+use Prim.Native.Nat.{ℕ, zero, suc, _+_, _*_, _<_}
 use lib.Dec.{eqb, ltb}
 use lib.ListN.{take, drop}
+use Rattle.disc.specs.Decide.{Decides}
 use Rattle.disc.specs.Words.{word}
 use Rattle.disc.specs.Names.{pack, keyOf}
 use Rattle.index.specs.Block.{jointSector}
@@ -72,3 +74,55 @@ placeNamed image c n = placeFrom (slotNamed image n) (keySector image c (keyOf (
 -- "An entry takes the first unused place (16 zero words)" of its key.
 abbrev pub placeUnused : List ℕ → Catalog → ℕ → Found
 placeUnused image c k = placeFrom (slotUnused image) (keySector image c k) (c .layers) 0
+
+-- ---- the answers
+
+-- The result word for each case of a search's answer, where `refusal` is the word of the question's no.
+abbrev pub wordOf : ℕ → Found → ℕ
+wordOf refusal (At place) = 0
+wordOf refusal Nothing = refusal
+
+-- "3. Does the name stand in the catalog? No: 5000h (Look-up, Change, Remove)".
+abbrev pub nameWord : Found → ℕ
+nameWord r = wordOf 0x5000 r
+
+-- Area create: "entered ..? 4800h".
+abbrev pub areaNameWord : Found → ℕ
+areaNameWord r = wordOf 0x4800 r
+
+-- "6. New name unused? 1010h": a place is the no here.
+abbrev pub newNameWord : Found → ℕ
+newNameWord (At place) = 0x1010
+newNameWord Nothing = 0
+
+-- "With all 16 times L places taken by other names, SYS first grows": the layers for each case of the search of an unused place.
+abbrev pub layersWith : ℕ → Found → ℕ
+layersWith layers (At place) = layers
+layersWith layers Nothing = suc layers
+
+-- A slot in one of the n layers passes the test.
+pub record SomePlace (test : ℕ → ℕ → Bool) (sectors : ℕ → ℕ) (n : ℕ) : Type 0 where
+  pub layer : ℕ
+  pub slot : ℕ
+  pub low : layer < n
+  pub inside : slot < 16
+  pub passes : test (sectors layer) slot ≡ true
+
+-- Name n stands in one of its key's places; key k has an unused place.
+abbrev pub Stands : List ℕ → Catalog → ℕ → Type 0
+Stands image c n = SomePlace (slotNamed image n) (keySector image c (keyOf (c .keys) n)) (c .layers)
+
+abbrev pub HasUnused : List ℕ → Catalog → ℕ → Type 0
+HasUnused image c k = SomePlace (slotUnused image) (keySector image c k) (c .layers)
+
+-- What the search of a name promises: its place, and each question's word, 0 exactly if the answer to it is yes.
+pub record NamePlace (image : List ℕ) (c : Catalog) (n : ℕ) (r : Found) : Type 0 where
+  pub place : r ≡ placeNamed image c n
+  pub stands : Decides (eqb (nameWord r) 0) (Stands image c n)
+  pub entered : Decides (eqb (areaNameWord r) 0) (Stands image c n)
+  pub new : Decides (eqb (newNameWord r) 0) (Stands image c n → ⊥)
+
+-- What the search of an unused place promises: the first one, and the layers, which stay exactly if there is one.
+pub record UnusedPlace (image : List ℕ) (c : Catalog) (k : ℕ) (r : Found) : Type 0 where
+  pub place : r ≡ placeUnused image c k
+  pub layers : Decides (eqb (layersWith (c .layers) r) (c .layers)) (HasUnused image c k)

@@ -2,11 +2,11 @@
 
 ghost use mathlib.Core.Path.{_≡_};
 ghost use mathlib.Core.List.{_++_};
-ghost use Prim.Native.Nat.{_+_, _≤_};
+ghost use Prim.Native.Nat.{_+_, _*_, _≤_, _<_};
 ghost use lib.ListN.{length, take, drop};
 ghost use Rattle.disc.specs.Names.{pack};
 ghost use Rattle.words.specs.Store.{store, zeroWords};
-ghost use Rattle.catalog.specs.Catalog.{keySector, placeStart, entryWord, entryAt, slotNamed, slotUnused, firstSlot, placeNamed, placeUnused};
+ghost use Rattle.catalog.specs.Catalog.{keySector, placeStart, entryWord, entryAt, slotNamed, slotUnused, firstSlot, NamePlace, UnusedPlace};
 use types::Name;
 use types::Sector;
 
@@ -32,10 +32,11 @@ pub enum Found {
 
 // The sector of a key's block of a layer.
 fn key_sector(image: &[u16], c: Catalog, key: u16, layer: u16) -> Sector
+    requires { ⌜ c .keys * layer + key < 65536 ⌝ }
     ensures { λ r. ⌜ r .0 ≡ keySector (now (image .entry)) c key layer ⌝ }
 {
-    let block = c.keys as u32 * layer as u32 + key as u32;
-    index::sector_at(image, c.index, block + c.from as u32)
+    let block = numbers::key_block(c.keys, key, layer);
+    index::block_sector_at(image, c.index, c.from, block)
 }
 
 // Whether the name stands in a slot of sector q.
@@ -94,8 +95,8 @@ pub fn unused_slot(image: &[u16], q: Sector) -> u16
 
 // The place of a name, which is in capitals.
 pub fn find(image: &[u16], c: Catalog, name: Name) -> Found
-    requires { ⌜ 1 ≤ c .keys ⌝ }
-    ensures { λ r. ⌜ r ≡ placeNamed (now (image .entry)) c (pack (name .0) (name .1) (name .2)) ⌝ }
+    requires { ⌜ (1 ≤ c .keys) × (c .keys * c .layers ≤ 65536) ⌝ }
+    ensures { λ r. ⌜ NamePlace (now (image .entry)) c (pack (name .0) (name .1) (name .2)) r ⌝ }
 {
     let key = numbers::key(name, c.keys);
     let mut layer: u16 = 0;
@@ -115,7 +116,8 @@ pub fn find(image: &[u16], c: Catalog, name: Name) -> Found
 
 // The first unused place of a key.
 pub fn first_unused(image: &[u16], c: Catalog, key: u16) -> Found
-    ensures { λ r. ⌜ r ≡ placeUnused (now (image .entry)) c key ⌝ }
+    requires { ⌜ (key < c .keys) × (c .keys * c .layers ≤ 65536) ⌝ }
+    ensures { λ r. ⌜ UnusedPlace (now (image .entry)) c key r ⌝ }
 {
     let mut layer: u16 = 0;
     while layer < c.layers {
@@ -144,13 +146,7 @@ pub fn read_entry(image: &[u16], place: Place, lent: &mut [u16])
     requires { ⌜ (16 ≤ length (now lent)) × (placeStart place + 16 ≤ length (now image)) ⌝ }
     ensures { λ _. ⌜ now (lent .exit) ≡ entryAt (now (image .entry)) place ++ drop 16 (now (lent .entry)) ⌝ }
 {
-    words::copy_words(
-        image,
-        place.sector.0 as usize * 256 + place.slot as usize * 16,
-        lent,
-        0,
-        16,
-    );
+    words::read_words(image, place.sector, place.slot as usize * 16, lent, 16);
 }
 
 // Stores the first 16 words in a place.

@@ -23,10 +23,11 @@ use Rattle.refine.specs.Represents.{Represents}
 use Rattle.refine.specs.Replies.{Replies, refused, written}
 use Rattle.steps.proofs.Whole.{on-disc}
 use Rattle.unit.specs.declared.Opened.{Opened}
-use Rattle.unit.specs.Opened.{NumbersOf, Represented}
+use Rattle.unit.specs.Opened.{NumbersOf, Meant}
 use Rattle.unit.specs.Find.{NameAt, NameFound, FindsName}
 use Rattle.unit.specs.Files.{nameOpen}
 use Rattle.unit.proofs.OpenLaws.{on-catalog}
+use Rattle.unit.proofs.MeantLaws.{meant-known}
 use Rattle.unit.proofs.AskLaws.{true-yes, false-no, asks-yes, asks-no, given-none, given-some}
 use Rattle.unit.proofs.FileLaws.{found-file, system-none, name-open, name-closed}
 use Rattle.change.specs.Asked.{CanStandFrom}
@@ -53,13 +54,14 @@ module _ (p : Plain) (name : Name) (lent : List ℕ) (mine : T (known p (unitIn 
 
 -- ---- by what was found
 
-module _ {image : List ℕ} {o : Opened} {n : ℕ} {r : Found} (state : State) (name : Name) (lent : List ℕ) (is : n ≡ named name) (finds : FindsName image o n r) where
+module _ {image : List ℕ} {o : Opened} {n : ℕ} {r : Found} (state : State) (name : Name) (lent : List ℕ) (meant : Meant image state o (unitIn name)) (is : n ≡ named name)
+    (finds : FindsName image o n r) where
   found : (p : Plain) → Good p → Represents image state p → NumbersOf o p → NameFound image p (named name) r
   found p g rep num = subst (λ (m : ℕ). NameFound image p m r) is (finds .all p (on-catalog (on-disc g rep)) num)
 
   pub changes-none : r ≡ Nothing → Changes image o state name lent image 0x5000
   changes-none e = record {
-    all = λ p g rep num mine. record { step = refused (λ z. omega arith) (change-none p name lent mine (found p g rep num .nothing e)) refl };
+    all = λ p g rep num. record { step = refused (λ z. omega arith) (change-none p name lent (meant-known meant rep) (found p g rep num .nothing e)) refl };
   }
 
   module _ {place : Place} (e : r ≡ At place) where
@@ -68,16 +70,16 @@ module _ {image : List ℕ} {o : Opened} {n : ℕ} {r : Found} (state : State) (
 
     pub changes-short : length lent < 16 → Changes image o state name lent image 0x1200
     changes-short h = record {
-      all = λ p g rep num mine. record { step = refused (λ z. omega arith) (change-short p name lent mine (at p g rep num .entered) h) refl };
+      all = λ p g rep num. record { step = refused (λ z. omega arith) (change-short p name lent (meant-known meant rep) (at p g rep num .entered) h) refl };
     }
 
     module _ (long : 16 ≤ length lent) where
       pub changes-system : isSystem n ≡ true → Changes image o state name lent image 0x1200
       changes-system system = record {
-        all = λ p g rep num mine. record {
+        all = λ p g rep num. record {
           step =
               let none-there = system-none p (named name) g (true-yes (ap isSystem (sym is) ∙ system)) in
-              refused (λ z. omega arith) (change-system p name lent mine (at p g rep num .entered) long none-there) refl;
+              refused (λ z. omega arith) (change-system p name lent (meant-known meant rep) (at p g rep num .entered) long none-there) refl;
         };
       }
 
@@ -87,12 +89,12 @@ module _ {image : List ℕ} {o : Opened} {n : ℕ} {r : Found} (state : State) (
 
         pub changes-open : nameOpen n state ≡ true → Changes image o state name lent image 0x1200
         changes-open h = record {
-          all = λ p g rep num mine. record {
+          all = λ p g rep num. record {
             step =
                 let f = file-of p g rep num in
                 let there : isSome (tableFind (named name) (p .areas)) ≡ true = sym (name-open (rep .areas) (named name)) ∙ ap (λ (m : ℕ). nameOpen m state) (sym is) ∙ h in
                 refused (λ z. omega arith)
-                (change-file p name lent mine (at p g rep num .entered) long (f .0) (f .1)
+                (change-file p name lent (meant-known meant rep) (at p g rep num .entered) long (f .0) (f .1)
                 ∙ change-open p (named name) (newName (named name) lent) (sizeThen (f .0) lent) (attributesThen (f .0) lent) (f .0) lent there) refl;
           };
         }
@@ -105,18 +107,19 @@ module _ {image : List ℕ} {o : Opened} {n : ℕ} {r : Found} (state : State) (
           can-from p g rep num =
               record { on = on-disc g rep; numbers = num; file = file-of p g rep num .1; closed = closed p rep; at = at p g rep num }
 
-          pub can-change-file : Represented image state o → CanChange image o n place lent
-          can-change-file h =
+          pub can-change-file : CanChange image o n place lent
+          can-change-file =
+              let h = meant .standing in
               subst (λ (k : ℕ). CanChange image o k place lent) (sym is)
               (record { unit = h .unit; file = _; can = can-from (h .unit) (h .good) (h .represents) (h .numbers); size = long })
 
           pub changes-file : {after : List ℕ} {result : ℕ} → FileChanges image o n place lent after result → Changes image o state name lent after result
           changes-file {after} {result} fc = record {
-            all = λ p g rep num mine. record {
+            all = λ p g rep num. record {
               step =
                   let f = file-of p g rep num in
                   let own : FileChanges image o (named name) place lent after result = subst (λ (k : ℕ). FileChanges image o k place lent after result) is fc in
-                  let to = change-file p name lent mine (at p g rep num .entered) long (f .0) (f .1) in
+                  let to = change-file p name lent (meant-known meant rep) (at p g rep num .entered) long (f .0) (f .1) in
                   go p (f .0) (f .1) (closed p rep) to (own .all p (f .0) (can-from p g rep num));
             };
           }

@@ -4,17 +4,16 @@ use mathlib.Core.Bool.{cond}
 use mathlib.Core.List.{List}
 use mathlib.Core.Option.{none, some}
 use Prim.Native.Nat.{ℕ, suc, _≤_, _<_}
-use lib.Dec.{T, eqb}
+use lib.Dec.{eqb}
 use lib.ListN.{length}
 use Rattle.types.specs.declared.Name.{Name}
 use Rattle.types.specs.declared.State.{State}
-use Rattle.disc.specs.Names.{named, unitIn}
+use Rattle.disc.specs.Names.{named}
 use Rattle.disc.specs.Entries.{placeCount, nameAt}
 use Rattle.catalog.specs.declared.Place.{Place}
 use Rattle.plain.specs.Table.{tableFind, tablePut, tableRemove}
 use Rattle.plain.specs.Unit.{Plain, File, withFiles}
 use Rattle.plain.specs.Good.{Good}
-use Rattle.plain.specs.Questions.{known}
 use Rattle.plain.specs.Taking.{layersFor}
 use Rattle.plain.specs.Catalog.{newName, keptOr, attributesIn, sizeIn, slicesAfter, changed, changeFile, stepChange}
 use Rattle.refine.specs.Represents.{Represents}
@@ -89,6 +88,6 @@ pub record ChangeDone (p : Plain) (image : List ℕ) (n : ℕ) (lent after : Lis
 pub record ChangeStep (p : Plain) (image : List ℕ) (name : Name) (lent after : List ℕ) (result : ℕ) : Type 0 where
   pub step : Replies p (stepChange p name lent) lent result (after ≡ image) (ChangeDone p image (named name) lent after)
 
--- The same of every unit that image and state represent and that the message means.
+-- The same of every unit that image and state represent.
 pub record Changes (image : List ℕ) (o : Opened) (state : State) (name : Name) (lent after : List ℕ) (result : ℕ) : Type 0 where
-  pub all : (p : Plain) → Good p → Represents image state p → NumbersOf o p → T (known p (unitIn name)) → ChangeStep p image name lent after result
+  pub all : (p : Plain) → Good p → Represents image state p → NumbersOf o p → ChangeStep p image name lent after result

@@ -6,10 +6,10 @@ ghost use Prim.Native.Nat.{_-_, _≤_};
 ghost use lib.ListN.{length};
 ghost use lib.Dec.{eqb};
 ghost use Rattle.disc.specs.Numbers.{need};
-ghost use Rattle.disc.specs.Names.{pack};
+ghost use Rattle.disc.specs.Names.{pack, unitIn};
 ghost use Rattle.names.specs.NameIs.{NameIs};
 ghost use Rattle.plain.specs.Catalog.{keptOr, newName};
-ghost use Rattle.unit.specs.Opened.{OpenedOn, Represented};
+ghost use Rattle.unit.specs.Opened.{OpenedOn, Meant};
 ghost use Rattle.change.specs.Asked.{CanStand, Stands, WantedOf, allowedBy, LayersFor, TakenBy, CanJudge, Judges};
 ghost use Rattle.change.specs.Change.{CanChange, FileChanges, Changes};
 use catalog::Found;
@@ -192,7 +192,7 @@ fn change_file(image: &mut [u16], o: Opened, n: Name, place: Place, lent: &[u16]
 
 // Change of the name in a message that means this unit: the result word.
 pub fn change(image: &mut [u16], o: Opened, state: State, name: Name, lent: &[u16]) -> u16
-    requires { ⌜ Represented (now image) state o ⌝ }
+    requires { ⌜ Meant (now image) state o (unitIn name) ⌝ }
     ensures { λ r. ⌜ Changes (now (image .entry)) o state name (now (lent .entry)) (now (image .exit)) r ⌝ }
 {
     let n = names::fold(name);

@@ -11,7 +11,7 @@ use lib.ListN.{length, replicate}
 use borrow.Author.Tests.{le-leb, lt-leb}
 use Rattle.types.specs.declared.Name.{Name}
 use Rattle.disc.specs.Words.{Words}
-use Rattle.disc.specs.Names.{keyOf, named}
+use Rattle.disc.specs.Names.{keyOf, named, unitIn}
 use Rattle.catalog.specs.declared.Place.{Place}
 use Rattle.catalog.specs.declared.Found.{Found}
 use Rattle.catalog.specs.declared.Found.the-variants.{At, Nothing}
@@ -21,10 +21,11 @@ use Rattle.plain.specs.Catalog.{optionalIn, attributesIn, sizeIn, tailIn, newFi
 use Rattle.refine.specs.OnDisc.{OnDisc}
 use Rattle.refine.specs.Replies.{Replies, refused}
 use Rattle.unit.specs.declared.Opened.{Opened}
-use Rattle.unit.specs.Opened.{NumbersOf, OpenedOn}
+use Rattle.unit.specs.Opened.{NumbersOf, OpenedOn, MeantOn}
 use Rattle.unit.specs.Find.{UnusedFound, FindsName, FindsUnused}
 use Rattle.unit.proofs.OpenLaws.{on-catalog}
 use Rattle.unit.proofs.AskLaws.{asks-yes, asks-no}
+use Rattle.unit.proofs.MeantLaws.{meant-on-known}
 use Rattle.create.specs.Create.{legalNew, NewFileStep, NewFileMade, Creates, Sets, AskedFrom, CanPlaceFrom, CanGrowForFrom}
 use Rattle.create.proofs.LegalLaws.{Legal, legal-all, on, off, not-legal}
 
@@ -103,25 +104,25 @@ module _ {image : List ℕ} {o : Opened} {n size attributes : ℕ} {words after 
   named-step {p} on-disc num =
       subst (λ (m : ℕ). NewFileStep p image m size attributes (optionalIn words) (tailIn words) after result) is (made .all p on-disc num)
 
-  pub creates : optionalIn words ≡ replicate 3 0 → tailIn words ≡ replicate 6 0 → Creates image o name size attributes after result
-  creates a b = record {
-    all = λ p on-disc num mine. record {
-      step = λ lent. replies-after _ _ mine ((rw (a, b) at (named-step on-disc num)) .step lent);
+  pub creates : MeantOn image o (unitIn name) → optionalIn words ≡ replicate 3 0 → tailIn words ≡ replicate 6 0 → Creates image o name size attributes after result
+  creates meant a b = record {
+    all = λ p on-disc num own. record {
+      step = λ lent. replies-after _ _ (meant-on-known p meant own) ((rw (a, b) at (named-step on-disc num)) .step lent);
     };
   }
 
-pub sets : {image : List ℕ} {o : Opened} {n : ℕ} {lent after : List ℕ} {result : ℕ} (name : Name) → n ≡ named name → 16 ≤ length lent
+pub sets : {image : List ℕ} {o : Opened} {n : ℕ} {lent after : List ℕ} {result : ℕ} (name : Name) → MeantOn image o (unitIn name) → n ≡ named name → 16 ≤ length lent
     → NewFileMade image o n (sizeIn lent) (attributesIn lent) lent after result → Sets image o name lent after result
-sets {lent = lent} name is long made = record {
-  all = λ p on-disc num mine. record {
-    step = replies-after _ _ mine (replies-after _ _ (rw (le-leb 16 (length lent) long) tt) (named-step name is made on-disc num .step lent));
+sets {lent = lent} name meant is long made = record {
+  all = λ p on-disc num own. record {
+    step = replies-after _ _ (meant-on-known p meant own) (replies-after _ _ (rw (le-leb 16 (length lent) long) tt) (named-step name is made on-disc num .step lent));
   };
 }
 
 -- "4. Lent record at least 16 words?"
-pub sets-short : {image : List ℕ} {o : Opened} (name : Name) (lent : List ℕ) → length lent < 16 → Sets image o name lent image 0x1200
-sets-short name lent short = record {
-  all = λ p on-disc num mine. record {
-    step = replies-after _ _ mine (refused (λ z. omega arith) (asks-no _ _ _ (rw (lt-leb 16 (length lent) short) tt)) refl);
+pub sets-short : {image : List ℕ} {o : Opened} (name : Name) (lent : List ℕ) → MeantOn image o (unitIn name) → length lent < 16 → Sets image o name lent image 0x1200
+sets-short name lent meant short = record {
+  all = λ p on-disc num own. record {
+    step = replies-after _ _ (meant-on-known p meant own) (refused (λ z. omega arith) (asks-no _ _ _ (rw (lt-leb 16 (length lent) short) tt)) refl);
   };
 }

@@ -16,7 +16,6 @@ use Rattle.disc.specs.Stretches.{stretchCount}
 use Rattle.catalog.specs.declared.Place.{Place}
 use Rattle.plain.specs.Table.{tablePut}
 use Rattle.plain.specs.Unit.{Plain, File, freeSlices, entry, withFiles}
-use Rattle.plain.specs.Questions.{known}
 use Rattle.plain.specs.Taking.{placesTaken}
 use Rattle.plain.specs.Catalog.{optionalIn, attributesIn, sizeIn, tailIn, newFile, stepCreate, stepSet}
 use Rattle.refine.specs.OnDisc.{OnDisc}
@@ -71,8 +70,9 @@ pub record CreateStep (p : Plain) (image : List ℕ) (name : Name) (size attribu
   pub step : (lent : List ℕ) → Replies p (stepCreate p name size attributes lent) lent result (after ≡ image)
       (Created p image (named name) size attributes (replicate 3 0) (replicate 6 0) after)
 
+-- The same of every unit on the image that has the number in the name.
 pub record Creates (image : List ℕ) (o : Opened) (name : Name) (size attributes : ℕ) (after : List ℕ) (result : ℕ) : Type 0 where
-  pub all : (p : Plain) → OnDisc image p → NumbersOf o p → T (known p (unitIn name)) → CreateStep p image name size attributes after result
+  pub all : (p : Plain) → OnDisc image p → NumbersOf o p → p .unit ≡ unitIn name → CreateStep p image name size attributes after result
 
 -- "Set takes size from entry word 9, name from the message, optional, attributes and tail from the entry."
 pub record SetStep (p : Plain) (image : List ℕ) (name : Name) (lent after : List ℕ) (result : ℕ) : Type 0 where
@@ -80,7 +80,7 @@ pub record SetStep (p : Plain) (image : List ℕ) (name : Name) (lent after : Li
       (Created p image (named name) (sizeIn lent) (attributesIn lent) (optionalIn lent) (tailIn lent) after)
 
 pub record Sets (image : List ℕ) (o : Opened) (name : Name) (lent after : List ℕ) (result : ℕ) : Type 0 where
-  pub all : (p : Plain) → OnDisc image p → NumbersOf o p → T (known p (unitIn name)) → SetStep p image name lent after result
+  pub all : (p : Plain) → OnDisc image p → NumbersOf o p → p .unit ≡ unitIn name → SetStep p image name lent after result
 
 -- ---- what the steps in between start from
 

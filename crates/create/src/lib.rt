@@ -3,12 +3,12 @@
 ghost use mathlib.Core.Path.{_≡_};
 ghost use Prim.Native.Nat.{_+_, _≤_};
 ghost use lib.ListN.{length};
-ghost use Rattle.disc.specs.Names.{pack};
+ghost use Rattle.disc.specs.Names.{pack, unitIn};
 ghost use Rattle.disc.specs.Entries.{entryWords};
 ghost use Rattle.words.specs.Store.{store};
 ghost use Rattle.catalog.specs.Catalog.{placeStart};
 ghost use Rattle.plain.specs.Catalog.{optionalIn, tailIn};
-ghost use Rattle.unit.specs.Opened.{OpenedOn};
+ghost use Rattle.unit.specs.Opened.{OpenedOn, MeantOn};
 ghost use Rattle.create.specs.Create.{legalNew, CanWrite, FileWritten, CanPlace, Placed, CanGrowFor, PlacedGrown, NewFileMade, Creates, Sets};
 use catalog::Found;
 use catalog::Place;
@@ -171,18 +171,19 @@ fn new_file(
     create_in(image, o, place, name, size, attributes, words)
 }
 
-// Create from question 4 on: the result word. Optional and tail are zero.
+// Create from question 4 on, under the name in a message that means this unit: the result word. Optional and tail are zero.
 pub fn create(image: &mut [u16], o: Opened, name: Name, size: u16, attributes: u16) -> u16
-    requires { ⌜ OpenedOn (now image) o ⌝ }
+    requires { ⌜ MeantOn (now image) o (unitIn name) ⌝ }
     ensures { λ r. ⌜ Creates (now (image .entry)) o name size attributes (now (image .exit)) r ⌝ }
 {
     let words = [0u16; 16];
     new_file(image, o, names::fold(name), size, attributes, &words)
 }
 
-// Set from question 4 on: the result word. Size, attributes, optional and tail are those of the lent entry.
+// Set from question 4 on, under the name in a message that means this unit: the result word. Size, attributes, optional and tail are
+// those of the lent entry.
 pub fn set(image: &mut [u16], o: Opened, name: Name, lent: &[u16]) -> u16
-    requires { ⌜ OpenedOn (now image) o ⌝ }
+    requires { ⌜ MeantOn (now image) o (unitIn name) ⌝ }
     ensures { λ r. ⌜ Sets (now (image .entry)) o name (now (lent .entry)) (now (image .exit)) r ⌝ }
 {
     if lent.len() < 16 {

@@ -30,6 +30,8 @@ use Rattle.demands.specs.Demands as demands
 use Rattle.demands.proofs.Refused.{refused-later}
 use Rattle.demands.proofs.Determined.{determined, format-same}
 use Rattle.demands.proofs.Reserved.{reserved-sectors}
+use Rattle.demands.proofs.Slack.{slack-kept}
+use Rattle.demands.proofs.Whole.{written-whole}
 
 -- ---- demand 1
 
@@ -150,4 +152,4 @@ after-init = record {
 }
 
 pub the-demands : TheDemands
-the-demands = record { first = demand-1; second = demand-2; third = demand-3; after-init = after-init; reserved = reserved-sectors }
+the-demands = record { first = demand-1; second = demand-2; third = demand-3; after-init = after-init; reserved = reserved-sectors; slack = slack-kept; whole = written-whole }

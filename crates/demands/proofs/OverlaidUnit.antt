@@ -10,12 +10,10 @@ use Rattle.disc.specs.Words.{Words}
 use Rattle.disc.specs.Names.{keyOf}
 use Rattle.disc.specs.Entries.{nameAt}
 use Rattle.plain.specs.Unit.{Plain, File}
-use Rattle.plain.specs.Questions.{Outcome}
 use Rattle.plain.specs.Good.{Good}
 use Rattle.sound.specs.Places.{Unused}
 use Rattle.sound.specs.Sound.{SoundUnit}
 use Rattle.refine.specs.Represents.{Represents}
-use Rattle.refine.specs.Replies.{Replies, refused, written}
 use Rattle.refine.specs.Demands.{Performed}
 use Rattle.refine.specs.Writes.{placeSector}
 use Rattle.refine.proofs.Sectors.{Same, bit-kept}
@@ -32,13 +30,9 @@ use Rattle.rewrite.specs.Rewrite.{Rewrites, stayed, moved}
 use Rattle.change.specs.Change as change
 use Rattle.areas.specs.Areas.{AreaBooked, AreaRemoved, dummyRemove, books}
 use Rattle.perform.specs.Perform.{Wrote}
+use Rattle.demands.proofs.ReplyLaws.{replies-map}
 use Rattle.demands.proofs.Overlaid.{overlaid, length-overlaid, words-overlaid, word-overlaid}
 use Rattle.demands.proofs.OverlaidWrites.{beyond-emptied, beyond-removed, beyond-grown, beyond-created, beyond-changed, beyond-renamed, beyond-booked, beyond-message}
-
--- a reply with what is written carried over
-pub replies-map : {p : Plain} {o : Outcome} {lent : List ℕ} {result : ℕ} {A B : Type 0} {P Q : Plain → Type 0} → (A → B) → ((q : Plain) → P q → Q q) → Replies p o lent result A P → Replies p o lent result B Q
-replies-map f g (refused d e s) = refused d e (f s)
-replies-map f g (written z q e w) = written z q e (g q w)
 
 module _ (x : List ℕ) where
   -- ---- what is read

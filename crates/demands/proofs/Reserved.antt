@@ -10,12 +10,10 @@ use Rattle.types.specs.declared.Message.{Message}
 use Rattle.types.specs.declared.Message.the-variants.{Init, Set, Create, LookUp, Change, Remove, CreateArea, RemoveArea, AreaMessage, UnitDescription, Listing}
 use Rattle.disc.specs.Words.{Words}
 use Rattle.plain.specs.Unit.{Plain, File}
-use Rattle.plain.specs.Questions.{Outcome}
 use Rattle.plain.specs.Step.{step}
 use Rattle.plain.specs.Good.{Good}
 use Rattle.sound.specs.Sound.{SoundUnit}
 use Rattle.refine.specs.Represents.{Represents}
-use Rattle.refine.specs.Replies.{Replies, refused, written}
 use Rattle.refine.specs.Demands.{Performed, SameWords}
 use Rattle.refine.proofs.SoundRepresents.{sound-represents}
 use Rattle.steps.specs.Units.{grownUnit}
@@ -31,6 +29,7 @@ use Rattle.perform.proofs.ObeyLaws.{words-equal}
 use Rattle.perform.specs.Perform.{Wrote, Untouched, Obeyed, Performs, unknown, unsound, obeyed}
 use Rattle.demands.specs.Reserved.{SameReserved, SameOthers, SameButReserved, ReservedSectors}
 use Rattle.demands.proofs.Determined.{wrote-same, words-join, format-same}
+use Rattle.demands.proofs.ReplyLaws.{replies-cases}
 use Rattle.demands.proofs.Overlaid.{overlaid, overlaid-is, overlaid-others, Beyond, beyond-kept}
 use Rattle.demands.proofs.OverlaidWrites.{beyond-removed, beyond-grown, beyond-created, beyond-changed, beyond-renamed, beyond-booked, beyond-message, beyond-formatted}
 use Rattle.demands.proofs.OverlaidUnit.{represents-overlaid, sound-overlaid, elsewhere, wrote-overlaid}
@@ -45,10 +44,6 @@ kept-then a b = record { size = a .size ∙ b .size; words = λ k h. a .words k 
 
 by : {w : List ℕ → List ℕ} {i j : List ℕ} → Beyond w → j ≡ w i → SameReserved i j
 by {i = i} b e = rw e (beyond-kept b i)
-
-either : {p : Plain} {o : Outcome} {lent : List ℕ} {result : ℕ} {A C : Type 0} {P : Plain → Type 0} → (A → C) → ((q : Plain) → P q → C) → Replies p o lent result A P → C
-either f g (refused d e s) = f s
-either f g (written z q e w) = g q w
 
 module _ (p : Plain) (low : 6 ≤ p .F) where
   grown-kept : {i j : List ℕ} → GrownFrom i p j → SameReserved i j
@@ -79,13 +74,13 @@ module _ (p : Plain) (low : 6 ≤ p .F) where
 
   wrote-kept : (i : List ℕ) (state : State) (message : Message) (lent : List ℕ) (r : Performed) → Wrote p i state message lent r → SameReserved i (r .image)
   wrote-kept i state (Init unit) lent r w = as-before (w .0)
-  wrote-kept i state (Set name) lent r w = either as-before (λ q. created-kept) (w .0 .step)
-  wrote-kept i state (Create name size attributes) lent r w = either as-before (λ q. created-kept) (w .0 .step lent)
+  wrote-kept i state (Set name) lent r w = replies-cases (λ _. as-before) (λ q _. created-kept) (w .0 .step)
+  wrote-kept i state (Create name size attributes) lent r w = replies-cases (λ _. as-before) (λ q _. created-kept) (w .0 .step lent)
   wrote-kept i state (LookUp name) lent r w = as-before (w .0)
-  wrote-kept i state (Change name) lent r w = either as-before (λ q d. changed-kept (d .changed)) (w .0 .step)
-  wrote-kept i state (Remove name) lent r w = either as-before (λ q d. by (beyond-removed p low (d .t) (d .f)) (d .written)) (w .0 .step lent)
+  wrote-kept i state (Change name) lent r w = replies-cases (λ _. as-before) (λ q _ d. changed-kept (d .changed)) (w .0 .step)
+  wrote-kept i state (Remove name) lent r w = replies-cases (λ _. as-before) (λ q _ d. by (beyond-removed p low (d .t) (d .f)) (d .written)) (w .0 .step lent)
   wrote-kept i state (CreateArea name) lent r w = as-before (w .0)
-  wrote-kept i state (RemoveArea name) lent r w = either (λ s. as-before (s .0)) (λ q. area-removed-kept) (w .step lent)
+  wrote-kept i state (RemoveArea name) lent r w = replies-cases (λ _ s. as-before (s .0)) (λ q _. area-removed-kept) (w .step lent)
   wrote-kept i state (AreaMessage name sender operation) lent r w = by (beyond-message p low operation (r .answer) lent _) (w .written)
   wrote-kept i state (UnitDescription unit bytes) lent r w = as-before (w .0)
   wrote-kept i state (Listing unit) lent r w = as-before (w .0)

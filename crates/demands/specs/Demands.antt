@@ -28,6 +28,8 @@ use Rattle.format.specs.Format.{FormatAnswer}
 use Rattle.perform.specs.Perform.{Untouched, Obeyed, Performs}
 use Rattle.demands.specs.FormatContract.{FormatContract}
 use Rattle.demands.specs.Reserved.{ReservedSectors}
+use Rattle.demands.specs.Slack.{SlackKept}
+use Rattle.demands.specs.Whole.{WrittenWhole}
 
 -- ---- demand 1
 
@@ -134,6 +136,10 @@ pub record Demands (C : Contract) (F : FormatContract) : Type 0 where
   pub after-init : AfterInit C
   -- "Sectors 0 to 5 are never read or written."
   pub reserved : ReservedSectors C F
+  -- "Slack, freed and free sectors keep their words."
+  pub slack : SlackKept C
+  -- "In the image an emptied place is zeroed and an index block is written whole when its file's slices change."
+  pub whole : WrittenWhole C
 
 -- The same of the very contracts of `perform::perform` and `format::format`.
 abbrev pub TheDemands : Type 0

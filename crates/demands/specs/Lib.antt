@@ -1,3 +1,6 @@
 pub mod FormatContract
 pub mod Reserved
+pub mod Slack
+pub mod Whole
 pub mod Demands
+pub mod Paper

@@ -1,6 +1,6 @@
 -- Laws of one place: what its first word, its name and its key say of it.
-use mathlib.Core.Path.{_≡_, sym, ap, _∙_, subst, subst⁻¹}
-use mathlib.Core.Bool.{Bool, true, false}
+use mathlib.Core.Path.{_≡_, refl, sym, ap, _∙_, subst, subst⁻¹}
+use mathlib.Core.Bool.{Bool, true, false, _||_}
 use mathlib.Core.Bool as B
 use mathlib.Core.List.{List, [], _∷_, _++_}
 use Prim.Native.Nat.{ℕ, _/_, _<_}
@@ -12,6 +12,7 @@ use Rattle.types.specs.declared.Name.{Name}
 use Rattle.disc.specs.Decide.{Decides}
 use Rattle.disc.specs.Names.{pack, legalName, keyOf, SYS, MAP}
 use Rattle.disc.specs.Entries.{nameAt, systemEntry}
+use Rattle.disc.proofs.DecideLaws.{true≢false}
 use Rattle.disc.proofs.NameLaws.{nameWords-pack}
 use Rattle.names.specs.NameIs.{NameIs}
 use Rattle.sound.specs.Places.{Unused, Used}
@@ -33,6 +34,14 @@ entry-list a b c size index reserved p q =
 -- a name whose first character is 0 is not legal
 pub legal-first : (n : ℕ) → T (legalName n) → n / 0x10000000000 ≡ 0 → ⊥
 legal-first n h e = rw e at h
+
+-- a word that is the first of neither SYS nor MAP
+pub other-first : {r : Bool} (w : ℕ) → r ≡ eqb w 0x5359 || eqb w 0x4D41 → r ≡ false → (w ≡ 0x5359 → ⊥) × (w ≡ 0x4D41 → ⊥)
+other-first w e f = let n = neither (eqb w 0x5359) (eqb w 0x4D41) (sym e ∙ f) in (eqb-false w 0x5359 (n .0), eqb-false w 0x4D41 (n .1))
+  where
+    neither : (a b : Bool) → a || b ≡ false → (a ≡ false) × (b ≡ false)
+    neither true b h = absurd (true≢false h)
+    neither false b h = (refl, h)
 
 module _ {P : ℕ → ℕ → ℕ} {t : ℕ} where
   pub name-packed : {name : Name} → NameIn P t name → pack (name .0) (name .1) (name .2) ≡ nameAt P t

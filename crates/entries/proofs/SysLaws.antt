@@ -18,7 +18,7 @@ use Rattle.entries.specs.Sys.{sysSlices, SysOf}
 -- one turn: n blocks from block b on are the sectors from `start` on, those of pair j or the first of them
 pub record Turn (image : List ℕ) (g : Geometry) (size j b n start : ℕ) : Type 0 where
   pub more : j < word image 6 0
-  pub walk : (c : ℕ) → c < n → sectorIn (g .first) (g .slice) (sysSlices image g) (b + c) ≡ start + c
+  pub walk : (c : ℕ) → c < n → sectorIn (g .first .0) (g .slice) (sysSlices image g) (b + c) ≡ start + c
   pub fits : 256 * (start + n) ≤ length image
   pub small : start + n < 65536
   pub high : b + n ≤ size
@@ -29,33 +29,33 @@ module _ {image : List ℕ} {g : Geometry} (sys : SysOf image g) where
   pos = omega (arith, sys .unit .limits .slice-low)
 
   -- a sector of SYS is in the image
-  pub sys-inside : (b : ℕ) → b < g .slice * length (sysSlices image g) → sectorIn (g .first) (g .slice) (sysSlices image g) b < g .sectors
+  pub sys-inside : (b : ℕ) → b < g .slice * length (sysSlices image g) → sectorIn (g .first .0) (g .slice) (sysSlices image g) b < g .sectors
   sys-inside b h =
-      let i = sector-inside (g .first) (g .slice) (g .slices) (sysSlices image g) pos (sys .once) b h in
-      omega (arith, i .1, ap (λ (m : ℕ). m * g .slice) (sys .unit .slices), div-mul-le-self (g .sectors - g .first) (g .slice), sys .unit .limits .some-data)
+      let i = sector-inside (g .first .0) (g .slice) (g .slices) (sysSlices image g) pos (sys .once) b h in
+      omega (arith, i .1, ap (λ (m : ℕ). m * g .slice) (sys .unit .slices), div-mul-le-self (g .sectors - g .first .0) (g .slice), sys .unit .limits .some-data)
 
   pub sys-total : sectorsBefore image 6 (word image 6 0) ≡ g .slice * length (sysSlices image g)
-  sys-total = walk-total image (g .first) (g .slice) 6 pos (sys .index .few) (sys .index .pairs)
+  sys-total = walk-total image (g .first .0) (g .slice) 6 pos (sys .index .few) (sys .index .pairs)
 
   pub sys-sector : (j c : ℕ) → j < word image 6 0 → c < pairLength image 6 j
-      → sectorIn (g .first) (g .slice) (sysSlices image g) (sectorsBefore image 6 j + c) ≡ pairStart image 6 j + c
-  sys-sector = walk-sector image (g .first) (g .slice) 6 pos (sys .index .few) (sys .index .pairs)
+      → sectorIn (g .first .0) (g .slice) (sysSlices image g) (sectorsBefore image 6 j + c) ≡ pairStart image 6 j + c
+  sys-sector = walk-sector image (g .first .0) (g .slice) 6 pos (sys .index .few) (sys .index .pairs)
 
   pub sys-more : (j : ℕ) → j ≤ word image 6 0 → sectorsBefore image 6 j < g .slice * length (sysSlices image g) → j < word image 6 0
-  sys-more = walk-more image (g .first) (g .slice) 6 pos (sys .index .few) (sys .index .pairs)
+  sys-more = walk-more image (g .first .0) (g .slice) 6 pos (sys .index .few) (sys .index .pairs)
 
   pub sys-within : (j : ℕ) → j < word image 6 0 → sectorsBefore image 6 j + pairLength image 6 j ≤ g .slice * length (sysSlices image g)
-  sys-within = walk-within image (g .first) (g .slice) 6 pos (sys .index .few) (sys .index .pairs)
+  sys-within = walk-within image (g .first .0) (g .slice) 6 pos (sys .index .few) (sys .index .pairs)
 
   -- SYS's sectors are some of the data sectors
-  pub sys-small : g .slice * length (sysSlices image g) ≤ g .sectors - g .first
+  pub sys-small : g .slice * length (sysSlices image g) ≤ g .sectors - g .first .0
   sys-small =
       let m : length (sysSlices image g) ≤ g .slices = omega (arith, sum-law (g .slices) (sysSlices image g) (sys .once)) in
-      omega (arith, mul-le-mul-left (g .slice) m, mul-comm (g .slice) (g .slices), ap (λ (k : ℕ). k * g .slice) (sys .unit .slices), div-mul-le-self (g .sectors - g .first) (g .slice))
+      omega (arith, mul-le-mul-left (g .slice) m, mul-comm (g .slice) (g .slices), ap (λ (k : ℕ). k * g .slice) (sys .unit .slices), div-mul-le-self (g .sectors - g .first .0) (g .slice))
 
   -- no pair is empty
   pair-some : (j : ℕ) → j < word image 6 0 → 1 ≤ pairLength image 6 j
-  pair-some j h = index-pairs image (g .first) (g .slice) 6 pos .1 (sys .index .some, sys .index .few, sys .index .pairs) .each j h .some
+  pair-some j h = index-pairs image (g .first .0) (g .slice) 6 pos .1 (sys .index .some, sys .index .few, sys .index .pairs) .each j h .some
 
   pair-inside : (j : ℕ) → j < word image 6 0 → pairStart image 6 j + pairLength image 6 j ≤ g .sectors
   pair-inside j h =
@@ -73,7 +73,7 @@ module _ {image : List ℕ} {g : Geometry} (sys : SysOf image g) where
       let q : n ≤ pairLength image 6 j = omega arith in
       record {
         more = h;
-        walk = λ c k. ap (λ (y : ℕ). sectorIn (g .first) (g .slice) (sysSlices image g) (y + c)) x ∙ sys-sector j c h (omega arith) ∙ ap (λ (y : ℕ). y + c) (sym i);
+        walk = λ c k. ap (λ (y : ℕ). sectorIn (g .first .0) (g .slice) (sysSlices image g) (y + c)) x ∙ sys-sector j c h (omega arith) ∙ ap (λ (y : ℕ). y + c) (sym i);
         fits = omega (arith, sys .unit .size);
         small = omega (arith, sys .unit .limits .sectors);
         high = omega arith;
@@ -91,6 +91,6 @@ module _ {image : List ℕ} {g : Geometry} (sys : SysOf image g) where
       (sys-more (j + 1) (omega arith) (omega arith), omega arith)
 
   pub in-pair : {b n rest start : ℕ} (j : ℕ) → j < word image 6 0 → sectorsBefore image 6 j + rest ≡ b → n ≡ pairLength image 6 j → rest < n → start ≡ pairStart image 6 j
-      → (start + rest ≡ sectorIn (g .first) (g .slice) (sysSlices image g) b) × (start + rest < g .sectors)
+      → (start + rest ≡ sectorIn (g .first .0) (g .slice) (sysSlices image g) b) × (start + rest < g .sectors)
   in-pair {rest = rest} j h e f lt i =
-      (ap (λ (x : ℕ). x + rest) i ∙ sym (sys-sector j rest h (omega arith)) ∙ ap (sectorIn (g .first) (g .slice) (sysSlices image g)) e, omega (arith, pair-inside j h))
+      (ap (λ (x : ℕ). x + rest) i ∙ sym (sys-sector j rest h (omega arith)) ∙ ap (sectorIn (g .first .0) (g .slice) (sysSlices image g)) e, omega (arith, pair-inside j h))

@@ -11,14 +11,14 @@ use Rattle.kit.specs.Geometry.{UnitOf}
 
 -- The slices that SYS's index block in sector 6 describes, and the places in them.
 abbrev pub sysSlices : List ℕ → Geometry → List ℕ
-sysSlices image g = slicesAt image (g .first) (g .slice) sysIndexSector
+sysSlices image g = slicesAt image (g .first .0) (g .slice) sysIndexSector
 
 abbrev pub placesIn : List ℕ → Geometry → ℕ → ℕ → ℕ
-placesIn image g = sysPlaces image (g .first) (g .slice) (sysSlices image g)
+placesIn image g = sysPlaces image (g .first .0) (g .slice) (sysSlices image g)
 
 -- "The image has 256 times N words, laid out as above; the kit is within limits"; SYS has an index block as it must be, and its
 -- slices are the unit's, none of them twice.
 pub record SysOf (image : List ℕ) (g : Geometry) : Type 0 where
   pub unit : UnitOf image g
-  pub index : IndexBlock image (g .first) (g .slice) sysIndexSector
+  pub index : IndexBlock image (g .first .0) (g .slice) sysIndexSector
   pub once : InRangeOnce (g .slices) (sysSlices image g)

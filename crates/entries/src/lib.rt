@@ -20,11 +20,6 @@ use types::Block;
 use types::Name;
 use types::Sector;
 
-// The first words of 'SYS' and 'MAP'.
-const SYS_FIRST: u16 = 0x5359;
-
-const MAP_FIRST: u16 = 0x4D41;
-
 // An inverse is so many times one.
 const SCALE: u32 = 0x8000_0000;
 
@@ -77,7 +72,7 @@ pub fn sys_sectors(image: &[u16], g: Geometry) -> u16
 // The sector of block b of SYS, found pair by pair.
 fn sector_of(image: &[u16], g: Geometry, b: Block) -> Sector
     requires { ⌜ SysOf (now image) g × (b .0 < g .slice * length (sysSlices (now image) g)) ⌝ }
-    ensures { λ r. ⌜ r .0 ≡ sectorIn (g .first) (g .slice) (sysSlices (now (image .entry)) g) (b .0) ⌝ }
+    ensures { λ r. ⌜ r .0 ≡ sectorIn (g .first .0) (g .slice) (sysSlices (now (image .entry)) g) (b .0) ⌝ }
 {
     let mut rest = b.0;
     let mut j = 0;
@@ -139,11 +134,11 @@ fn is_entry(
     i: usize,
     name: Name,
     size: u16,
-    index: u16,
+    index: Sector,
     reserved: u16,
 ) -> bool
     requires { ⌜ (q .0 * 256 + 256 ≤ length (now image)) × (i < 16) ⌝ }
-    ensures { λ r. ⌜ Decides r (HoldsEntry (sectorPlaces (now (image .entry)) (q .0)) i (systemEntry (pack (name .0) (name .1) (name .2)) size index reserved)) ⌝ }
+    ensures { λ r. ⌜ Decides r (HoldsEntry (sectorPlaces (now (image .entry)) (q .0)) i (systemEntry (pack (name .0) (name .1) (name .2)) size (index .0) reserved)) ⌝ }
 {
     let entry = [
         name.0,
@@ -154,7 +149,7 @@ fn is_entry(
         0,
         0x8010,
         size,
-        index,
+        index.0,
         reserved,
         0,
         0,
@@ -172,10 +167,10 @@ fn named_legal(image: &[u16], q: Sector, i: usize, name: Name, catalog: Catalog)
     ensures { λ r. ⌜ Decides r (SystemLegal (sectorPlaces (now (image .entry)) (q .0)) (ownEntry catalog) i) ⌝ }
 {
     if names::same_name(name, names::sys_name()) {
-        return is_entry(image, q, i, name, catalog.size, 6, catalog.reserved);
+        return is_entry(image, q, i, name, catalog.size, Sector(6), catalog.reserved);
     }
     if names::same_name(name, names::map_name()) {
-        return is_entry(image, q, i, name, 1, 7, 1);
+        return is_entry(image, q, i, name, 1, Sector(7), 1);
     }
     true
 }
@@ -185,10 +180,7 @@ fn system_legal(image: &[u16], q: Sector, i: usize, name: Name, catalog: Catalog
     requires { ⌜ (q .0 * 256 + 256 ≤ length (now image)) × (i < 16) × NameIn (sectorPlaces (now image) (q .0)) i name ⌝ }
     ensures { λ r. ⌜ Decides r (SystemLegal (sectorPlaces (now (image .entry)) (q .0)) (ownEntry catalog) i) ⌝ }
 {
-    if name.0 == SYS_FIRST {
-        return named_legal(image, q, i, name, catalog);
-    }
-    if name.0 == MAP_FIRST {
+    if names::begins_as_system(name) {
         return named_legal(image, q, i, name, catalog);
     }
     true
@@ -284,13 +276,13 @@ pub fn find(image: &[u16], g: Geometry, name: Name, blocks: u16) -> Found
     ensures { λ r. ⌜ FoundIs (placesIn (now (image .entry)) g) (g .keys) (pack (name .0) (name .1) (name .2)) (16 * blocks) r ⌝ }
 {
     let keys = g.keys;
-    let mut b = numbers::key(name, keys);
-    while b < blocks {
-        let i = find_in(image, sector_of(image, g, Block(b)), name);
+    let mut b = Block(numbers::key(name, keys));
+    while b.0 < blocks {
+        let i = find_in(image, sector_of(image, g, b), name);
         if i < 16 {
-            return Found::At(16 * b as u32 + i as u32);
+            return Found::At(16 * b.0 as u32 + i as u32);
         }
-        b += keys;
+        b = Block(b.0 + keys);
     }
     Found::Nothing
 }

@@ -3,8 +3,8 @@
 ghost use mathlib.Core.Path.{_≡_};
 ghost use Rattle.disc.specs.Decide.{Decides};
 ghost use Rattle.sound.specs.Sound.{SoundUnit};
-ghost use Rattle.export.specs.Mirror.{isSet, roleOf, userOf, areaOf, stateOf, setWord, roleNumber, mirrorOfUser, mirrorOfArea, mirrorOf};
-ghost use Rattle.export.specs.Calls.{operationOf, messageOf, answerOf, UnitPerforms, UnitFormats};
+ghost use Rattle.export.specs.Mirror.{isSet, roleOf, userOf, areaOf, stateOf, setWord, roleNumber, remirroredUser, remirroredArea, remirrored};
+ghost use Rattle.export.specs.Calls.{operationOf, askedOf, answerOf, unitPerformed, UnitPerforms, unitFormatted, UnitFormats};
 use types::Answer;
 use types::Area;
 use types::Block;
@@ -64,6 +64,15 @@ pub struct UnitAnswer {
     pub bytes: u16,
     pub block: u16,
     pub entries: u32,
+}
+
+// The result word to a number that no call has.
+const NO_SUCH_CALL: u16 = 0xFFFF;
+
+// What a message asks for: one of the eleven calls, or none of them.
+enum Asked {
+    Call(Message),
+    NoSuchCall,
 }
 
 // What comes of a call beside image and lent words.
@@ -143,27 +152,32 @@ fn state_of(state: UnitState) -> State
     }
 }
 
-fn set_word(set: bool) -> u16
-    ensures { λ r. ⌜ r ≡ setWord set ⌝ }
+// The word of a yes or no: one that stands for it already is kept.
+fn set_word(word: u16, set: bool) -> u16
+    ensures { λ r. ⌜ r ≡ setWord word set ⌝ }
 {
-    if set { 1 } else { 0 }
+    if !set {
+        return 0;
+    }
+    if word == 0 { 1 } else { word }
 }
 
-fn role_number(role: Role) -> u16
-    ensures { λ r. ⌜ r ≡ roleNumber role ⌝ }
+// The number of a role: one that stands for it already is kept.
+fn role_number(number: u16, role: Role) -> u16
+    ensures { λ r. ⌜ r ≡ roleNumber number role ⌝ }
 {
     match role {
         Role::Sharing => 0,
         Role::ExclusiveWriter => 1,
-        Role::ExclusiveUser => 2,
+        Role::ExclusiveUser => { if number < 2 { 2 } else { number } }
     }
 }
 
-fn mirror_of_user(user: User) -> UserState
-    ensures { λ r. ⌜ r ≡ mirrorOfUser user ⌝ }
+fn remirror_user(before: UserState, user: User) -> UserState
+    ensures { λ r. ⌜ r ≡ remirroredUser before user ⌝ }
 {
     let role = user.role;
-    let number = role_number(role);
+    let number = role_number(before.role, role);
     UserState {
         id: user.id,
         role: number,
@@ -172,16 +186,16 @@ fn mirror_of_user(user: User) -> UserState
     }
 }
 
-fn mirror_of_area(area: Area) -> AreaState
-    ensures { λ r. ⌜ r ≡ mirrorOfArea area ⌝ }
+fn remirror_area(before: AreaState, area: Area) -> AreaState
+    ensures { λ r. ⌜ r ≡ remirroredArea before area ⌝ }
 {
-    let user0 = mirror_of_user(area.users[0]);
-    let user1 = mirror_of_user(area.users[1]);
-    let user2 = mirror_of_user(area.users[2]);
+    let user0 = remirror_user(before.users[0], area.users[0]);
+    let user1 = remirror_user(before.users[1], area.users[1]);
+    let user2 = remirror_user(before.users[2], area.users[2]);
     let name = [area.name.0, area.name.1, area.name.2];
     let users = [user0, user1, user2];
     AreaState {
-        live: set_word(area.live),
+        live: set_word(before.live, area.live),
         name: name,
         index: area.index.0,
         length: area.length,
@@ -189,22 +203,22 @@ fn mirror_of_area(area: Area) -> AreaState
     }
 }
 
-// The mirror of a state.
-fn mirror_of(state: State) -> UnitState
-    ensures { λ r. ⌜ r ≡ mirrorOf state ⌝ }
+// The mirror of a state: each word of the mirror before it that stands for the same value is kept.
+fn remirror(before: UnitState, state: State) -> UnitState
+    ensures { λ r. ⌜ r ≡ remirrored before state ⌝ }
 {
-    let area0 = mirror_of_area(state.areas[0]);
-    let area1 = mirror_of_area(state.areas[1]);
-    let area2 = mirror_of_area(state.areas[2]);
-    let area3 = mirror_of_area(state.areas[3]);
-    let area4 = mirror_of_area(state.areas[4]);
-    let area5 = mirror_of_area(state.areas[5]);
-    let area6 = mirror_of_area(state.areas[6]);
-    let area7 = mirror_of_area(state.areas[7]);
+    let area0 = remirror_area(before.areas[0], state.areas[0]);
+    let area1 = remirror_area(before.areas[1], state.areas[1]);
+    let area2 = remirror_area(before.areas[2], state.areas[2]);
+    let area3 = remirror_area(before.areas[3], state.areas[3]);
+    let area4 = remirror_area(before.areas[4], state.areas[4]);
+    let area5 = remirror_area(before.areas[5], state.areas[5]);
+    let area6 = remirror_area(before.areas[6], state.areas[6]);
+    let area7 = remirror_area(before.areas[7], state.areas[7]);
     let areas = [area0, area1, area2, area3, area4, area5, area6, area7];
     UnitState {
         unit: state.unit,
-        initialized: set_word(state.initialized),
+        initialized: set_word(before.initialized, state.initialized),
         areas: areas,
     }
 }
@@ -226,9 +240,9 @@ fn operation_of(operation: u16, number: u16, bytes: u16, block: u16) -> Operatio
     }
 }
 
-// The message of a call's number, 0 to 9; any other is Listing.
-fn message_of(message: UnitMessage) -> Message
-    ensures { λ r. ⌜ r ≡ messageOf message ⌝ }
+// What a message asks for, by the number of its call: 0 to 10.
+fn asked_of(message: UnitMessage) -> Asked
+    ensures { λ r. ⌜ r ≡ askedOf message ⌝ }
 {
     let name = Name(message.name[0], message.name[1], message.name[2]);
     let operation = operation_of(
@@ -239,28 +253,29 @@ fn message_of(message: UnitMessage) -> Message
     );
     let call = message.call;
     match call {
-        0 => Message::Init { unit: message.unit },
-        1 => Message::Set { name: name },
-        2 => Message::Create {
+        0 => Asked::Call(Message::Init { unit: message.unit }),
+        1 => Asked::Call(Message::Set { name: name }),
+        2 => Asked::Call(Message::Create {
             name: name,
             size: message.size,
             attributes: message.attributes,
-        },
-        3 => Message::LookUp { name: name },
-        4 => Message::Change { name: name },
-        5 => Message::Remove { name: name },
-        6 => Message::CreateArea { name: name },
-        7 => Message::RemoveArea { name: name },
-        8 => Message::AreaMessage {
+        }),
+        3 => Asked::Call(Message::LookUp { name: name }),
+        4 => Asked::Call(Message::Change { name: name }),
+        5 => Asked::Call(Message::Remove { name: name }),
+        6 => Asked::Call(Message::CreateArea { name: name }),
+        7 => Asked::Call(Message::RemoveArea { name: name }),
+        8 => Asked::Call(Message::AreaMessage {
             name: name,
             sender: message.sender,
             operation: operation,
-        },
-        9 => Message::UnitDescription {
+        }),
+        9 => Asked::Call(Message::UnitDescription {
             unit: message.unit,
             bytes: message.bytes,
-        },
-        _ => Message::Listing { unit: message.unit },
+        }),
+        10 => Asked::Call(Message::Listing { unit: message.unit }),
+        _ => Asked::NoSuchCall,
     }
 }
 
@@ -286,20 +301,31 @@ pub extern "C" fn ruzkemp_sound(image: &[u16], state: UnitState) -> bool
 
 // One call with the mirror by value.
 fn step(state: UnitState, image: &mut [u16], lent: &mut [u16], message: UnitMessage) -> UnitOutcome
-    ensures { λ r. ⌜ UnitPerforms (now (image .entry)) state message (now (lent .entry)) (now (image .exit)) (r .state) (r .answer) (now (lent .exit)) ⌝ }
+    ensures { λ r. ⌜ UnitPerforms (now (image .entry)) state message (now (lent .entry)) (unitPerformed (now (image .exit)) (r .state) (r .answer) (now (lent .exit))) ⌝ }
 {
+    let Asked::Call(asked) = asked_of(message) else {
+        return UnitOutcome {
+            answer: UnitAnswer {
+                result: NO_SUCH_CALL,
+                bytes: 0,
+                block: 0,
+                entries: 0,
+            },
+            state: state,
+        };
+    };
     let own = state_of(state);
-    let asked = message_of(message);
     let o = lent::drive(own, image, lent, asked);
     let next = o.state;
     let answer = o.answer;
     UnitOutcome {
         answer: mirror_of_answer(answer),
-        state: mirror_of(next),
+        state: remirror(state, next),
     }
 }
 
-// One call: the mirror behind the reference is left that of the state after the call.
+// One call: the mirror behind the reference is left that of the state after it, each word that stands for the same value kept. A number
+// that no call has changes nothing.
 #[no_mangle]
 pub extern "C" fn ruzkemp_perform(
     state: &mut UnitState,
@@ -307,7 +333,7 @@ pub extern "C" fn ruzkemp_perform(
     lent: &mut [u16],
     message: UnitMessage,
 ) -> UnitAnswer
-    ensures { λ r. ⌜ UnitPerforms (now (image .entry)) (now (state .entry)) message (now (lent .entry)) (now (image .exit)) (now (state .exit)) r (now (lent .exit)) ⌝ }
+    ensures { λ r. ⌜ UnitPerforms (now (image .entry)) (now (state .entry)) message (now (lent .entry)) (unitPerformed (now (image .exit)) (now (state .exit)) r (now (lent .exit))) ⌝ }
 {
     let s = *state;
     let o = step(s, image, lent, message);
@@ -317,14 +343,14 @@ pub extern "C" fn ruzkemp_perform(
 
 // Format with the mirror by value.
 fn format_step(state: UnitState, image: &mut [u16], lent: &[u16], bytes: u16) -> FormatOutcome
-    ensures { λ r. ⌜ UnitFormats (now (image .entry)) state bytes (now (lent .entry)) (now (image .exit)) (r .result) (r .state) ⌝ }
+    ensures { λ r. ⌜ UnitFormats (now (image .entry)) state bytes (now (lent .entry)) (unitFormatted (now (image .exit)) (r .state) (r .result)) ⌝ }
 {
     let own = state_of(state);
     let o = format::format(image, own, bytes, lent);
     let left = o.state;
     FormatOutcome {
         result: o.result,
-        state: mirror_of(left),
+        state: remirror(state, left),
     }
 }
 
@@ -336,7 +362,7 @@ pub extern "C" fn ruzkemp_format(
     lent: &[u16],
     bytes: u16,
 ) -> u16
-    ensures { λ r. ⌜ UnitFormats (now (image .entry)) (now (state .entry)) bytes (now (lent .entry)) (now (image .exit)) r (now (state .exit)) ⌝ }
+    ensures { λ r. ⌜ UnitFormats (now (image .entry)) (now (state .entry)) bytes (now (lent .entry)) (unitFormatted (now (image .exit)) (now (state .exit)) r) ⌝ }
 {
     let s = *state;
     let o = format_step(s, image, lent, bytes);

@@ -4,22 +4,25 @@ use mathlib.Core.Bool.{Bool, true, false}
 use mathlib.Core.Bool as B
 use mathlib.Core.List.{List, _++_, append-nil}
 use mathlib.Core.Option.{Option, none, some}
-use Prim.Native.Nat.{ℕ, zero, suc, _*_, _/_, _≤_}
-use native.Mathlib.Nat.{mul-comm, mul-div-cancel-left}
+use Prim.Native.Nat.{ℕ, zero, suc, _*_, _/_, _≤_, _<_}
+use native.Mathlib.Nat.{add-zero, mul-comm, mul-div-cancel-left}
 use native.Mathlib.Omega.{arith}
 use lib.Dec.{T, eqb}
-use lib.ListN.{length}
+use lib.ListN.{length, getD, List·getD-eq-default}
 use borrow.Author.Tests.{eqb-true, eqb-false}
 use Rattle.types.specs.declared.Area.{Area}
 use Rattle.types.specs.declared.State.{State}
 use Rattle.disc.specs.Decide.{Decides}
 use Rattle.disc.specs.Numbers.{need}
+use Rattle.disc.specs.Words.{word}
 use Rattle.disc.specs.Slices.{InRangeOnce}
 use Rattle.disc.specs.Entries.{nameAt}
 use Rattle.disc.specs.Attributes.{legalAttributes, legalWith}
+use Rattle.disc.proofs.Compare.{below-or}
 use Rattle.disc.proofs.DecideLaws.{true≢false}
 use Rattle.kit.proofs.KitLaws.{decides-eq}
 use Rattle.kit.specs.declared.Geometry.{Geometry}
+use Rattle.kit.specs.Geometry.{UnitOf}
 use Rattle.marks.specs.declared.Indexed.{Indexed}
 use Rattle.marks.specs.Marked.{Marked}
 use Rattle.marks.specs.Indexed.{IndexMarking}
@@ -30,7 +33,7 @@ use Rattle.sound.specs.Sound.{SoundFile}
 use Rattle.files.specs.declared.Live.{Live}
 use Rattle.files.specs.declared.Entry.{Entry}
 use Rattle.files.specs.Live.{liveOf, indexBy, lengthBy}
-use Rattle.files.specs.Rules.{FileNumbers, FileRules, OwnMarking, FileMarking}
+use Rattle.files.specs.Rules.{FileNumbers, FileRules, DataSector, OwnMarking, FileMarking}
 
 -- ---- the numbers of an entry beside an open area process
 
@@ -66,7 +69,7 @@ module _ {s size index reserved len q count : ℕ} (pos : 1 ≤ s) where
 
 module _ {s : ℕ} {entry : Entry} {live : Live} {count : ℕ} (allowed : T (legalAttributes (entry .attributes))) (only : T (legalWith (entry .attributes) count))
     (short : lengthBy live (entry .size) ≤ 32767) (enough : need s (lengthBy live (entry .size)) ≤ count) where
-  pub numbers-open : {r : Bool} → live .opened ≡ true → Decides r (Booked s (entry .size) (entry .index) (entry .reserved) (live .length) (live .index) count)
+  pub numbers-open : {r : Bool} → live .opened ≡ true → Decides r (Booked s (entry .size) (entry .index .0) (entry .reserved) (live .length) (live .index .0) count)
       → Decides r (FileNumbers s entry live count)
   numbers-open o d = record {
     yes = λ y. record { allowed = allowed; entryOnly = only; short = short; covered = enough; closed = λ f. absurd (true≢false (sym o ∙ f)); booked = λ _. d .yes y };
@@ -95,7 +98,7 @@ module _ {image : List ℕ} {g : Geometry} where
   })
 
   pub own-some : {before after : List ℕ} (q : ℕ) {found : Indexed} (r : Indexed) → (q ≡ 0 → ⊥) → IndexMarking image g q before after found
-      → r .good ≡ eqb (found .start) q → r .slices ≡ found .slices → OwnMarking image g q before after r
+      → r .good ≡ eqb (found .start .0) q → r .slices ≡ found .slices → OwnMarking image g q before after r
   own-some zero r d found good count = absurd (d refl)
   own-some {before} {after} (suc q) {found} r d m good count = record {
     marking = λ held k. record {
@@ -103,30 +106,48 @@ module _ {image : List ℕ} {g : Geometry} where
           let f = start-is e in
           let y = m .marking held (k .is) (k .once) .yes (is-good f) in
           (λ _. record { block = y .0; first = sym (m .start (is-good f)) ∙ f }, y .1, y .2);
-      not = λ e own once. go (found .good) refl (λ f. eqb-false (found .start) (suc q) (sym good ∙ e) f) held k (own d) once;
+      not = λ e own once. go (found .good) refl (λ f. eqb-false (found .start .0) (suc q) (sym good ∙ e) f) held k (own d) once;
     };
     slices = λ e. count ∙ m .slices (is-good (start-is e));
   }
     where
-      start-is : r .good ≡ true → found .start ≡ suc q
-      start-is e = eqb-true (found .start) (suc q) (sym good ∙ e)
+      start-is : r .good ≡ true → found .start .0 ≡ suc q
+      start-is e = eqb-true (found .start .0) (suc q) (sym good ∙ e)
 
-      by : (b : Bool) → found .good ≡ b → found .start ≡ suc q → found .good ≡ true
+      by : (b : Bool) → found .good ≡ b → found .start .0 ≡ suc q → found .good ≡ true
       by true e f = e
-      by false e f = absurd (omega (arith, m .none e .1))
+      by false e f = absurd (omega (arith, m .refused e .start))
 
-      is-good : found .start ≡ suc q → found .good ≡ true
+      is-good : found .start .0 ≡ suc q → found .good ≡ true
       is-good f = by (found .good) refl f
 
-      go : (b : Bool) → found .good ≡ b → (found .start ≡ suc q → ⊥) → (held : List ℕ) → Marked (g .slices) before held → OwnIndex image (g .first) (g .slice) (suc q)
-          → InRangeOnce (g .slices) (held ++ slicesFrom image (g .first) (g .slice) (suc q)) → ⊥
+      go : (b : Bool) → found .good ≡ b → (found .start .0 ≡ suc q → ⊥) → (held : List ℕ) → Marked (g .slices) before held → OwnIndex image (g .first .0) (g .slice) (suc q)
+          → InRangeOnce (g .slices) (held ++ slicesFrom image (g .first .0) (g .slice) (suc q)) → ⊥
       go true e ne held k own once = ne (m .start e ∙ own .first)
       go false e ne held k own once = m .marking held (k .is) (k .once) .not e (own .block) once
 
+  -- no slice starts below F, and past the image's end stands nothing
+  pub own-outside : {before : List ℕ} (q : ℕ) (r : Indexed) → UnitOf image g → (q ≡ 0 → ⊥) → (DataSector g q → ⊥) → r .good ≡ false → OwnMarking image g q before before r
+  own-outside q r unit named outside bad = record {
+    marking = λ held k. record {
+      yes = λ e. absurd (true≢false (sym e ∙ bad));
+      not = λ e own once. refuted (own named);
+    };
+    slices = λ e. absurd (true≢false (sym e ∙ bad));
+  }
+    where
+      past-image : length image ≤ q * 256 → word image q 0 ≡ 0
+      past-image h = ap (λ (i : ℕ). getD image i 0) (add-zero (q * 256)) ∙ List·getD-eq-default image 0 h
+
+      refuted : OwnIndex image (g .first .0) (g .slice) q → ⊥
+      refuted own = below-or q (g .sectors)
+          (λ high. outside (record { low = omega (arith, own .first); high = high }))
+          (λ past. omega (arith, own .block .some, past-image (omega (arith, unit .size))))
+
   -- ---- the whole file
 
-  module _ {before after : List ℕ} {q : ℕ} (entry : Entry) (live : Live) {found : Indexed} (at : q ≡ indexBy live (entry .index)) where
-    moved : OwnMarking image g q before after found → OwnMarking image g (indexBy live (entry .index)) before after found
+  module _ {before after : List ℕ} {q : ℕ} (entry : Entry) (live : Live) {found : Indexed} (at : q ≡ indexBy live (entry .index .0)) where
+    moved : OwnMarking image g q before after found → OwnMarking image g (indexBy live (entry .index .0)) before after found
     moved = subst (λ (n : ℕ). OwnMarking image g n before after found) at
 
     pub file-refused : OwnMarking image g q before after found → found .good ≡ false → FileMarking image g entry live before after false
@@ -148,7 +169,7 @@ module _ {image : List ℕ} {g : Geometry} where
 
 module _ (image : List ℕ) (state : State) (F s : ℕ) (P : ℕ → ℕ → ℕ) (t : ℕ) where
   abbrev pub entryIn : Entry
-  entryIn = record { attributes = P t 6; size = P t 7; index = P t 8; reserved = P t 9 }
+  entryIn = record { attributes = P t 6; size = P t 7; index = record { 0 = P t 8 }; reserved = P t 9 }
 
   abbrev area : Option Area
   area = openArea state (nameAt P t)

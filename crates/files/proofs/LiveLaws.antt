@@ -29,7 +29,7 @@ module _ (names indexes lengths : List ℕ) (name : ℕ) where
     unfolding liveIn
     live-start = let e : n ≡ n - 0 = omega arith in ap (From 0) e
 
-    pub live-hit : (j : ℕ) → j < n → getD names j 0 ≡ name → From j (n - j) ≡ record { opened = true; index = getD indexes j 0; length = getD lengths j 0 }
+    pub live-hit : (j : ℕ) → j < n → getD names j 0 ≡ name → From j (n - j) ≡ record { opened = true; index = record { 0 = getD indexes j 0 }; length = getD lengths j 0 }
     unfolding liveFrom
     live-hit j h e =
         let m : n - j ≡ suc (n - (j + 1)) = omega arith in
@@ -60,7 +60,7 @@ module _ (names indexes lengths : List ℕ) (name : ℕ) where
     live-more j zero m l z = sym (live-none j m (λ i h. z i (omega arith) h))
     live-more j (suc n) zero l z = absurd (omega arith)
     live-more j (suc n) (suc m) l z =
-        ap (cond (eqb (getD names j 0) name) (record { opened = true; index = getD indexes j 0; length = getD lengths j 0 }))
+        ap (cond (eqb (getD names j 0) name) (record { opened = true; index = record { 0 = getD indexes j 0 }; length = getD lengths j 0 }))
         (live-more (suc j) n m (omega arith) (λ i k h. ap (λ (n : ℕ). getD names n 0) (let f : suc j + i ≡ j + suc i = omega arith in f) ∙ z (suc i) (omega arith) (omega arith)))
 
     pub live-all : {n : ℕ} → OpenUpto names n → liveIn names indexes lengths n name ≡ From 0 8
@@ -91,7 +91,7 @@ module _ (names indexes lengths : List ℕ) (name : ℕ) (named : name ≡ 0 →
       first = ap (λ (n : ℕ). getD names n 0) (sym at) ∙ x 0 (omega arith)
 
       found : Live
-      found = record { opened = true; index = getD indexes j 0; length = getD lengths j 0 }
+      found = record { opened = true; index = record { 0 = getD indexes j 0 }; length = getD lengths j 0 }
 
       pass : liveFrom names indexes lengths name (suc j) (length l) ≡ liveOf (firstOpen name l) → eqb (getD names j 0) name ≡ false → (a .live && eqb (areaName a) name) ≡ false
           → cond (eqb (getD names j 0) name) found (liveFrom names indexes lengths name (suc j) (length l)) ≡ liveOf (cond (a .live && eqb (areaName a) name) (some a) (firstOpen name l))
@@ -99,7 +99,7 @@ module _ (names indexes lengths : List ℕ) (name : ℕ) (named : name ≡ 0 →
 
       same : found ≡ liveOf (some a)
       same =
-          ap₂ (λ (m n : ℕ). record { opened = true; index = m; length = n })
+          ap₂ (λ (m n : ℕ). record { opened = true; index = record { 0 = m }; length = n })
           (ap (λ (n : ℕ). getD indexes n 0) (sym at) ∙ y 0 (omega arith))
           (ap (λ (n : ℕ). getD lengths n 0) (sym at) ∙ z 0 (omega arith))
 

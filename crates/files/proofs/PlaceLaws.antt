@@ -52,11 +52,11 @@ module _ {image : List ℕ} {g : Geometry} {lives : ℕ → Live} {w : ℕ → �
       moved : FileMarking image g (entryOf w) (lives (nameBy w)) before after a
       moved = subst (λ (x : Live). FileMarking image g (entryOf w) x before after a) (l ∙ ap lives e) m
 
-      to : FileRules image (g .first) (g .slice) (entryOf w) (lives (nameBy w)) → PlaceRules image g lives w
+      to : FileRules image (g .first .0) (g .slice) (entryOf w) (lives (nameBy w)) → PlaceRules image g lives w
       to f = record { file = λ _ _. f }
 
-      fro : PlaceRules image g lives w → FileRules image (g .first) (g .slice) (entryOf w) (lives (nameBy w))
+      fro : PlaceRules image g lives w → FileRules image (g .first .0) (g .slice) (entryOf w) (lives (nameBy w))
       fro p = p .file (λ z. d (e ∙ z)) (T-not t)
 
-      same : fileSlices image (g .first) (g .slice) (entryOf w) (lives (nameBy w)) ≡ heldBy (nameBy w) (fileSlices image (g .first) (g .slice) (entryOf w) (lives (nameBy w)))
+      same : fileSlices image (g .first .0) (g .slice) (entryOf w) (lives (nameBy w)) ≡ heldBy (nameBy w) (fileSlices image (g .first .0) (g .slice) (entryOf w) (lives (nameBy w)))
       same = sym (held-file (nameBy w) _ (λ z. d (e ∙ z)) t)

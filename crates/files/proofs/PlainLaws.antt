@@ -16,7 +16,8 @@ use Rattle.disc.proofs.NumberLaws.{need-le}
 use Rattle.kit.specs.declared.Geometry.{Geometry}
 use Rattle.kit.specs.Geometry.{UnitOf}
 use Rattle.marks.specs.Marked.{SomeMarked}
-use Rattle.marks.specs.Indexed.{SingleMarking}
+use Rattle.marks.specs.Indexed.{SingleFile, SingleMarking}
+use Rattle.marks.proofs.SingleLaws.{single-whole, single-index}
 use Rattle.entries.proofs.PlaceLaws.{T-of}
 use Rattle.files.specs.declared.Live.{Live}
 use Rattle.files.specs.declared.Entry.{Entry}
@@ -34,20 +35,26 @@ module _ {image : List ℕ} {g : Geometry} {before : List ℕ} (entry : Entry) w
   pub closed-left : ClosedMarking image g entry before before false
   closed-left = record { yes = λ e. absurd (true≢false (sym e)); not = λ _. refl }
 
-  module _ {after : List ℕ} {r : Bool} (unit : UnitOf image g) (plain : PlainNumbers entry) (single : SingleMarking image g (entry .index) (entry .reserved) before after r) where
+  module _ {after : List ℕ} {r : Bool} (unit : UnitOf image g) (plain : PlainNumbers entry) (held : SomeMarked (g .slices) before) (single : SingleMarking image g (entry .index .0) (entry .reserved) before after r) where
     abbrev s : ℕ
     s = g .slice
 
     abbrev count : ℕ
     count = entry .reserved / s
 
+    file : r ≡ true → SingleFile image g (entry .index .0) (entry .reserved) before
+    file e = single .yes e .0
+
+    whole : r ≡ true → count * s ≡ entry .reserved
+    whole e = single-whole image g (entry .index .0) (entry .reserved) unit held (file e) (single .yes e .1)
+
     enough : r ≡ true → need s (entry .size) ≤ count
     enough e = same-or (entry .size) 0
         (λ z. rw z (omega arith))
-        (λ d. need-le s (entry .size) count (omega (arith, unit .limits .slice-low)) (omega arith) .1 (omega (arith, single .whole e, plain .short)))
+        (λ d. need-le s (entry .size) count (omega (arith, unit .limits .slice-low)) (omega arith) .1 (omega (arith, whole e, plain .short)))
 
     some : r ≡ true → count ≡ 0 → ⊥
-    some e z = omega (arith, single .whole e, single .some e, ap (λ (n : ℕ). n * s) z)
+    some e z = omega (arith, whole e, file e .slices .some, ap (λ (n : ℕ). n * s) z)
 
     numbers : r ≡ true → (live : Live) → live .opened ≡ false → FileNumbers s entry live count
     numbers e live shut =
@@ -55,19 +62,20 @@ module _ {image : List ℕ} {g : Geometry} {before : List ℕ} (entry : Entry) w
         record {
           allowed = T-of (plain .allowed);
           entryOnly = T-of (sym (with-some (entry .attributes) count (some e)) ∙ ap B.not (plain .slices));
-          short = omega (arith, long, plain .short, single .high e, unit .limits .sectors);
+          short = omega (arith, long, plain .short, file e .high, unit .limits .sectors);
           covered = subst (λ (n : ℕ). need s n ≤ count) (sym long) (enough e);
-          closed = λ _. sym (single .whole e) ∙ mul-comm count s;
+          closed = λ _. sym (whole e) ∙ mul-comm count s;
           booked = λ o. absurd (true≢false (sym o ∙ shut));
         }
 
     pub closed-marked : ClosedMarking image g entry before after r
     closed-marked = record {
       yes = λ e live shut.
-          file-judged entry live (sym (ap (λ (b : Bool). cond b (live .index) (entry .index)) shut))
-          (own-some (entry .index) (record { good = true; slices = count; start = entry .index }) (λ z. omega (arith, single .low e, unit .limits .first)) (single .yes e) (sym (eq-eqb (entry .index) (entry .index) refl)) refl)
+          file-judged entry live (sym (ap (λ (b : Bool). cond b (live .index .0) (entry .index .0)) shut))
+          (own-some (entry .index .0) (record { good = true; slices = count; start = entry .index }) (λ z. omega (arith, file e .slices .low, unit .limits .first))
+          (single-index image g (entry .index .0) (entry .reserved) unit held (file e) (single .yes e .1)) (sym (eq-eqb (entry .index .0) (entry .index .0) refl)) refl)
           refl (holds (numbers e live shut));
-      not = single .not;
+      not = λ e. single .not e .1;
     }
 
 -- the same with an entry that is written otherwise

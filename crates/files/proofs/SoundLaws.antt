@@ -56,12 +56,12 @@ module _ (image : List ℕ) (state : State) (g : Geometry) (names indexes length
   live-at : (t : ℕ) → (nameAt P t ≡ 0 → ⊥) → lives (nameAt P t) ≡ liveOf (openArea state (nameAt P t))
   live-at t d = live-state names indexes lengths (nameAt P t) d state eight flat none
 
-  slices-same : (t : ℕ) → placeSlices image g lives (P t) ≡ heldBy (nameAt P t) (slicesOf image state (g .first) (g .slice) P t)
+  slices-same : (t : ℕ) → placeSlices image g lives (P t) ≡ heldBy (nameAt P t) (slicesOf image state (g .first .0) (g .slice) P t)
   unfolding placeSlices
   slices-same t = held-same (nameAt P t) (λ d.
-      ap (slicesFrom image (g .first) (g .slice)) (ap (λ (l : Live). indexBy l (P t 8)) (live-at t d) ∙ index-of (openArea state (nameAt P t)) (P t 8)))
+      ap (slicesFrom image (g .first .0) (g .slice)) (ap (λ (l : Live). indexBy l (P t 8)) (live-at t d) ∙ index-of (openArea state (nameAt P t)) (P t 8)))
 
-  slices-below : (n : ℕ) → joined (λ t. placeSlices image g lives (P t)) n ≡ slicesBelow image state (g .first) (g .slice) P n
+  slices-below : (n : ℕ) → joined (λ t. placeSlices image g lives (P t)) n ≡ slicesBelow image state (g .first .0) (g .slice) P n
   unfolding joined
   slices-below zero = refl
   slices-below (suc n) = ap₂ (λ (a b : List ℕ). a ++ b) (slices-below n) (slices-same n)
@@ -70,15 +70,15 @@ module _ (image : List ℕ) (state : State) (g : Geometry) (names indexes length
     to : ((t : ℕ) → t < count → PlaceRules image g lives (P t)) → SoundFiles image state g count
     to all t h used ordinary =
         let d : nameAt P t ≡ 0 → ⊥ = legal-some (nameAt P t) (legal .legal t h used) in
-        rules-sound image state (g .first) (g .slice) P t (subst (FileRules image (g .first) (g .slice) (entryOf (P t))) (live-at t d) (all t h .file d ordinary))
+        rules-sound image state (g .first .0) (g .slice) P t (subst (FileRules image (g .first .0) (g .slice) (entryOf (P t))) (live-at t d) (all t h .file d ordinary))
 
     fro : SoundFiles image state g count → (t : ℕ) → t < count → PlaceRules image g lives (P t)
     fro files t h = record {
       file = λ d ordinary.
-          subst (FileRules image (g .first) (g .slice) (entryOf (P t))) (sym (live-at t d))
-          (sound-rules image state (g .first) (g .slice) P t (files t h (λ u. d (unused-name u)) ordinary));
+          subst (FileRules image (g .first .0) (g .slice) (entryOf (P t))) (sym (live-at t d))
+          (sound-rules image state (g .first .0) (g .slice) P t (files t h (λ u. d (unused-name u)) ordinary));
     }
 
     pub files-marked : {before after : List ℕ} {r : Bool} → PlacesMarking image g lives P count before after r → Marked (g .slices) before (sysSlices image g)
-        → Marking r (SoundFiles image state g count) (g .slices) after (sysSlices image g) (slicesBelow image state (g .first) (g .slice) P count)
+        → Marking r (SoundFiles image state g count) (g .slices) after (sysSlices image g) (slicesBelow image state (g .first .0) (g .slice) P count)
     files-marked m k = marking-map to fro (slices-below count) (m .marking (sysSlices image g) k)

@@ -23,14 +23,14 @@ pub turn-places : {image : List ℕ} {g : Geometry} {size j b n start : ℕ} →
     → (i : ℕ) → i < 16 * n → placesFrom image (start * 256) i ≡ placesIn image g (16 * b + i)
 turn-places {image} {g} {size} {j} {b} {n} {start} t i h = λ k w. each w k
   where
-    sector : sectorIn (g .first) (g .slice) (sysSlices image g) ((16 * b + i) / 16 + 0) ≡ start + i / 16
+    sector : sectorIn (g .first .0) (g .slice) (sysSlices image g) ((16 * b + i) / 16 + 0) ≡ start + i / 16
     sector =
         let e : (16 * b + i) / 16 + 0 ≡ b + i / 16 = omega arith in
-        ap (sectorIn (g .first) (g .slice) (sysSlices image g)) e ∙ t .walk (i / 16) (omega arith)
+        ap (sectorIn (g .first .0) (g .slice) (sysSlices image g)) e ∙ t .walk (i / 16) (omega arith)
 
     each : (w : ℕ) → placesFrom image (start * 256) i w ≡ placesIn image g (16 * b + i) w
     each w =
         let r : (16 * b + i) % 16 ≡ i % 16 = omega arith in
         let x : start * 256 + 16 * i + w ≡ (start + i / 16) * 256 + (i % 16 * 16 + w) = omega arith in
-        let y : (start + i / 16) * 256 + (i % 16 * 16 + w) ≡ sectorIn (g .first) (g .slice) (sysSlices image g) ((16 * b + i) / 16 + 0) * 256 + ((16 * b + i) % 16 * 16 + w) = omega (arith, sector, r) in
+        let y : (start + i / 16) * 256 + (i % 16 * 16 + w) ≡ sectorIn (g .first .0) (g .slice) (sysSlices image g) ((16 * b + i) / 16 + 0) * 256 + ((16 * b + i) % 16 * 16 + w) = omega (arith, sector, r) in
         ap (λ (n : ℕ). getD image n 0) (x ∙ y)

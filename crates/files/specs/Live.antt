@@ -5,6 +5,7 @@ use mathlib.Core.List.{List}
 use mathlib.Core.Option.{Option, none, some}
 use Prim.Native.Nat.{ℕ, zero, suc, _+_, _/_, _%_, _≤_, _<_}
 use lib.ListN.{getD}
+use lib.ListN as ListN
 use lib.Dec.{eqb}
 use Rattle.types.specs.declared.Area.{Area}
 use Rattle.types.specs.declared.State.{State}
@@ -14,16 +15,16 @@ use Rattle.files.specs.declared.Live.{Live}
 
 -- No area process of the name is open.
 abbrev pub closedFile : Live
-closedFile = record { opened = false; index = 0; length = 0 }
+closedFile = record { opened = false; index = record { 0 = 0 }; length = 0 }
 
 -- "Where an area process is open, index sector and length are the process's".
 abbrev pub liveOf : Option Area → Live
 liveOf none = closedFile
-liveOf (some a) = record { opened = true; index = a .index .0; length = a .length }
+liveOf (some a) = record { opened = true; index = a .index; length = a .length }
 
 -- The index sector and the length that count, beside those that the entry says.
 abbrev pub indexBy : Live → ℕ → ℕ
-indexBy live booked = cond (live .opened) (live .index) booked
+indexBy live booked = cond (live .opened) (live .index .0) booked
 
 abbrev pub lengthBy : Live → ℕ → ℕ
 lengthBy live booked = cond (live .opened) (live .length) booked
@@ -32,7 +33,7 @@ lengthBy live booked = cond (live .opened) (live .length) booked
 unfoldable pub liveFrom : List ℕ → List ℕ → List ℕ → ℕ → ℕ → ℕ → Live
 liveFrom names indexes lengths name j zero = closedFile
 liveFrom names indexes lengths name j (suc n) =
-    cond (eqb (getD names j 0) name) (record { opened = true; index = getD indexes j 0; length = getD lengths j 0 }) (liveFrom names indexes lengths name (suc j) n)
+    cond (eqb (getD names j 0) name) (record { opened = true; index = record { 0 = getD indexes j 0 }; length = getD lengths j 0 }) (liveFrom names indexes lengths name (suc j) n)
 
 -- The same among the first `upto` names.
 unfoldable pub liveIn : List ℕ → List ℕ → List ℕ → ℕ → ℕ → Live
@@ -44,6 +45,7 @@ openName a = cond (a .live) (areaName a) 0
 
 -- "Eight area processes": the lists hold what the state's descriptors say.
 pub record FlatOf (state : State) (names indexes lengths : List ℕ) : Type 0 where
+  pub sizes : (ListN.length names ≡ 8) × (ListN.length indexes ≡ 8) × (ListN.length lengths ≡ 8)
   pub name : (j : ℕ) → j < 8 → getD names j 0 ≡ openName (areaAt state j)
   pub index : (j : ℕ) → j < 8 → getD indexes j 0 ≡ areaAt state j .index .0
   pub length : (j : ℕ) → j < 8 → getD lengths j 0 ≡ areaAt state j .length

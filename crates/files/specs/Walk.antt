@@ -26,11 +26,11 @@ nameBy w = pack (w 0) (w 1) (w 2)
 
 -- The slices that the place with these words holds; the area processes are known by name.
 unfoldable pub placeSlices : List ℕ → Geometry → (ℕ → Live) → (ℕ → ℕ) → List ℕ
-placeSlices image g lives w = heldBy (nameBy w) (fileSlices image (g .first) (g .slice) (entryOf w) (lives (nameBy w)))
+placeSlices image g lives w = heldBy (nameBy w) (fileSlices image (g .first .0) (g .slice) (entryOf w) (lives (nameBy w)))
 
 -- "Every other file has legal attributes, ..": neither an unused place nor SYS or MAP has more rules.
 pub record PlaceRules (image : List ℕ) (g : Geometry) (lives : ℕ → Live) (w : ℕ → ℕ) : Type 0 where
-  pub file : (nameBy w ≡ 0 → ⊥) → (T (isSystem (nameBy w)) → ⊥) → FileRules image (g .first) (g .slice) (entryOf w) (lives (nameBy w))
+  pub file : (nameBy w ≡ 0 → ⊥) → (T (isSystem (nameBy w)) → ⊥) → FileRules image (g .first .0) (g .slice) (entryOf w) (lives (nameBy w))
 
 -- The first n of a sequence of lists, joined.
 unfoldable pub joined : (ℕ → List ℕ) → ℕ → List ℕ
@@ -53,7 +53,7 @@ placesFrom image at i = wordsAt image (at + 16 * i)
 -- What is known of SYS by then: its index block is legal, its slices are marked, and its slices have room for the blocks.
 pub record SysKnown (image : List ℕ) (g : Geometry) (marks : List ℕ) (blocks : ℕ) : Type 0 where
   pub unit : UnitOf image g
-  pub index : IndexBlock image (g .first) (g .slice) sysIndexSector
+  pub index : IndexBlock image (g .first .0) (g .slice) sysIndexSector
   pub marked : Marked (g .slices) marks (sysSlices image g)
   pub room : blocks ≤ g .slice * length (sysSlices image g)
 
@@ -85,4 +85,4 @@ pub record PlainPlaces (image : List ℕ) (g : Geometry) (P : ℕ → ℕ → �
 -- The ordinary files of a sound unit.
 abbrev pub SoundFiles : List ℕ → State → Geometry → ℕ → Type 0
 SoundFiles image state g count =
-    (t : ℕ) → t < count → Used (placesIn image g) t → (T (isSystem (nameAt (placesIn image g) t)) → ⊥) → SoundFile image state (g .first) (g .slice) (placesIn image g) t
+    (t : ℕ) → t < count → Used (placesIn image g) t → (T (isSystem (nameAt (placesIn image g) t)) → ⊥) → SoundFile image state (g .first .0) (g .slice) (placesIn image g) t

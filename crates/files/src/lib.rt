@@ -2,32 +2,34 @@
 // stretches, and the slices that the files have are marked.
 
 ghost use mathlib.Core.Path.{_≡_};
-ghost use mathlib.Core.Bool.{true};
-ghost use Prim.Native.Nat.{_+_, _*_, _≤_, _<_};
+ghost use mathlib.Core.Bool.{false};
+ghost use mathlib.Core.List.{[]};
+ghost use Prim.Native.Nat.{_+_, _*_, _/_, _≤_, _<_};
 ghost use lib.ListN.{length};
 ghost use Rattle.disc.specs.Decide.{Decides};
 ghost use Rattle.disc.specs.Numbers.{need};
 ghost use Rattle.disc.specs.Attributes.{legalAttributes, legalWith, entryOnly};
-ghost use Rattle.disc.specs.Names.{isSystem};
 ghost use Rattle.disc.specs.Entries.{placeCount};
 ghost use Rattle.sound.specs.Places.{Booked};
 ghost use Rattle.sound.specs.Sound.{slicesBelow};
-ghost use Rattle.sound.specs.Parts.{Marking};
+ghost use Rattle.sound.specs.Parts.{Marking, MarksOf};
 ghost use Rattle.files.specs.Live.{indexBy, lengthBy, liveIn, openName, nameCell, CellsOf, FlatOf, OpenUpto};
 ghost use Rattle.kit.specs.Geometry.{UnitOf};
 ghost use Rattle.marks.specs.Marked.{SomeMarked};
 ghost use Rattle.entries.specs.Sys.{sysSlices, placesIn};
 ghost use Rattle.files.specs.Walk.{nameBy, placesFrom, PlaceMarking, PlacesMarking, SysKnown, NamesKnown, OrdinaryPlace, OrdinaryPlaces, PlainMarking, PlainPlaces, SoundFiles};
-ghost use Rattle.files.specs.Rules.{wordsAt, entryAt, FileNumbers, OwnMarking, FileMarking, PlainNumbers, ClosedMarking};
+ghost use Rattle.files.specs.Rules.{wordsAt, entryAt, FileNumbers, DataSector, OwnMarking, FileMarking, PlainNumbers, ClosedMarking};
 use kit::Geometry;
 use marks::Indexed;
 use types::Area;
+use types::Name;
+use types::Sector;
 use types::State;
 
 // What is known of a file's area process: whether it is open, and then its index sector and length.
 pub struct Live {
     pub opened: bool,
-    pub index: u16,
+    pub index: Sector,
     pub length: u16,
 }
 
@@ -35,7 +37,7 @@ pub struct Live {
 pub struct Entry {
     pub attributes: u16,
     pub size: u16,
-    pub index: u16,
+    pub index: Sector,
     pub reserved: u16,
 }
 
@@ -87,8 +89,7 @@ fn open_name(area: Area) -> u64
     ensures { λ r. ⌜ r ≡ openName area ⌝ }
 {
     if area.live {
-        let name = area.name;
-        return (name.0 as u64 * 65536 + name.1 as u64) * 65536 + name.2 as u64;
+        return names::packed(area.name);
     }
     0
 }
@@ -155,10 +156,10 @@ pub fn live_of(
 {
     let mut j: usize = 0;
     while j < upto {
-        if names[j] == name {
+        if names::same_number(names[j], name) {
             return Live {
                 opened: true,
-                index: indexes[j],
+                index: Sector(indexes[j]),
                 length: lengths[j],
             };
         }
@@ -166,14 +167,14 @@ pub fn live_of(
     }
     Live {
         opened: false,
-        index: 0,
+        index: Sector(0),
         length: 0,
     }
 }
 
 // The index sector that counts.
-fn live_index(live: Live, booked: u16) -> u16
-    ensures { λ r. ⌜ r ≡ indexBy live booked ⌝ }
+fn live_index(live: Live, booked: Sector) -> Sector
+    ensures { λ r. ⌜ r .0 ≡ indexBy live (booked .0) ⌝ }
 {
     if live.opened {
         return live.index;
@@ -199,7 +200,7 @@ fn entry_at(image: &[u16], at: usize) -> Entry
     Entry {
         attributes: image[at + 6],
         size: image[at + 7],
-        index: image[at + 8],
+        index: Sector(image[at + 8]),
         reserved: image[at + 9],
     }
 }
@@ -207,8 +208,10 @@ fn entry_at(image: &[u16], at: usize) -> Entry
 // Whether an entry may stand beside the open area process of a file with so many slices.
 fn booked_legal(entry: Entry, live: Live, slices: u16, s: u16) -> bool
     requires { ⌜ 1 ≤ s ⌝ }
-    ensures { λ r. ⌜ Decides r (Booked s (entry .size) (entry .index) (entry .reserved) (live .length) (live .index) slices) ⌝ }
+    ensures { λ r. ⌜ Decides r (Booked s (entry .size) (entry .index .0) (entry .reserved) (live .length) (live .index .0) slices) ⌝ }
 {
+    let index = entry.index;
+    let live_at = live.index;
     let own = entry.reserved / s;
     if own * s != entry.reserved {
         return false;
@@ -223,9 +226,9 @@ fn booked_legal(entry: Entry, live: Live, slices: u16, s: u16) -> bool
         return false;
     }
     if own == 0 {
-        return entry.index == 0;
+        return index.0 == 0;
     }
-    entry.index == live.index
+    index.0 == live_at.0
 }
 
 // Whether the numbers of a file with so many slices are legal.
@@ -252,24 +255,43 @@ fn numbers_legal(entry: Entry, live: Live, slices: u16, s: u16) -> bool
     entry.reserved as u32 == s as u32 * slices as u32
 }
 
-// Judges the index block in sector q, which must be the first sector of the first slice, and marks the slices; for q = 0 there
-// are none. A refused block says that its first slice begins at sector 0.
-fn own_index(image: &[u16], q: u16, g: Geometry, marks: &mut [u8; 4096]) -> Indexed
-    requires { ⌜ UnitOf (now image) g × SomeMarked (g .slices) (now marks) ⌝ }
-    ensures { λ r. ⌜ OwnMarking (now (image .entry)) g q (now (marks .entry)) (now (marks .exit)) r ⌝ }
+// Whether sector q is a data sector of the unit.
+fn is_data_sector(q: Sector, g: Geometry) -> bool
+    ensures { λ r. ⌜ Decides r (DataSector g (q .0)) ⌝ }
 {
-    if q == 0 {
+    let first = g.first;
+    if q.0 < first.0 {
+        return false;
+    }
+    q.0 < g.sectors
+}
+
+// Judges the index block in sector q, which must be the first sector of the first slice, and marks the slices; for q = 0 there
+// are none. No block is read in another sector than a data sector. A refused block says that its first slice begins at sector 0.
+fn own_index(image: &[u16], q: Sector, g: Geometry, marks: &mut [u8; 4096]) -> Indexed
+    requires { ⌜ UnitOf (now image) g × SomeMarked (g .slices) (now marks) ⌝ }
+    ensures { λ r. ⌜ OwnMarking (now (image .entry)) g (q .0) (now (marks .entry)) (now (marks .exit)) r ⌝ }
+{
+    if q.0 == 0 {
         return Indexed {
             good: true,
             slices: 0,
-            start: 0,
+            start: Sector(0),
+        };
+    }
+    if !is_data_sector(q, g) {
+        return Indexed {
+            good: false,
+            slices: 0,
+            start: Sector(0),
         };
     }
     let found = marks::mark_index(image, q, g, marks);
+    let start = found.start;
     Indexed {
-        good: found.start == q,
+        good: start.0 == q.0,
         slices: found.slices,
-        start: found.start,
+        start: start,
     }
 }
 
@@ -288,7 +310,7 @@ fn file_sound(image: &[u16], at: usize, live: Live, g: Geometry, marks: &mut [u8
 
 // Whether the numbers of an entry are those of a closed file with some slices, where so many sectors are reserved.
 fn plain_numbers(entry: Entry) -> bool
-    ensures { λ r. ⌜ (r ≡ true → PlainNumbers entry) ⌝ }
+    ensures { λ r. ⌜ Decides r (PlainNumbers entry) ⌝ }
 {
     if entry.reserved <= entry.size {
         return false;
@@ -307,7 +329,7 @@ fn plain_file(
     reciprocal: u32,
     marks: &mut [u8; 4096],
 ) -> bool
-    requires { ⌜ UnitOf (now image) g × SomeMarked (g .slices) (now marks) × (at + 16 ≤ length (now image)) × (reciprocal ≤ 65536) ⌝ }
+    requires { ⌜ UnitOf (now image) g × SomeMarked (g .slices) (now marks) × (at + 16 ≤ length (now image)) × (reciprocal ≡ 65536 / g .slice + 1) ⌝ }
     ensures { λ r. ⌜ ClosedMarking (now (image .entry)) g (entryAt (now (image .entry)) at) (now (marks .entry)) (now (marks .exit)) r ⌝ }
 {
     let entry = entry_at(image, at);
@@ -322,14 +344,7 @@ fn name_at(image: &[u16], at: usize) -> u64
     requires { ⌜ at + 16 ≤ length (now image) ⌝ }
     ensures { λ r. ⌜ r ≡ nameBy (wordsAt (now (image .entry)) at) ⌝ }
 {
-    (image[at] as u64 * 65536 + image[at + 1] as u64) * 65536 + image[at + 2] as u64
-}
-
-// Whether a name is 'SYS' or 'MAP'.
-fn is_system(name: u64) -> bool
-    ensures { λ r. ⌜ r ≡ isSystem name ⌝ }
-{
-    name == 0x535953000000 || name == 0x4D4150000000
+    names::packed(Name(image[at], image[at + 1], image[at + 2]))
 }
 
 // Judges the place that stands at a word of the image, and marks the slices that it holds.
@@ -350,7 +365,7 @@ fn place_sound(
     if name == 0 {
         return true;
     }
-    if is_system(name) {
+    if names::is_system_number(name) {
         return true;
     }
     let live = live_of(names, indexes, lengths, upto, name);
@@ -366,10 +381,11 @@ fn plain_place(
     reciprocal: u32,
     marks: &mut [u8; 4096],
 ) -> bool
-    requires { ⌜ UnitOf (now image) g × SomeMarked (g .slices) (now marks) × (at + 16 ≤ length (now image)) × (reciprocal ≤ 65536) × OrdinaryPlace (wordsAt (now image) at) ⌝ }
+    requires { ⌜ UnitOf (now image) g × SomeMarked (g .slices) (now marks) × (at + 16 ≤ length (now image)) × (reciprocal ≡ 65536 / g .slice + 1) × OrdinaryPlace (wordsAt (now image) at) ⌝ }
     ensures { λ r. ⌜ PlainMarking (now (image .entry)) g (wordsAt (now (image .entry)) at) (now (marks .entry)) (now (marks .exit)) r ⌝ }
 {
-    if image[at + 8] < g.first {
+    let first = g.first;
+    if image[at + 8] < first.0 {
         return name_at(image, at) == 0;
     }
     plain_file(image, at, g, reciprocal, marks)
@@ -389,7 +405,7 @@ fn guarded_run(
     requires { ⌜ UnitOf (now image) g × SomeMarked (g .slices) (now marks) × (at + 16 * count ≤ length (now image)) × OrdinaryPlaces (placesFrom (now image) at) count ⌝ }
     ensures { λ r. ⌜ PlainPlaces (now (image .entry)) g (placesFrom (now (image .entry)) at) count upto (now (cells .entry)) (now (marks .entry)) (now (marks .exit)) r ⌝ }
 {
-    let reciprocal = marks::reciprocal(g.slice);
+    let reciprocal = numbers::reciprocal(g.slice);
     let mut i: usize = 0;
     while i < count {
         if cells[name_cell(name_at(image, at + 16 * i))] != 0 {
@@ -420,7 +436,7 @@ fn plain_run(
     if upto != 0 {
         return guarded_run(image, at, count, upto, cells, g, marks);
     }
-    let reciprocal = marks::reciprocal(g.slice);
+    let reciprocal = numbers::reciprocal(g.slice);
     let mut i: usize = 0;
     while i < count {
         if !plain_place(image, at + 16 * i, g, reciprocal, marks) {
@@ -530,7 +546,8 @@ fn stretches_sound(
     true
 }
 
-// Judges all ordinary files, whose entries stand in the first `layers` layers of SYS, and marks their slices beside SYS's.
+// Judges all ordinary files, whose entries stand in the first `layers` layers of SYS, and marks their slices beside SYS's. Where one
+// is refused, no slice is left marked.
 pub fn files_sound(
     image: &[u16],
     state: State,
@@ -539,7 +556,8 @@ pub fn files_sound(
     marks: &mut [u8; 4096],
 ) -> bool
     requires { ⌜ SysKnown (now image) g (now marks) (g .keys * layers) × NamesKnown (now image) g (placeCount (g .keys) layers) ⌝ }
-    ensures { λ r. ⌜ Marking r (SoundFiles (now (image .entry)) state g (placeCount (g .keys) layers)) (g .slices) (now (marks .exit)) (sysSlices (now (image .entry)) g) (slicesBelow (now (image .entry)) state (g .first) (g .slice) (placesIn (now (image .entry)) g) (placeCount (g .keys) layers)) ⌝ }
+    ensures refused { λ r. ⌜ (r ≡ false → MarksOf (now (marks .exit)) []) ⌝ }
+    ensures marking { λ r. ⌜ Marking r (SoundFiles (now (image .entry)) state g (placeCount (g .keys) layers)) (g .slices) (now (marks .exit)) (sysSlices (now (image .entry)) g) (slicesBelow (now (image .entry)) state (g .first .0) (g .slice) (placesIn (now (image .entry)) g) (placeCount (g .keys) layers)) ⌝ }
 {
     let mut names: [u64; 8] = [0; 8];
     let mut indexes: [u16; 8] = [0; 8];
@@ -548,7 +566,7 @@ pub fn files_sound(
     let upto = open_upto(&names);
     let mut cells: [u8; 256] = [0; 256];
     fill_cells(&names, upto, &mut cells);
-    stretches_sound(
+    if !stretches_sound(
         image,
         g.keys * layers,
         &names,
@@ -558,5 +576,9 @@ pub fn files_sound(
         &cells,
         g,
         marks,
-    )
+    ) {
+        marks::unmark_all(marks);
+        return false;
+    }
+    true
 }

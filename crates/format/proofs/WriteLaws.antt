@@ -1,8 +1,8 @@
 -- The parts of a fresh unit's image, put together from the stores that write them.
 use mathlib.Core.Path.{_≡_, refl, sym, ap, ap₂, _∙_}
 use mathlib.Core.List.{List, [], _∷_}
-use Prim.Native.Nat.{ℕ, _+_, _-_, _*_, _≤_, _<_, compare}
-use native.Mathlib.Nat.{mul-le-mul-left}
+use Prim.Native.Nat.{ℕ, _+_, _-_, _*_, _%_, _≤_, _<_, compare}
+use native.Mathlib.Nat.{mul-le-mul-left, mod-eq-of-lt}
 use native.Mathlib.Omega.{arith}
 use lib.ListN.{length}
 use mir.Syntax.{w16}
@@ -22,6 +22,10 @@ use Rattle.refine.proofs.FormatImage.{key-lt, length-system}
 -- the sector of a key lies in the image
 pub key-inside : (H s F N : ℕ) → Limits H s F N → (n k : ℕ) → k ≡ keyOf H n → F + k < N
 key-inside H s F N lim n k e = omega (arith, sys-end H s F N lim, key-lt H n (lim .keys-low))
+
+-- and is where the code has it
+pub key-sector : (H s F N : ℕ) → Limits H s F N → (n k : ℕ) → k ≡ keyOf H n → {q : ℕ} → q ≡ (F + k) % 65536 → q ≡ F + k
+key-sector H s F N lim n k e f = let h = key-inside H s F N lim n k e in f ∙ mod-eq-of-lt (omega (arith, lim .sectors))
 
 -- the sectors of some of the unit's slices are a word
 pub part-fits : (H s F N : ℕ) → Limits H s F N → {x : ℕ} → x ≤ sliceCount s F N → Fits w16 (s * x)
@@ -43,11 +47,13 @@ module _ (H s F N : ℕ) (lim : Limits H s F N) (used : ℕ) (is : used ≡ ceil
 
   -- SYS and its entries: its name's number and key, then MAP's and its place
   module _ (sys map sysKey mapKey place : ℕ) (sysIs : sys ≡ SYS) (mapIs : map ≡ MAP) (sysKeyIs : sysKey ≡ keyOf H sys) (mapKeyIs : mapKey ≡ keyOf H map) (placeIs : place ≡ oneIfSame (compare mapKey sysKey)) where
-    pub catalog-written : (image a b after : List ℕ) → a ≡ store image (F * 256 + 0) (zeroWords (256 * H))
-        → b ≡ store a ((F + sysKey) * 256 + 16 * 0) (systemEntry sys H 6 (s * used))
-        → after ≡ store b ((F + mapKey) * 256 + 16 * place) (systemEntry map 1 7 1) → after ≡ freshCatalog image H s F
+    pub catalog-written : (image a b after : List ℕ) → a ≡ store image (F * 256 + 0) (zeroWords (256 * H)) → {q : ℕ} → q ≡ F + sysKey
+        → b ≡ store a (q * 256 + 16 * 0) (systemEntry sys H 6 (s * used)) → {r : ℕ} → r ≡ F + mapKey
+        → after ≡ store b (r * 256 + 16 * place) (systemEntry map 1 7 1) → after ≡ freshCatalog image H s F
     unfolding freshCatalog enterAt clearSys
-    catalog-written image a b after e f g =
+    catalog-written image a b after e {q} qIs f′ {r} rIs g′ =
+        let f : b ≡ store a ((F + sysKey) * 256 + 16 * 0) (systemEntry sys H 6 (s * used)) = rw (← qIs) f′ in
+        let g : after ≡ store b ((F + mapKey) * 256 + 16 * place) (systemEntry map 1 7 1) = rw (← rIs) g′ in
         let size : H ≡ H * 1 = omega arith in
         let reserved : s * used ≡ s * length (sysSlices H s) = ap (λ (n : ℕ). s * n) (is ∙ sym (length-sys H s F N lim)) in
         let key₁ : sysKey ≡ keyOf H SYS = sysKeyIs ∙ ap (keyOf H) sysIs in

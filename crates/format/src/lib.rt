@@ -16,6 +16,7 @@ ghost use Rattle.refine.specs.Format.{storeBlock, mapWords};
 ghost use Rattle.format.specs.Format.{Formattable, LentLimits, lentSectors, systemBy, catalogBy, uninitialized, FormatAnswer};
 use types::Name;
 use types::Sector;
+use types::Slice;
 use types::State;
 
 // The result word, and the state after the call.
@@ -35,14 +36,14 @@ fn store_block(image: &mut [u16], q: Sector, block: &[u16])
 }
 
 // The bit of slice k: 1 if it is one of the unit's, and not one of the first `used` ones, which SYS has.
-fn map_bit(used: u16, slices: u16, k: usize) -> u16
-    requires { ⌜ 1 ≤ k ⌝ }
-    ensures { λ r. ⌜ r ≡ inUnit slices k * oneIfNone (occurrences k (span 1 used)) ⌝ }
+fn map_bit(used: u16, slices: u16, k: Slice) -> u16
+    requires { ⌜ 1 ≤ k .0 ⌝ }
+    ensures { λ r. ⌜ r ≡ inUnit slices (k .0) * oneIfNone (occurrences (k .0) (span 1 used)) ⌝ }
 {
-    if k <= used as usize {
+    if k.0 <= used {
         return 0;
     }
-    if (slices as usize) < k {
+    if slices < k.0 {
         return 0;
     }
     1
@@ -56,7 +57,7 @@ fn map_word(used: u16, slices: u16, w: usize) -> u16
     let mut word: u16 = 0;
     let mut b: usize = 0;
     while b < 16 {
-        word = word * 2 + map_bit(used, slices, 16 * w + 1 + b);
+        word = word * 2 + map_bit(used, slices, map::slice_at(w, b));
         b += 1;
     }
     word
@@ -91,13 +92,22 @@ fn write_system(image: &mut [u16], lent: &[u16])
     let keys = lent[1];
     let slice = lent[2];
     let sectors = lent[3];
-    let first = lent[5];
+    let first = Sector(lent[5]);
     let used = sys_slices(keys, slice);
-    let slices = (sectors - first) / slice;
+    let slices = (sectors - first.0) / slice;
     let free = slice * (slices - used);
-    let sys_index = [1, slice * used, first];
+    let sys_index = [1, slice * used, first.0];
     let map_index = [1, 1, 9];
-    let kit = [keys, slice, sectors, free, first, sectors, lent[7], lent[8]];
+    let kit = [
+        keys,
+        slice,
+        sectors,
+        free,
+        first.0,
+        sectors,
+        lent[7],
+        lent[8],
+    ];
     store_block(image, Sector(6), &sys_index);
     store_block(image, Sector(7), &map_index);
     store_block(image, Sector(8), &kit);
@@ -111,11 +121,11 @@ fn enter(
     place: usize,
     name: Name,
     size: u16,
-    index: u16,
+    index: Sector,
     reserved: u16,
 )
     requires { ⌜ (place < 16) × (q .0 * 256 + 256 ≤ length (now image)) ⌝ }
-    ensures { λ _. ⌜ now (image .exit) ≡ store (now (image .entry)) (q .0 * 256 + 16 * place) (systemEntry (pack (name .0) (name .1) (name .2)) size index reserved) ⌝ }
+    ensures { λ _. ⌜ now (image .exit) ≡ store (now (image .entry)) (q .0 * 256 + 16 * place) (systemEntry (pack (name .0) (name .1) (name .2)) size (index .0) reserved) ⌝ }
 {
     let entry = [
         name.0,
@@ -126,7 +136,7 @@ fn enter(
         0,
         0x8010,
         size,
-        index,
+        index.0,
         reserved,
         0,
         0,
@@ -155,21 +165,29 @@ fn write_catalog(image: &mut [u16], lent: &[u16])
 {
     let keys = lent[1];
     let slice = lent[2];
-    let first = lent[5];
+    let first = Sector(lent[5]);
     let sys = names::sys_name();
     let map = names::map_name();
     let sys_key = numbers::key(sys, keys);
     let map_key = numbers::key(map, keys);
     let reserved = slice * sys_slices(keys, slice);
-    words::clear_words(image, Sector(first), 0, 256 * keys as usize);
-    enter(image, Sector(first + sys_key), 0, sys, keys, 6, reserved);
+    words::clear_words(image, first, 0, 256 * keys as usize);
     enter(
         image,
-        Sector(first + map_key),
+        numbers::sector_after(first, sys_key),
+        0,
+        sys,
+        keys,
+        Sector(6),
+        reserved,
+    );
+    enter(
+        image,
+        numbers::sector_after(first, map_key),
         map_place(sys_key, map_key),
         map,
         1,
-        7,
+        Sector(7),
         1,
     );
 }
@@ -189,11 +207,11 @@ fn accepts(image: &[u16], state: State, lent: &[u16]) -> bool
         return false;
     }
     let sectors = lent[3];
-    let first = lent[5];
+    let first = Sector(lent[5]);
     if !kit::within_limits(lent[1], lent[2], first, sectors) {
         return false;
     }
-    if lent[4] != sectors - first {
+    if lent[4] != sectors - first.0 {
         return false;
     }
     if lent[6] != sectors {

@@ -1,7 +1,7 @@
 // Index blocks: read in place or as a value, changed as a value, and stored whole.
 
 ghost use mathlib.Core.Path.{_≡_};
-ghost use Prim.Native.Nat.{_+_, _-_, _*_, _≤_, _<_, min};
+ghost use Prim.Native.Nat.{_+_, _*_, _≤_, _<_, min};
 ghost use lib.ListN.{length, set};
 ghost use Rattle.disc.specs.Pairs.{pairLength, pairStart};
 ghost use Rattle.words.specs.Store.{store, zeroWords};
@@ -40,11 +40,11 @@ pub fn pair_length(image: &[u16], q: Sector, j: usize) -> u16
 }
 
 // The first sector of pair j of the block in sector q.
-pub fn pair_start(image: &[u16], q: Sector, j: usize) -> u16
+pub fn pair_start(image: &[u16], q: Sector, j: usize) -> Sector
     requires { ⌜ j < 127 ⌝ }
-    ensures { λ r. ⌜ r ≡ pairStart (now (image .entry)) (q .0) j ⌝ }
+    ensures { λ r. ⌜ r .0 ≡ pairStart (now (image .entry)) (q .0) j ⌝ }
 {
-    words::word(image, q, 2 * j + 2)
+    Sector(words::word(image, q, 2 * j + 2))
 }
 
 // The block with another count.
@@ -57,13 +57,13 @@ fn set_count(block: IndexBlock, n: u16) -> IndexBlock
 }
 
 // The block with another pair j.
-fn set_pair(block: IndexBlock, j: usize, length: u16, start: u16) -> IndexBlock
+fn set_pair(block: IndexBlock, j: usize, length: u16, start: Sector) -> IndexBlock
     requires { ⌜ j < 127 ⌝ }
-    ensures { λ r. ⌜ r .words ≡ withPair (block .words) j length start ⌝ }
+    ensures { λ r. ⌜ r .words ≡ withPair (block .words) j length (start .0) ⌝ }
 {
     let mut w = block.words;
     w[2 * j + 1] = length;
-    w[2 * j + 2] = start;
+    w[2 * j + 2] = start.0;
     IndexBlock { words: w }
 }
 
@@ -103,13 +103,6 @@ pub fn slice_total_at(image: &[u16], q: Sector, s: u16) -> u16
     (sector_total_at(image, q) / s as u32) as u16
 }
 
-// The difference of two numbers, 0 where it would be below.
-fn less(a: u16, b: u16) -> u16
-    ensures { λ r. ⌜ r ≡ a - b ⌝ }
-{
-    if a < b { 0 } else { a - b }
-}
-
 // The first slice of the block in sector q, 0 if there is none.
 pub fn first_slice_at(image: &[u16], q: Sector, first: Sector, s: u16) -> Slice
     requires { ⌜ 2 ≤ s ⌝ }
@@ -118,7 +111,7 @@ pub fn first_slice_at(image: &[u16], q: Sector, first: Sector, s: u16) -> Slice
     if pair_count(image, q) == 0 {
         return Slice(0);
     }
-    Slice(less(pair_start(image, q, 0), first.0) / s + 1)
+    numbers::slice_from(first, s, pair_start(image, q, 0))
 }
 
 // The last slice of the block in sector q, 0 if there is none.
@@ -132,21 +125,21 @@ pub fn last_slice_at(image: &[u16], q: Sector, first: Sector, s: u16) -> Slice
     }
     let length = pair_length(image, q, n - 1);
     let start = pair_start(image, q, n - 1);
-    Slice(less(start, first.0) / s + length / s)
+    numbers::last_slice_of(first, s, start, length)
 }
 
-// Sector b of the joined stretches of the block in sector q, 0 past their end.
-pub fn sector_at(image: &[u16], q: Sector, b: u32) -> Sector
-    ensures { λ r. ⌜ r .0 ≡ jointSector (now (image .entry)) (q .0) b ⌝ }
+// The sector that comes `joined` sectors after the first of the joined stretches of the block in sector q, 0 past their end.
+pub fn sector_at(image: &[u16], q: Sector, joined: u32) -> Sector
+    ensures { λ r. ⌜ r .0 ≡ jointSector (now (image .entry)) (q .0) joined ⌝ }
 {
     let n = pair_count(image, q) as usize;
-    let mut rest = b;
+    let mut rest = joined;
     let mut j = 0;
     while j < n {
         let length = pair_length(image, q, j) as u32;
         if rest < length {
             let start = pair_start(image, q, j);
-            return Sector(std::num::wrapping_add_u16(start, rest as u16));
+            return numbers::sector_after(start, rest as u16);
         }
         rest -= length;
         j += 1;
@@ -158,7 +151,7 @@ pub fn sector_at(image: &[u16], q: Sector, b: u32) -> Sector
 pub fn block_sector_at(image: &[u16], q: Sector, from: u16, b: Block) -> Sector
     ensures { λ r. ⌜ r .0 ≡ jointSector (now (image .entry)) (q .0) (b .0 + from) ⌝ }
 {
-    sector_at(image, q, b.0 as u32 + from as u32)
+    sector_at(image, q, numbers::joined_of(from, b))
 }
 
 // Slice number j, counted from 0 in file order, of the block in sector q.
@@ -167,7 +160,7 @@ pub fn slice_number_at(image: &[u16], q: Sector, first: Sector, s: u16, j: u16) 
     ensures { λ r. ⌜ r .0 ≡ sliceNumber (first .0) s j (now (image .entry)) (q .0) ⌝ }
 {
     let sector = sector_at(image, q, s as u32 * j as u32);
-    Slice(less(sector.0, first.0) / s + 1)
+    numbers::slice_from(first, s, sector)
 }
 
 // Whether slice k starts where the last stretch of the block in sector q ends.
@@ -179,9 +172,9 @@ fn joins_at(image: &[u16], q: Sector, first: Sector, s: u16, k: Slice) -> bool
     if n == 0 {
         return false;
     }
-    let length = pair_length(image, q, n - 1) as u64;
-    let start = pair_start(image, q, n - 1) as u64;
-    start + length == first.0 as u64 + (k.0 as u64 - 1) * s as u64
+    let length = pair_length(image, q, n - 1);
+    let start = pair_start(image, q, n - 1);
+    numbers::follows(first, s, start, length, k)
 }
 
 // The number of stretches of the block in sector q with slice k at the end.
@@ -216,7 +209,7 @@ pub fn append_slice(block: IndexBlock, first: Sector, s: u16, k: Slice) -> Index
         return lengthen(block, n as usize - 1, s);
     }
     let start = numbers::slice_start(first, s, k);
-    set_pair(set_count(block, n + 1), n as usize, s, start.0)
+    set_pair(set_count(block, n + 1), n as usize, s, start)
 }
 
 // The sectors of pair j that are among the next `rest`.

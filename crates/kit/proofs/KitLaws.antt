@@ -63,7 +63,7 @@ module _ {image : List ℕ} {g : Geometry} {H s F N : ℕ} (is : GeometryOf imag
   pub slice-is : g .slice ≡ s
   slice-is = is .slice ∙ kit .kit .slice
 
-  pub first-is : g .first ≡ F
+  pub first-is : g .first .0 ≡ F
   first-is = is .first ∙ kit .kit .first
 
   pub sectors-are : g .sectors ≡ N

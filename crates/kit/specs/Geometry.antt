@@ -14,15 +14,15 @@ use Rattle.kit.specs.declared.Geometry.{Geometry}
 pub record GeometryOf (image : List ℕ) (g : Geometry) : Type 0 where
   pub keys : g .keys ≡ word image kitSector 0
   pub slice : g .slice ≡ word image kitSector 1
-  pub first : g .first ≡ word image kitSector 4
+  pub first : g .first .0 ≡ word image kitSector 4
   pub sectors : g .sectors ≡ word image kitSector 2
-  pub slices : g .slices ≡ sliceCount (g .slice) (g .first) (g .sectors)
+  pub slices : g .slices ≡ sliceCount (g .slice) (g .first .0) (g .sectors)
 
 -- "The image has 256 times N words", and the numbers are within limits: every sector that they name is in the image.
 pub record UnitOf (image : List ℕ) (g : Geometry) : Type 0 where
   pub size : length image ≡ 256 * g .sectors
-  pub limits : Limits (g .keys) (g .slice) (g .first) (g .sectors)
-  pub slices : g .slices ≡ sliceCount (g .slice) (g .first) (g .sectors)
+  pub limits : Limits (g .keys) (g .slice) (g .first .0) (g .sectors)
+  pub slices : g .slices ≡ sliceCount (g .slice) (g .first .0) (g .sectors)
 
 -- The rules of a sound unit on image length, kit, limits, free sectors and MAP's index, with H, s, F and N as they stand in the
 -- kit.

@@ -15,7 +15,7 @@ use types::Sector;
 pub struct Geometry {
     pub keys: u16,
     pub slice: u16,
-    pub first: u16,
+    pub first: Sector,
     pub sectors: u16,
     pub slices: u16,
 }
@@ -26,16 +26,16 @@ const MAP_INDEX: usize = 7 * 256;
 const KIT: usize = 8 * 256;
 
 // The number of slices, (N - F) / s; 0 where no slice has a sector or no sector is left.
-fn slice_count(slice: u16, first: u16, sectors: u16) -> u16
-    ensures { λ r. ⌜ r ≡ sliceCount slice first sectors ⌝ }
+fn slice_count(slice: u16, first: Sector, sectors: u16) -> u16
+    ensures { λ r. ⌜ r ≡ sliceCount slice (first .0) sectors ⌝ }
 {
     if slice == 0 {
         return 0;
     }
-    if sectors < first {
+    if sectors < first.0 {
         return 0;
     }
-    (sectors - first) / slice
+    (sectors - first.0) / slice
 }
 
 // The numbers in the kit of any image; words past the image's end are 0.
@@ -43,7 +43,7 @@ pub fn geometry_of(image: &[u16]) -> Geometry
     ensures { λ r. ⌜ GeometryOf (now (image .entry)) r ⌝ }
 {
     let slice = words::word(image, Sector(8), 1);
-    let first = words::word(image, Sector(8), 4);
+    let first = Sector(words::word(image, Sector(8), 4));
     let sectors = words::word(image, Sector(8), 2);
     Geometry {
         keys: words::word(image, Sector(8), 0),
@@ -55,8 +55,8 @@ pub fn geometry_of(image: &[u16]) -> Geometry
 }
 
 // Whether the numbers are within the limits of a unit. H / s rounded up is at most M where H is at most N - F.
-pub fn within_limits(keys: u16, slice: u16, first: u16, sectors: u16) -> bool
-    ensures { λ r. ⌜ Decides r (Limits keys slice first sectors) ⌝ }
+pub fn within_limits(keys: u16, slice: u16, first: Sector, sectors: u16) -> bool
+    ensures { λ r. ⌜ Decides r (Limits keys slice (first .0) sectors) ⌝ }
 {
     if keys == 0 {
         return false;
@@ -70,16 +70,16 @@ pub fn within_limits(keys: u16, slice: u16, first: u16, sectors: u16) -> bool
     if 64 < slice {
         return false;
     }
-    if first < 10 {
+    if first.0 < 10 {
         return false;
     }
-    if sectors <= first {
+    if sectors <= first.0 {
         return false;
     }
     if 32767 < sectors {
         return false;
     }
-    let data = sectors - first;
+    let data = sectors - first.0;
     let slices = data / slice;
     if slices * slice != data {
         return false;

@@ -54,7 +54,7 @@ module _ (bits : ℕ → ℕ) where
       ∙ ap (firstIf (bits a) a) (lowest-past n r (suc a) (λ j p q. none j (omega arith) (omega arith)))
 
   -- what is found is a one of the n bits from a on
-  lowest-found : (n a k : ℕ) → lowestOne bits n a ≡ suc k → (a ≤ suc k) × (suc k < a + n) × (bits (suc k) ≢ 0)
+  pub lowest-found : (n a k : ℕ) → lowestOne bits n a ≡ suc k → (a ≤ suc k) × (suc k < a + n) × (bits (suc k) ≢ 0)
   unfolding lowestOne
   lowest-found zero a k e = absurd (omega arith)
   lowest-found (suc n) a k e = go (bits a) refl e (λ f. lowest-found n (suc a) k f)

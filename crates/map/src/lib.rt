@@ -1,12 +1,12 @@
 // The map of free slices, sector 9 of the image: its bits, their count, and the choice of a slice to take.
 
 ghost use mathlib.Core.Path.{_≡_};
-ghost use Prim.Native.Nat.{_≤_};
+ghost use Prim.Native.Nat.{_+_, _*_, _≤_, _<_};
 ghost use lib.Dec.{eqb};
 ghost use lib.ListN.{length};
 ghost use Rattle.disc.specs.Map.{mapBit, onesInMap};
 ghost use Rattle.map.specs.Marks.{marked, markedUsed, markedFree};
-ghost use Rattle.map.specs.Choice.{lowestFree, chosen, choiceOf};
+ghost use Rattle.map.specs.Choice.{lowestFree, chosen, Answers};
 use types::Slice;
 
 // The image's index of the map's first word, and the words of the map.
@@ -18,6 +18,14 @@ const MAP_WORDS: usize = 256;
 pub enum Choice {
     Free(Slice),
     None,
+}
+
+// The slice of bit b of map word w.
+pub fn slice_at(w: usize, b: usize) -> Slice
+    requires { ⌜ (w < 256) × (b < 16) ⌝ }
+    ensures { λ r. ⌜ r .0 ≡ 16 * w + b + 1 ⌝ }
+{
+    Slice((16 * w + b + 1) as u16)
 }
 
 // Whether slice k is marked free.
@@ -72,7 +80,7 @@ pub fn count_free(image: &[u16]) -> u16
 // The lowest slice marked free: word by word, and in a word from its first one on.
 pub fn lowest_free(image: &[u16]) -> Choice
     requires { ⌜ 2560 ≤ length (now image) ⌝ }
-    ensures { λ r. ⌜ r ≡ choiceOf (lowestFree (mapBit (now (image .entry)))) ⌝ }
+    ensures { λ r. ⌜ Answers (now (image .entry)) (lowestFree (mapBit (now (image .entry)))) r ⌝ }
 {
     let mut w: usize = 0;
     'scan: loop {
@@ -83,7 +91,7 @@ pub fn lowest_free(image: &[u16]) -> Choice
         let first = u16::leading_zeros(word) as usize;
         for b in first..16 {
             if word / numbers::bit_word(b) % 2 == 1 {
-                break 'scan Choice::Free(Slice((16 * w + b + 1) as u16));
+                break 'scan Choice::Free(slice_at(w, b));
             }
         }
         w += 1;
@@ -93,7 +101,7 @@ pub fn lowest_free(image: &[u16]) -> Choice
 // The slice to take for a file whose last slice is `last`, 0 if it has none, in a unit with this number of slices.
 pub fn choose_slice(image: &[u16], last: Slice, slices: u16) -> Choice
     requires { ⌜ (slices ≤ 4096) × (2560 ≤ length (now image)) ⌝ }
-    ensures { λ r. ⌜ r ≡ choiceOf (chosen (mapBit (now (image .entry))) slices (last .0)) ⌝ }
+    ensures { λ r. ⌜ Answers (now (image .entry)) (chosen (mapBit (now (image .entry))) slices (last .0)) r ⌝ }
 {
     if last.0 < slices {
         let next = Slice(last.0 + 1);

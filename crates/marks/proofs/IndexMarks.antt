@@ -7,7 +7,7 @@ use Prim.Native.Nat.{ℕ, zero, suc, _+_, _-_, _*_, _/_, _≤_, _<_}
 use native.Mathlib.Nat.{add-zero, zero-add}
 use native.Mathlib.Numerals.{add-one}
 use native.Mathlib.Omega.{arith}
-use lib.ListN.{length, getD, length-append, List·getD-eq-default}
+use lib.ListN.{length, getD, length-append}
 use borrow.Author.Tests.{lt-ltb, le-ltb}
 use Rattle.disc.specs.Numbers.{sliceStart}
 use Rattle.disc.specs.Words.{word}
@@ -26,7 +26,7 @@ use Rattle.kit.specs.Geometry.{UnitOf}
 use Rattle.kit.proofs.KitLaws.{whole-product}
 use Rattle.marks.specs.declared.Indexed.{Indexed}
 use Rattle.marks.specs.Marked.{Marked, SomeMarked}
-use Rattle.marks.specs.Indexed.{WholeSlices, PairMarking, IndexMarking}
+use Rattle.marks.specs.Indexed.{WholeSlices, PairMarking, IndexSector, ofSys, ofFile, Refusal, IndexMarking}
 use Rattle.marks.proofs.PairLaws.{some-count}
 
 expand-append : (a b : List Stretch) → expand (a ++ b) ≡ expand a ++ expand b
@@ -36,7 +36,7 @@ expand-append (r ∷ a) b =
 
 module _ (image : List ℕ) (g : Geometry) (q : ℕ) where
   abbrev F : ℕ
-  F = g .first
+  F = g .first .0
 
   abbrev s : ℕ
   s = g .slice
@@ -157,27 +157,28 @@ module _ (image : List ℕ) (g : Geometry) (q : ℕ) where
 
   -- ---- the whole block
 
-  pub refuse-index : {before after : List ℕ} {r : Indexed} → (r .good ≡ false) × (r .slices ≡ 0) × (r .start ≡ 0)
+  pub refuse-index : {before after : List ℕ} {r : Indexed} → Refusal after r
       → ((held : List ℕ) → Marked (g .slices) before held → IndexBlock image F s q → InRangeOnce (g .slices) (held ++ slicesAt image F s q) → ⊥)
       → IndexMarking image g q before after r
   refuse-index refused no-way = record {
     marking = λ held is once. record {
-      yes = λ e. absurd (true≢false (sym e ∙ refused .0));
+      yes = λ e. absurd (true≢false (sym e ∙ refused .bad));
       not = λ e. no-way held (record { is = is; once = once });
     };
-    slices = λ e. absurd (true≢false (sym e ∙ refused .0));
-    start = λ e. absurd (true≢false (sym e ∙ refused .0));
-    none = λ e. (refused .1, refused .2);
+    slices = λ e. absurd (true≢false (sym e ∙ refused .bad));
+    start = λ e. absurd (true≢false (sym e ∙ refused .bad));
+    refused = λ e. refused;
   }
 
   pub count-is : getD image (q * 256) 0 ≡ word image q 0
   count-is = ap (λ (i : ℕ). getD image i 0) (sym (add-zero (q * 256)))
 
-  -- a sector past the image's end has no index block
-  pub past-image : length image ≤ q * 256 → word image q 0 ≡ 0
-  past-image h = sym count-is ∙ List·getD-eq-default image 0 h
-
   module _ (unit : UnitOf image g) where
+    -- a sector that is read as an index block is in the image
+    pub index-inside : IndexSector g q → q < g .sectors
+    index-inside (ofSys e) = omega (arith, unit .limits .first, unit .limits .some-data)
+    index-inside (ofFile low high) = high
+
     positive : 1 ≤ s
     positive = omega (arith, unit .limits .slice-low)
 
@@ -210,7 +211,7 @@ module _ (image : List ℕ) (g : Geometry) (q : ℕ) where
 
     -- all pairs passed
     pub mark-index : {before : List ℕ} {j slices end : ℕ} {marks : List ℕ} (r : Indexed) → 1 ≤ word image q 0 → word image q 0 ≤ 127
-        → j ≡ word image q 0 → Passed before j slices end marks → r .good ≡ true → r .slices ≡ slices → r .start ≡ pairStart image q 0
+        → j ≡ word image q 0 → Passed before j slices end marks → r .good ≡ true → r .slices ≡ slices → r .start .0 ≡ pairStart image q 0
         → IndexMarking image g q before marks r
     mark-index {before} {j} {slices} {end} {marks} r some few all pass good sized begins = record {
       marking = λ held is once.
@@ -219,7 +220,7 @@ module _ (image : List ℕ) (g : Geometry) (q : ℕ) where
           record { yes = λ e. (legal-block legal, w .once, w .is); not = λ e. absurd (true≢false (sym good ∙ e)) };
       slices = λ e. sized ∙ pass .count ∙ ap (λ (n : ℕ). length (passed n)) all;
       start = λ e. begins ∙ first;
-      none = λ e. absurd (true≢false (sym good ∙ e));
+      refused = λ e. absurd (true≢false (sym good ∙ e));
     }
       where
         legal : LegalPairs image F s q

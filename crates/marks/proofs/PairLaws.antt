@@ -20,15 +20,21 @@ use Rattle.marks.specs.Marked.{Marked}
 use Rattle.marks.specs.Indexed.{WholeSlices, PairMarking}
 use Rattle.marks.proofs.MarkLaws.{refuses}
 
+-- the unit's slices are all its data sectors
+pub unit-sectors : (g : Geometry) → Limits (g .keys) (g .slice) (g .first .0) (g .sectors) → g .slices ≡ sliceCount (g .slice) (g .first .0) (g .sectors)
+    → g .slices * g .slice ≡ g .sectors - g .first .0
+unit-sectors g limits unit =
+    ap (λ (n : ℕ). n * g .slice) unit ∙ whole-product (g .sectors - g .first .0) (g .slice) (limits .whole)
+
 module _ (g : Geometry) (sectors start : ℕ) where
   abbrev from : ℕ
-  from = (start - g .first) / g .slice
+  from = (start - g .first .0) / g .slice
 
   abbrev count : ℕ
   count = sectors / g .slice
 
   abbrev Whole : Type 0
-  Whole = WholeSlices (g .first) (g .slice) sectors start
+  Whole = WholeSlices (g .first .0) (g .slice) sectors start
 
   pub refuse-pair : {before after : List ℕ}
       → ((held : List ℕ) → Marked (g .slices) before held → Whole → InRangeOnce (g .slices) (held ++ span (from + 1) count) → ⊥)
@@ -60,14 +66,12 @@ module _ (g : Geometry) (sectors start : ℕ) where
         span-in count (from + 1) k (omega arith) (omega arith),
       )
 
-  module _ (limits : Limits (g .keys) (g .slice) (g .first) (g .sectors)) (unit : g .slices ≡ sliceCount (g .slice) (g .first) (g .sectors))
-      (low : g .first ≤ start) (aligned : from * g .slice ≡ start - g .first) (whole : count * g .slice ≡ sectors) (fits : from + count ≤ g .slices) where
+  module _ (limits : Limits (g .keys) (g .slice) (g .first .0) (g .sectors)) (unit : g .slices ≡ sliceCount (g .slice) (g .first .0) (g .sectors))
+      (low : g .first .0 ≤ start) (aligned : from * g .slice ≡ start - g .first .0) (whole : count * g .slice ≡ sectors) (fits : from + count ≤ g .slices) where
     pair-high : start + sectors ≤ g .sectors
     pair-high =
-        let rest = whole-product (g .sectors - g .first) (g .slice) (limits .whole) in
         let most : (from + count) * g .slice ≤ g .slices * g .slice = mul-le-mul-right (g .slice) fits in
-        let all : g .slices * g .slice ≡ g .sectors - g .first = ap (λ (n : ℕ). n * g .slice) unit ∙ rest in
-        omega (arith, add-mul from count (g .slice), limits .some-data)
+        omega (arith, unit-sectors g limits unit, add-mul from count (g .slice), limits .some-data)
 
     pub mark-pair : {before after : List ℕ} {r : Bool} → r ≡ true
         → ((m : ℕ) (held : List ℕ) → from + count ≤ m → Marked m before held → Marking r (Unit {0}) m after held (span (from + 1) count))
@@ -76,7 +80,7 @@ module _ (g : Geometry) (sectors start : ℕ) where
       marking = λ held marked. record {
         yes = λ e.
             let k = run (g .slices) held fits marked .yes t in
-            (record { some = positive e; whole = product-whole sectors (g .slice) whole; low = low; aligned = product-whole (start - g .first) (g .slice) aligned }, k .1, k .2);
+            (record { some = positive e; whole = product-whole sectors (g .slice) whole; low = low; aligned = product-whole (start - g .first .0) (g .slice) aligned }, k .1, k .2);
         not = λ e w. absurd (omega (arith, some-count w, ltb-false 0 count e));
       };
       slices = λ h. refl;

@@ -93,6 +93,9 @@ module _ {before : List ℕ} (from count : ℕ) where
 pub run-at : {r : Bool} {from n count : ℕ} {before after : List ℕ} → count ≡ n → RunMarking r from n before after → RunMarking r from count before after
 run-at {r} {from} {n} {count} {before} {after} e run = subst (λ (k : ℕ). RunMarking r from k before after) (sym e) run
 
+pub run-from : {r : Bool} {from n count : ℕ} {before after : List ℕ} → n ≡ from → RunMarking r n count before after → RunMarking r from count before after
+run-from {r} {from} {n} {count} {before} {after} e run = subst (λ (k : ℕ). RunMarking r k count before after) e run
+
 -- ---- the sum of the marks of a run
 
 pub record Summed (marks : List ℕ) (from n taken : ℕ) : Type 0 where

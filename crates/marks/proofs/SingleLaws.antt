@@ -1,83 +1,106 @@
--- Laws of an index block with one pair, whose slices are marked at once: what the answer true says.
-use mathlib.Core.Path.{_≡_, refl, sym, ap, _∙_, subst}
+-- Laws of a file in one stretch of slices, whose index block has one pair: each refusal, and the slices that are marked.
+use mathlib.Core.Path.{_≡_, refl, sym, ap, ap₂, _∙_, subst}
 use mathlib.Core.Bool.{Bool, true, false}
 use mathlib.Core.List.{List}
 use Prim.Native.Nat.{ℕ, _+_, _-_, _*_, _/_, _≤_, _<_}
-use native.Mathlib.Nat.{add-mul, mul-le-mul-right, mul-div-cancel}
+use native.Mathlib.Nat.{add-mul, mul-le-mul-right, mul-div-cancel, le-of-mul-le-mul-right}
 use native.Mathlib.Omega.{arith}
-use Rattle.disc.specs.Words.{word}
-use Rattle.disc.specs.Pairs.{pairLength, pairStart}
+use Rattle.disc.specs.Numbers.{sliceStart}
 use Rattle.disc.proofs.DecideLaws.{true≢false}
 use Rattle.kit.specs.declared.Geometry.{Geometry}
 use Rattle.kit.specs.Geometry.{UnitOf}
-use Rattle.kit.proofs.KitLaws.{whole-product}
-use Rattle.marks.specs.Marked.{SomeMarked, RunMarking}
-use Rattle.marks.specs.Indexed.{PairMarking, IndexMarking, SingleMarking}
-use Rattle.marks.proofs.RunLaws.{run-marking, run-at}
-use Rattle.marks.proofs.PairLaws.{mark-pair}
+use Rattle.kit.proofs.KitLaws.{whole-product, product-whole}
+use Rattle.marks.specs.Marked.{SomeMarked, RunMarking, runMarks}
+use Rattle.marks.specs.Indexed.{WholeSlices, PairMarking, IndexMarking, OnePair, SingleFile, SingleMarking}
+use Rattle.marks.proofs.RunLaws.{run-marking, run-done}
+use Rattle.marks.proofs.PairLaws.{mark-pair, some-count, unit-sectors}
 use Rattle.marks.proofs.IndexMarks.{passed-none, passed-more, mark-index}
 
 module _ (image : List ℕ) (g : Geometry) (q sectors : ℕ) where
-  pub single-left : {before : List ℕ} → SingleMarking image g q sectors before before false
-  single-left = record {
-    yes = λ e. absurd (true≢false (sym e));
-    whole = λ e. absurd (true≢false (sym e));
-    some = λ e. absurd (true≢false (sym e));
-    low = λ e. absurd (true≢false (sym e));
-    high = λ e. absurd (true≢false (sym e));
-    not = λ _. refl;
-  }
+  abbrev from : ℕ
+  from = (q - g .first .0) / g .slice
 
-  module _ (unit : UnitOf image g) (from count : ℕ) (low : g .first ≤ q) (aligned : from * g .slice ≡ q - g .first) (whole : count * g .slice ≡ sectors)
-      (positive : 1 ≤ count) (fits : from + count ≤ g .slices) where
-    -- what is multiplied back are the quotients
-    from-is : from ≡ (q - g .first) / g .slice
-    from-is = sym (ap (λ (n : ℕ). n / g .slice) (sym aligned) ∙ mul-div-cancel from (omega (arith, unit .limits .slice-low)))
+  abbrev count : ℕ
+  count = sectors / g .slice
 
-    count-is : count ≡ sectors / g .slice
-    count-is = sym (ap (λ (n : ℕ). n / g .slice) (sym whole) ∙ mul-div-cancel count (omega (arith, unit .limits .slice-low)))
+  pub single-left : {before : List ℕ} → (SingleFile image g q sectors before → ⊥) → SingleMarking image g q sectors before before false
+  single-left no-way = record { yes = λ e. absurd (true≢false (sym e)); not = λ _. (no-way, refl) }
 
-    -- the sector is one of the unit's
-    pub single-inside : q < g .sectors
-    single-inside =
-        let most : (from + count) * g .slice ≤ g .slices * g .slice = mul-le-mul-right (g .slice) fits in
-        let all : g .slices * g .slice ≡ g .sectors - g .first = ap (λ (n : ℕ). n * g .slice) (unit .slices) ∙ whole-product (g .sectors - g .first) (g .slice) (unit .limits .whole) in
-        omega (arith, add-mul from count (g .slice), mul-le-mul-right (g .slice) positive, unit .limits .some-data, unit .limits .slice-low)
+  module _ (unit : UnitOf image g) where
+    positive : 1 ≤ g .slice
+    positive = omega (arith, unit .limits .slice-low)
 
-    pub single-marked : {before after : List ℕ} {r : Bool} → SomeMarked (g .slices) before
-        → (word image q 0 ≡ 1) × (pairLength image q 0 ≡ sectors) × (pairStart image q 0 ≡ q) → RunMarking r from count before after → SingleMarking image g q sectors before after r
-    single-marked {before} {after} {r} some block run = record {
-      yes = λ e. index e;
-      whole = λ e. all;
-      some = λ e. omega (arith, mul-le-mul-right (g .slice) positive, unit .limits .slice-low);
-      low = λ e. low;
-      high = λ e. pair e .high (omega (arith, count-is));
-      not = λ e. run .not e .1;
-    }
-      where
-        all : sectors / g .slice * g .slice ≡ sectors
-        all = ap (λ (n : ℕ). n * g .slice) (sym count-is) ∙ whole
+    -- such a file has its slices in the unit
+    pub single-fits : {before : List ℕ} → SingleFile image g q sectors before → from + count ≤ g .slices
+    single-fits file =
+        let all = unit-sectors g (unit .limits) (unit .slices) in
+        let start = whole-product (q - g .first .0) (g .slice) (file .slices .aligned) in
+        let size = whole-product sectors (g .slice) (file .slices .whole) in
+        let product : (from + count) * g .slice ≤ g .slices * g .slice = omega (arith, add-mul from count (g .slice), file .slices .low, file .high, unit .limits .some-data) in
+        le-of-mul-le-mul-right product positive
 
-        start : (q - g .first) / g .slice * g .slice ≡ q - g .first
-        start = ap (λ (n : ℕ). n * g .slice) (sym from-is) ∙ aligned
+    -- it starts where a slice does
+    pub single-starts : {before : List ℕ} → SingleFile image g q sectors before → q ≡ sliceStart (g .first .0) (g .slice) (from + 1)
+    single-starts file =
+        let e : from + 1 - 1 ≡ from = omega arith in
+        rw e (omega (arith, whole-product (q - g .first .0) (g .slice) (file .slices .aligned), file .slices .low))
 
-        room : (q - g .first) / g .slice + sectors / g .slice ≤ g .slices
-        room = omega (arith, from-is, count-is)
+    pub single-count : {before : List ℕ} → SingleFile image g q sectors before → (sectors ≡ count * g .slice) × (1 ≤ count)
+    single-count file = (sym (whole-product sectors (g .slice) (file .slices .whole)), some-count g sectors q (file .slices))
 
-        moved : RunMarking r ((q - g .first) / g .slice) (sectors / g .slice) before after
-        moved = run-at (sym count-is) (subst (λ (n : ℕ). RunMarking r n count before after) from-is run)
+    module _ (k n : ℕ) (one : 1 ≤ k) (starts : q ≡ sliceStart (g .first .0) (g .slice) k) (whole : n * g .slice ≡ sectors) (some : 1 ≤ n)
+        (fits : k - 1 + n ≤ g .slices) where
+      -- what is multiplied back are the quotients
+      from-is : k - 1 ≡ from
+      from-is =
+          let e : (k - 1) * g .slice ≡ q - g .first .0 = omega arith in
+          sym (ap (λ (m : ℕ). m / g .slice) (sym e) ∙ mul-div-cancel (k - 1) positive)
 
-        pair : r ≡ true → PairMarking g sectors q before after (sectors / g .slice)
-        pair e =
-            mark-pair g sectors q (unit .limits) (unit .slices) low start all room e
-            (run-marking ((q - g .first) / g .slice) (sectors / g .slice) (omega (arith, room, unit .slices, unit .limits .slices-high)) moved)
+      count-is : n ≡ count
+      count-is = sym (ap (λ (m : ℕ). m / g .slice) (sym whole) ∙ mul-div-cancel n positive)
 
-        own : r ≡ true → PairMarking g (pairLength image q 0) (pairStart image q 0) before after (sectors / g .slice)
-        own e =
-            subst (λ (n : ℕ). PairMarking g n (pairStart image q 0) before after (sectors / g .slice)) (sym (block .1))
-            (subst (λ (n : ℕ). PairMarking g sectors n before after (sectors / g .slice)) (sym (block .2)) (pair e))
+      pub single-slices : WholeSlices (g .first .0) (g .slice) sectors q
+      single-slices = record {
+        some = omega (arith, mul-le-mul-right (g .slice) some, positive);
+        whole = product-whole sectors (g .slice) (ap (λ (m : ℕ). m * g .slice) (sym count-is) ∙ whole);
+        low = omega arith;
+        aligned = product-whole (q - g .first .0) (g .slice) (ap (λ (m : ℕ). m * g .slice) (sym from-is) ∙ (let e : (k - 1) * g .slice ≡ q - g .first .0 = omega arith in e));
+      }
 
-        index : r ≡ true → IndexMarking image g q before after (record { good = true; slices = sectors / g .slice; start = q })
-        index e =
-            let pass = passed-more image g q some (passed-none image g q before) (sectors / g .slice) (omega (arith, count-is)) (λ z. omega (arith, block .2, unit .limits .first)) (own e) in
-            mark-index image g q unit _ (omega (arith, block .0)) (omega (arith, block .0)) (sym (block .0)) pass refl (omega arith) (sym (block .2))
+      pub single-high : q + sectors ≤ g .sectors
+      single-high =
+          let most : (k - 1 + n) * g .slice ≤ g .slices * g .slice = mul-le-mul-right (g .slice) fits in
+          omega (arith, unit-sectors g (unit .limits) (unit .slices), add-mul (k - 1) n (g .slice), unit .limits .some-data)
+
+      pub single-inside : q < g .sectors
+      single-inside = omega (arith, single-high, single-slices .some)
+
+      pub single-marked : {before after : List ℕ} {r : Bool} → OnePair image q sectors → RunMarking r (k - 1) n before after → SingleMarking image g q sectors before after r
+      single-marked {before} {after} {r} pair run = record {
+        yes = λ e. let y = moved .yes e in (record { slices = single-slices; high = single-high; pair = pair; free = y .0 }, y .1);
+        not = λ e. (λ file. moved .not e .0 (file .free), moved .not e .1);
+      }
+        where
+          moved : RunMarking r from count before after
+          moved = subst (λ (m : ℕ). RunMarking r m count before after) from-is (subst (λ (m : ℕ). RunMarking r (k - 1) m before after) count-is run)
+
+  -- ---- what such a file's index block says
+
+  module _ (unit : UnitOf image g) {before after : List ℕ} (held : SomeMarked (g .slices) before) (file : SingleFile image g q sectors before)
+      (is : after ≡ runMarks before from count) where
+    pub single-whole : count * g .slice ≡ sectors
+    single-whole = whole-product sectors (g .slice) (file .slices .whole)
+
+    pair : PairMarking g sectors q before after count
+    pair =
+        let fits = single-fits unit file in
+        mark-pair g sectors q (unit .limits) (unit .slices) (file .slices .low) (whole-product (q - g .first .0) (g .slice) (file .slices .aligned)) single-whole fits refl
+        (run-marking from count (omega (arith, fits, unit .slices, unit .limits .slices-high)) (run-done from count (file .free) is))
+
+    pub single-index : IndexMarking image g q before after (record { good = true; slices = count; start = record { 0 = q } })
+    single-index =
+        let block = file .pair in
+        let own = ap₂ (λ (n m : ℕ). PairMarking g n m before after count) (sym (block .length)) (sym (block .start)) in
+        let pass = passed-more image g q held (passed-none image g q before) count (some-count g sectors q (file .slices))
+        (λ z. omega (arith, block .start, file .slices .low, unit .limits .first)) (subst (λ (P : Type 0). P) own pair) in
+        mark-index image g q unit _ (omega (arith, block .count)) (omega (arith, block .count)) (sym (block .count)) pass refl (omega arith) (sym (block .start))

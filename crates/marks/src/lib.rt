@@ -1,9 +1,8 @@
 // The marks of the slices that files have, one for each slice of a unit: set from index blocks, and compared with the map.
 
 ghost use mathlib.Core.Path.{_≡_};
-ghost use mathlib.Core.Bool.{true, false};
-ghost use mathlib.Core.List.{List};
-ghost use Prim.Native.Nat.{ℕ, _+_, _*_, _/_, _≤_, _<_};
+ghost use mathlib.Core.List.{List, []};
+ghost use Prim.Native.Nat.{ℕ, _+_, _-_, _*_, _/_, _≤_, _<_};
 ghost use lib.ListN.{length, getD};
 ghost use Rattle.disc.specs.Decide.{Decides};
 ghost use Rattle.disc.specs.Numbers.{sliceCount};
@@ -12,12 +11,12 @@ ghost use Rattle.disc.specs.Slices.{InRangeOnce};
 ghost use Rattle.sound.specs.Sound.{SoundMap};
 ghost use Rattle.sound.specs.Parts.{MarksOf};
 ghost use Rattle.kit.specs.Geometry.{UnitOf};
-ghost use Rattle.disc.specs.Pairs.{pairLength, pairStart};
-ghost use Rattle.disc.specs.Words.{word};
-ghost use Rattle.marks.specs.Indexed.{PairMarking, IndexMarking, SingleMarking};
+ghost use Rattle.marks.specs.Indexed.{PairMarking, IndexSector, Refusal, IndexMarking, OnePair, SingleMarking};
 ghost use Rattle.marks.specs.Marked.{SomeMarked, Free, runMarks, RunMarking};
 ghost use Rattle.marks.specs.Packed.{packed, Filled, Cleared};
 use kit::Geometry;
+use types::Sector;
+use types::Slice;
 
 // The image's index of the map's first word, and the words of the map.
 const MAP: usize = 9 * 256;
@@ -70,7 +69,7 @@ fn cleared(image: &[u16], n: usize) -> bool
 
 // Whether the map is that of the marked slices: full words, the word in which the unit's slices end, and words past it.
 pub fn map_agrees(image: &[u16], marks: &[u8; 4096], g: Geometry) -> bool
-    requires { ⌜ UnitOf (now image) g ⌝ }
+    requires { ⌜ UnitOf (now image) g × SomeMarked (g .slices) (now marks) ⌝ }
     ensures { λ r. ⌜ ((all : List ℕ) → MarksOf (now (marks .entry)) all → InRangeOnce (g .slices) all → Decides r (SoundMap (now (image .entry)) (g .slices) all)) ⌝ }
 {
     let full = g.slices as usize / 16;
@@ -170,11 +169,13 @@ fn mark_four(marks: &mut [u8; 4096], from: usize, count: usize) -> bool
     true
 }
 
-// The same of any number of slices, the usual small ones without a loop.
-fn mark_slices(marks: &mut [u8; 4096], from: usize, count: usize) -> bool
-    requires { ⌜ (1 ≤ count) × (from + count ≤ 4096) ⌝ }
-    ensures { λ r. ⌜ RunMarking r from count (now (marks .entry)) (now (marks .exit)) ⌝ }
+// Marks the slices k to k + count - 1, the usual small numbers of slices without a loop; false, and nothing is marked, where one of
+// them is marked already.
+fn mark_slices(marks: &mut [u8; 4096], k: Slice, count: usize) -> bool
+    requires { ⌜ (1 ≤ k .0) × (1 ≤ count) × (k .0 - 1 + count ≤ 4096) ⌝ }
+    ensures { λ r. ⌜ RunMarking r (k .0 - 1) count (now (marks .entry)) (now (marks .exit)) ⌝ }
 {
+    let from = (k.0 - 1) as usize;
     if count == 1 {
         return mark_one(marks, from);
     }
@@ -186,30 +187,30 @@ fn mark_slices(marks: &mut [u8; 4096], from: usize, count: usize) -> bool
 
 // Marks the slices of a pair of an index block, and answers their number: 0 where they are no whole slices of the unit, or one of
 // them is marked already. A quotient multiplied back tells whether there is a remainder, with one division instead of two.
-fn mark_pair(sectors: u16, start: u16, g: Geometry, marks: &mut [u8; 4096]) -> u16
-    requires { ⌜ Limits (g .keys) (g .slice) (g .first) (g .sectors) × (g .slices ≡ sliceCount (g .slice) (g .first) (g .sectors)) ⌝ }
-    ensures { λ r. ⌜ PairMarking g sectors start (now (marks .entry)) (now (marks .exit)) r ⌝ }
+fn mark_pair(sectors: u16, start: Sector, g: Geometry, marks: &mut [u8; 4096]) -> u16
+    requires { ⌜ Limits (g .keys) (g .slice) (g .first .0) (g .sectors) × (g .slices ≡ sliceCount (g .slice) (g .first .0) (g .sectors)) ⌝ }
+    ensures { λ r. ⌜ PairMarking g sectors (start .0) (now (marks .entry)) (now (marks .exit)) r ⌝ }
 {
-    if start < g.first {
+    let first = g.first;
+    if start.0 < first.0 {
         return 0;
     }
-    let offset = (start - g.first) as u32;
+    let k = numbers::slice_of(first, g.slice, start);
+    if !numbers::starts_at(first, g.slice, k, start) {
+        return 0;
+    }
     let slice = g.slice as u32;
-    let from = offset / slice;
-    if from * slice != offset {
-        return 0;
-    }
     let count = sectors as u32 / slice;
     if count * slice != sectors as u32 {
         return 0;
     }
-    if (g.slices as u32) < from + count {
+    if (g.slices as u32) < (k.0 - 1) as u32 + count {
         return 0;
     }
     if count == 0 {
         return 0;
     }
-    if !mark_slices(marks, from as usize, count as usize) {
+    if !mark_slices(marks, k, count as usize) {
         return 0;
     }
     count as u16
@@ -220,88 +221,78 @@ fn mark_pair(sectors: u16, start: u16, g: Geometry, marks: &mut [u8; 4096]) -> u
 pub struct Indexed {
     pub good: bool,
     pub slices: u16,
-    pub start: u16,
+    pub start: Sector,
 }
 
-// An index block that is refused.
-fn refused() -> Indexed
-    ensures { λ r. ⌜ (r .good ≡ false) × (r .slices ≡ 0) × (r .start ≡ 0) ⌝ }
+// Leaves no slice marked.
+pub fn unmark_all(marks: &mut [u8; 4096])
+    ensures { λ r. ⌜ MarksOf (now (marks .exit)) [] ⌝ }
 {
+    *marks = [0; 4096];
+}
+
+// An index block that is refused: no slice is left marked, so that nothing rests on those marked before the refusal.
+fn refused(marks: &mut [u8; 4096]) -> Indexed
+    ensures { λ r. ⌜ Refusal (now (marks .exit)) r ⌝ }
+{
+    unmark_all(marks);
     Indexed {
         good: false,
         slices: 0,
-        start: 0,
+        start: Sector(0),
     }
 }
 
 // Judges the index block in sector q and marks its slices. No pair starts at sector 0, where the pair before the first one ends.
-pub fn mark_index(image: &[u16], q: u16, g: Geometry, marks: &mut [u8; 4096]) -> Indexed
-    requires { ⌜ UnitOf (now image) g × SomeMarked (g .slices) (now marks) ⌝ }
-    ensures { λ r. ⌜ IndexMarking (now (image .entry)) g q (now (marks .entry)) (now (marks .exit)) r ⌝ }
+// "Sectors 0 to 5 are never read": no contract can say what is read, so that the sector is a premise, which a caller has to show.
+pub fn mark_index(image: &[u16], q: Sector, g: Geometry, marks: &mut [u8; 4096]) -> Indexed
+    requires { ⌜ UnitOf (now image) g × SomeMarked (g .slices) (now marks) × IndexSector g (q .0) ⌝ }
+    ensures { λ r. ⌜ IndexMarking (now (image .entry)) g (q .0) (now (marks .entry)) (now (marks .exit)) r ⌝ }
 {
-    if g.sectors <= q {
-        return refused();
-    }
-    let at = q as usize * 256;
+    let sector = q.0;
+    let at = sector as usize * 256;
     let pairs = image[at] as usize;
     if pairs == 0 {
-        return refused();
+        return refused(marks);
     }
     if 127 < pairs {
-        return refused();
+        return refused(marks);
     }
     let mut slices: u16 = 0;
-    let mut end: u16 = 0;
+    let mut end = Sector(0);
     for j in 0..pairs {
         let sectors = image[at + (2 * j + 1)];
-        let start = image[at + (2 * j + 2)];
-        if start == end {
-            return refused();
+        let start = Sector(image[at + (2 * j + 2)]);
+        if start.0 == end.0 {
+            return refused(marks);
         }
         let count = mark_pair(sectors, start, g, marks);
         if count == 0 {
-            return refused();
+            return refused(marks);
         }
         slices += count;
-        end = start + sectors;
+        end = Sector(start.0 + sectors);
     }
     Indexed {
         good: true,
         slices: slices,
-        start: image[at + 2],
+        start: Sector(image[at + 2]),
     }
 }
 
-// What a number of sectors is multiplied by, and the product divided by 65,536, in place of a division by the sectors of a slice.
-pub fn reciprocal(slice: u16) -> u32
-    requires { ⌜ 2 ≤ slice ⌝ }
-    ensures { λ r. ⌜ (r ≡ 65536 / slice + 1) × (r ≤ 65536) ⌝ }
-{
-    65536 / slice as u32 + 1
-}
-
-// The number of slices that so many sectors are, by the reciprocal. Whether it is right is for the caller to see, who multiplies
-// it back.
-fn quotient(sectors: u16, reciprocal: u32) -> u32
-    requires { ⌜ reciprocal ≤ 65536 ⌝ }
-    ensures { λ r. ⌜ (r ≡ sectors * reciprocal / 65536) × (r ≤ 65535) ⌝ }
-{
-    sectors as u32 * reciprocal / 65536
-}
-
 // Whether the index block in sector q has one pair, of so many sectors from sector q on.
-fn one_pair(image: &[u16], q: u16, sectors: u16) -> bool
-    requires { ⌜ q * 256 + 256 ≤ length (now image) ⌝ }
-    ensures { λ r. ⌜ (r ≡ true → (word (now (image .entry)) q 0 ≡ 1) × (pairLength (now (image .entry)) q 0 ≡ sectors) × (pairStart (now (image .entry)) q 0 ≡ q)) ⌝ }
+fn one_pair(image: &[u16], q: Sector, sectors: u16) -> bool
+    requires { ⌜ q .0 * 256 + 256 ≤ length (now image) ⌝ }
+    ensures { λ r. ⌜ Decides r (OnePair (now (image .entry)) (q .0) sectors) ⌝ }
 {
-    let at = q as usize * 256;
+    let at = q.0 as usize * 256;
     if image[at] != 1 {
         return false;
     }
     if image[at + 1] != sectors {
         return false;
     }
-    image[at + 2] == q
+    image[at + 2] == q.0
 }
 
 // Marks the slices of a file whose index block, in its first sector q, has one pair of so many sectors, if none of them is marked.
@@ -309,35 +300,35 @@ fn one_pair(image: &[u16], q: u16, sectors: u16) -> bool
 // to wait for the block's words but the comparison with them.
 pub fn mark_single(
     image: &[u16],
-    q: u16,
+    q: Sector,
     sectors: u16,
     g: Geometry,
     reciprocal: u32,
     marks: &mut [u8; 4096],
 ) -> bool
-    requires { ⌜ UnitOf (now image) g × SomeMarked (g .slices) (now marks) × (reciprocal ≤ 65536) ⌝ }
-    ensures { λ r. ⌜ SingleMarking (now (image .entry)) g q sectors (now (marks .entry)) (now (marks .exit)) r ⌝ }
+    requires { ⌜ UnitOf (now image) g × (reciprocal ≡ 65536 / g .slice + 1) ⌝ }
+    ensures { λ r. ⌜ SingleMarking (now (image .entry)) g (q .0) sectors (now (marks .entry)) (now (marks .exit)) r ⌝ }
 {
-    if q < g.first {
+    let first = g.first;
+    if q.0 < first.0 {
         return false;
     }
-    let slice = g.slice as u32;
-    let from = quotient(q - g.first, reciprocal);
-    if from * slice != (q - g.first) as u32 {
+    let k = numbers::slice_by(first, q, reciprocal);
+    if !numbers::starts_at(first, g.slice, k, q) {
         return false;
     }
-    let count = quotient(sectors, reciprocal);
-    if count * slice != sectors as u32 {
+    let count = numbers::slices_by(sectors, reciprocal) as u32;
+    if count * g.slice as u32 != sectors as u32 {
         return false;
     }
-    if count == 0 {
+    if count < 1 {
         return false;
     }
-    if (g.slices as u32) < from + count {
+    if (g.slices as u32) < (k.0 - 1) as u32 + count {
         return false;
     }
     if !one_pair(image, q, sectors) {
         return false;
     }
-    mark_slices(marks, from as usize, count as usize)
+    mark_slices(marks, k, count as usize)
 }

@@ -189,3 +189,29 @@ pub fn legal_by(name: Name, table: &[u8; 256]) -> bool
     }
     name.2 % 256 == 0
 }
+
+// Whether the number of a name is that of 'SYS' or 'MAP'.
+pub fn is_system_number(n: u64) -> bool
+    ensures { λ r. ⌜ r ≡ isSystem n ⌝ }
+{
+    n == SYS_NUMBER || n == MAP_NUMBER
+}
+
+// Whether two names are the same, by their numbers.
+pub fn same_number(a: u64, b: u64) -> bool
+    ensures { λ r. ⌜ r ≡ eqb a b ⌝ }
+{
+    a == b
+}
+
+// The first words of 'SYS' and 'MAP'.
+const SYS_FIRST: u16 = 0x5359;
+
+const MAP_FIRST: u16 = 0x4D41;
+
+// Whether a name begins with the first word of 'SYS' or 'MAP', as few other names do.
+pub fn begins_as_system(name: Name) -> bool
+    ensures { λ r. ⌜ r ≡ eqb (name .0) 0x5359 || eqb (name .0) 0x4D41 ⌝ }
+{
+    name.0 == SYS_FIRST || name.0 == MAP_FIRST
+}

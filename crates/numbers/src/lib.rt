@@ -1,9 +1,12 @@
 // The bits of a word and the formulas of the disc's layout: slices, sectors, the slices a file needs, the key of a name.
 
 ghost use mathlib.Core.Path.{_≡_};
-ghost use Prim.Native.Nat.{_+_, _-_, _/_, _≤_, _<_};
+ghost use Prim.Native.Nat.{ℕ, _+_, _-_, _*_, _/_, _%_, _≤_, _<_};
+ghost use lib.Dec.{eqb};
+ghost use Rattle.disc.specs.Decide.{Decides};
 ghost use Rattle.disc.specs.Numbers.{bitWord, bit, negative, ceilDiv, need, sliceStart};
 ghost use Rattle.disc.specs.Names.{pack, keyOf};
+use types::Block;
 use types::Name;
 use types::Sector;
 use types::Slice;
@@ -86,7 +89,95 @@ pub fn slice_of(first: Sector, s: u16, q: Sector) -> Slice
     requires { ⌜ (2 ≤ s) × (first .0 ≤ q .0) ⌝ }
     ensures { λ r. ⌜ r .0 ≡ (q .0 - first .0) / s + 1 ⌝ }
 {
-    Slice((q.0 - first.0) / s + 1)
+    Slice(((q.0 - first.0) as u32 / s as u32) as u16 + 1)
+}
+
+// Whether slice k starts at sector q: a quotient multiplied back tells whether there is a remainder.
+pub fn starts_at(first: Sector, s: u16, k: Slice, q: Sector) -> bool
+    requires { ⌜ (1 ≤ k .0) × (first .0 ≤ q .0) ⌝ }
+    ensures { λ r. ⌜ Decides r (q .0 ≡ sliceStart (first .0) s (k .0)) ⌝ }
+{
+    (k.0 - 1) as u32 * s as u32 == (q.0 - first.0) as u32
+}
+
+// What a number of sectors is multiplied by, and the product divided by 65,536, in place of a division by the s sectors of a slice.
+pub fn reciprocal(s: u16) -> u32
+    requires { ⌜ 2 ≤ s ⌝ }
+    ensures { λ r. ⌜ (r ≡ 65536 / s + 1) × (r ≤ 32769) ⌝ }
+{
+    65536 / s as u32 + 1
+}
+
+// The slices that n sectors are, by the reciprocal of a slice's sectors: their number where there is no remainder. Where there is one,
+// the answer multiplied back is not n.
+pub fn slices_by(n: u16, reciprocal: u32) -> u16
+    requires { ⌜ reciprocal ≤ 32769 ⌝ }
+    ensures exactly { λ r. ⌜ (r ≡ n * reciprocal / 65536) × (r ≤ 32768) ⌝ }
+    ensures whole { λ r. ⌜ ((s c : ℕ) → 2 ≤ s → reciprocal ≡ 65536 / s + 1 → n ≡ c * s → r ≡ c) ⌝ }
+{
+    (n as u32 * reciprocal / 65536) as u16
+}
+
+// The slice that starts at sector q, by the reciprocal of a slice's sectors. Where none does, `starts_at` denies it of the answer.
+pub fn slice_by(first: Sector, q: Sector, reciprocal: u32) -> Slice
+    requires { ⌜ (first .0 ≤ q .0) × (reciprocal ≤ 32769) ⌝ }
+    ensures exactly { λ r. ⌜ (r .0 ≡ (q .0 - first .0) * reciprocal / 65536 + 1) × (r .0 ≤ 32769) ⌝ }
+    ensures starts { λ r. ⌜ ((s k : ℕ) → 2 ≤ s → reciprocal ≡ 65536 / s + 1 → 1 ≤ k → q .0 ≡ sliceStart (first .0) s k → r .0 ≡ k) ⌝ }
+{
+    Slice(slices_by(q.0 - first.0, reciprocal) + 1)
+}
+
+// The slice of any sector q: one below `first` is taken for `first`.
+pub fn slice_from(first: Sector, s: u16, q: Sector) -> Slice
+    requires { ⌜ 2 ≤ s ⌝ }
+    ensures { λ r. ⌜ r .0 ≡ (q .0 - first .0) / s + 1 ⌝ }
+{
+    if q.0 < first.0 {
+        return Slice(1);
+    }
+    slice_of(first, s, q)
+}
+
+// The last slice of a stretch of `length` sectors from sector q on: as many as before the slice of q, and those of the stretch.
+pub fn last_slice_of(first: Sector, s: u16, q: Sector, length: u16) -> Slice
+    requires { ⌜ 2 ≤ s ⌝ }
+    ensures { λ r. ⌜ r .0 ≡ (q .0 - first .0) / s + length / s ⌝ }
+{
+    if q.0 < first.0 {
+        return Slice(length / s);
+    }
+    Slice((q.0 - first.0) / s + length / s)
+}
+
+// Whether slice k starts where a stretch of `length` sectors from sector q on ends.
+pub fn follows(first: Sector, s: u16, q: Sector, length: u16, k: Slice) -> bool
+    requires { ⌜ 1 ≤ k .0 ⌝ }
+    ensures { λ r. ⌜ r ≡ eqb (q .0 + length) (sliceStart (first .0) s (k .0)) ⌝ }
+{
+    q.0 as u64 + length as u64 == first.0 as u64 + (k.0 as u64 - 1) * s as u64
+}
+
+// The sector that comes n sectors after sector q; sector numbers are words.
+pub fn sector_after(q: Sector, n: u16) -> Sector
+    ensures { λ r. ⌜ r .0 ≡ (q .0 + n) % 65536 ⌝ }
+{
+    Sector(std::num::wrapping_add_u16(q.0, n))
+}
+
+// Block b as a sector of the joined stretches, where the file's blocks begin with joined sector `from`: block b is sector b + 1 of
+// them, and sector b for SYS and MAP.
+pub fn joined_of(from: u16, b: Block) -> u32
+    ensures { λ r. ⌜ r ≡ b .0 + from ⌝ }
+{
+    b.0 as u32 + from as u32
+}
+
+// The block of a key in a layer: key k lives in blocks k, k + h, k + 2h and so on.
+pub fn key_block(h: u16, key: u16, layer: u16) -> Block
+    requires { ⌜ h * layer + key < 65536 ⌝ }
+    ensures { λ r. ⌜ r .0 ≡ h * layer + key ⌝ }
+{
+    Block(h * layer + key)
 }
 
 // The key of a name: the sum of its three words, carry out of 16 bits dropped, modulo h.

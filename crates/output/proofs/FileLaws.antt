@@ -54,12 +54,12 @@ use Rattle.output.specs.Output.{entryAttributes, AttributesOf, BlockSect
 
 module _ {image : List ℕ} {o : Opened} {n : ℕ} {found : Found} (finds : FindsName image o n found) where
   pub attributes-none : found ≡ Nothing → AttributesOf image o n 0
-  attributes-none e = record { all = λ p on num. sym (ap entryAttributes (finds .all p (on-catalog on) num .nothing e)) }
+  attributes-none e = record { all = λ p on num. sym (ap entryAttributes (finds .all p on num .nothing e)) }
 
   pub attributes-some : {place : Place} {r : ℕ} → found ≡ At place → r ≡ entryWord image place 6 → AttributesOf image o n r
   attributes-some {place} e w = record {
     all = λ p on num.
-        let a = finds .all p (on-catalog on) num .at place e in
+        let a = finds .all p on num .at place e in
         w ∙ a .holds 6 (omega arith) ∙ sym (ap entryAttributes (a .entered));
   }
 
@@ -67,7 +67,7 @@ module _ {image : List ℕ} {o : Opened} {n : ℕ} {found : Found} (finds : Find
 pub file-attributes : {image : List ℕ} {o : Opened} {n r : ℕ} {p : Plain} {f : File} → AttributesOf image o n r → OnDisc image p → NumbersOf o p → tableFind n (p .files) ≡ some f → r ≡ f .attributes
 file-attributes {n = n} {p = p} {f = f} h on num file =
     let good = on .good .files n f file in
-    h .all p on num ∙ ap entryAttributes (entry-of p n f (good .ordinary) file)
+    h .all p (on-catalog on) num ∙ ap entryAttributes (entry-of p n f (good .ordinary) file)
     ∙ entry-attributes n (f .optional) (f .attributes) (f .booked) (indexSector (p .F) (p .s) (f .bookedSlices) (f .slices)) (p .s * f .bookedSlices) (f .tail) (good .optional .count)
 
 -- ---- the block of a file on the image

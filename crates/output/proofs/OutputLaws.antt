@@ -106,7 +106,7 @@ module _ {image : List ℕ} {state : State} {o : Opened} {p q : Plain} {n j send
   is-output : (lent : List ℕ) → output p q move n f k lent ≡ transputAt p n sender (areaUsers state j) (areaUser state j u) f 3 lent q k
   is-output lent = sym (either-yes _ _ _ refl)
 
-  refused : (lent : List ℕ) (word : ℕ) → word ≢ 0 → output p q move n f k lent ≡ refusedAt q word k lent
+  pub refused : (lent : List ℕ) (word : ℕ) → word ≢ 0 → output p q move n f k lent ≡ refusedAt q word k lent
       → OutputLeaves image state p q n j sender u f k lent (areaReply (atPosition state j u k) word 0 k) image
   refused lent word d e = record {
     leaves = leaves e (at .good) (at .represents);
@@ -116,7 +116,7 @@ module _ {image : List ℕ} {state : State} {o : Opened} {p q : Plain} {n j send
   }
 
   module _ (lent : List ℕ) (long : 256 ≤ length lent) (words : Words lent) where
-    replaced : k < length (f .sectors) → OutputLeaves image state p q n j sender u f k lent (areaReply (atPosition state j u (k + 1)) 0 512 k) (replacedImage p image f k (take 256 lent))
+    pub replaced : k < length (f .sectors) → OutputLeaves image state p q n j sender u f k lent (areaReply (atPosition state j u (k + 1)) 0 512 k) (replacedImage p image f k (take 256 lent))
     replaced x =
         let sectors : List (List ℕ) = set (f .sectors) k (take 256 lent) in
         let on = replaced-on placed-on n sender placed-live placed-user (at .seat .file) k lent long words x in
@@ -134,10 +134,10 @@ module _ {image : List ℕ} {state : State} {o : Opened} {p q : Plain} {n j send
     past : ltb k (length (f .sectors)) ≡ false
     past = le-ltb k (length (f .sectors)) end
 
-    fixed : extendable (f .attributes) ≡ false → output p q move n f k lent ≡ refusedAt q 0x0A00 k lent
+    pub fixed : extendable (f .attributes) ≡ false → output p q move n f k lent ≡ refusedAt q 0x0A00 k lent
     fixed e = is-output lent ∙ append-fixed p n sender (areaUsers state j) (areaUser state j u) f 3 lent q k refl past e
 
-    no-room : extendable (f .attributes) ≡ true → roomWord p f ≢ 0 → output p q move n f k lent ≡ refusedAt q (roomWord p f) k lent
+    pub no-room : extendable (f .attributes) ≡ true → roomWord p f ≢ 0 → output p q move n f k lent ≡ refusedAt q (roomWord p f) k lent
     unfolding roomWord
     no-room e d = go (leb (slicesToTake (p .s) f) (freeSlices p)) (eqb (slicesToTake (p .s) f) 0 || leb (stretchCount (f .slices ++ appendSlices p f)) 127) refl refl d
       where
@@ -148,7 +148,7 @@ module _ {image : List ℕ} {state : State} {o : Opened} {p q : Plain} {n j send
         go false b x y d = is-output lent ∙ append-full p n sender (areaUsers state j) (areaUser state j u) f 3 lent q k refl past e x
 
     module _ (long : 256 ≤ length lent) (words : Words lent) {block : List ℕ} {count len : ℕ} (can : CanAppendFrom image o block count len lent p n (areaUsers state j) f) where
-      appended : {index : Sector} {len′ k′ : ℕ} → index .0 ≡ indexSector (p .F) (p .s) (length (f .slices ++ appendSlices p f)) (f .slices ++ appendSlices p f) → len′ ≡ suc (length (f .sectors)) → k′ ≡ suc k
+      pub appended : {index : Sector} {len′ k′ : ℕ} → index .0 ≡ indexSector (p .F) (p .s) (length (f .slices ++ appendSlices p f)) (f .slices ++ appendSlices p f) → len′ ≡ suc (length (f .sectors)) → k′ ≡ suc k
           → OutputLeaves image state p q n j sender u f k lent (areaReply (setArea state j (withLive (moved (areaAt state j) u (record { 0 = k′ })) index len′)) 0 512 k) (appendedImage p image f (appendSlices p f) (take 256 lent))
       appended {index} {len′} {k′} i l z =
           let slices : List ℕ = f .slices ++ appendSlices p f in

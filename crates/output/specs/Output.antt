@@ -22,7 +22,7 @@ use Rattle.refine.specs.Represents.{Represents}
 use Rattle.refine.specs.OnDisc.{OnDisc}
 use Rattle.refine.specs.Writes.{replacedImage, appendedImage}
 use Rattle.unit.specs.declared.Opened.{Opened}
-use Rattle.unit.specs.Opened.{NumbersOf}
+use Rattle.unit.specs.Opened.{NumbersOf, CatalogOn}
 use Rattle.sharing.specs.declared.AreaReply.{AreaReply}
 use Rattle.sharing.specs.Sharing.{atPosition}
 use Rattle.sharing.specs.Leaves.{Leaves, Seat, areaUsers, areaUser}
@@ -35,9 +35,9 @@ abbrev pub entryAttributes : Option (List ℕ) → ℕ
 entryAttributes none = 0
 entryAttributes (some words) = getD words 6 0
 
--- The attributes in the entry of name n, of every unit on the image.
+-- The attributes in the entry of name n, of every unit whose catalog is on the image.
 pub record AttributesOf (image : List ℕ) (o : Opened) (n r : ℕ) : Type 0 where
-  pub all : (p : Plain) → OnDisc image p → NumbersOf o p → r ≡ entryAttributes (entry p n)
+  pub all : (p : Plain) → CatalogOn image p → NumbersOf o p → r ≡ entryAttributes (entry p n)
 
 -- Block k of file f with this index sector, of a unit on the image.
 pub record BlockFrom (image : List ℕ) (index k : ℕ) (p : Plain) (n : ℕ) (f : File) : Type 0 where

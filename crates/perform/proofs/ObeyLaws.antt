@@ -31,17 +31,17 @@ use Rattle.steps.proofs.AskLaws.{asks-yes}
 use Rattle.steps.proofs.Whole.{on-disc}
 use Rattle.init.specs.Init.{initialized}
 use Rattle.unit.specs.declared.Opened.{Opened}
-use Rattle.unit.specs.Opened.{NumbersOf}
+use Rattle.unit.specs.Opened.{NumbersOf, MeantOn, Meant}
 use Rattle.unit.specs.LookUp.{LooksUp}
 use Rattle.unit.specs.Stepped.{Stepped}
-use Rattle.create.specs.Create.{Creates, Sets}
+use Rattle.create.specs.Create.{CreateStep, Creates, SetStep, Sets}
 use Rattle.create.proofs.CreateSteps.{create-represents, set-represents}
-use Rattle.remove.specs.Remove.{Removes}
+use Rattle.remove.specs.Remove.{RemoveStep, Removes}
 use Rattle.remove.proofs.RemoveUnit.{remove-stepped}
-use Rattle.change.specs.Change.{Changes}
+use Rattle.change.specs.Change.{ChangeStep, Changes}
 use Rattle.change.proofs.ChangeUnit.{change-stepped}
 use Rattle.areas.specs.declared.AreaDone.{AreaDone}
-use Rattle.areas.specs.Areas.{CreatesArea, AreaCreated, dummyCreate, made, RemovesArea, AreaRemoved, dummyRemove, books}
+use Rattle.areas.specs.Areas.{CreateAreaStep, CreatesArea, AreaCreated, dummyCreate, made, RemoveAreaStep, RemovesArea, AreaRemoved, dummyRemove, books}
 use Rattle.areas.proofs.AreaUnits.{create-area-stepped, remove-area-stepped}
 use Rattle.reports.specs.Description.{Describes}
 use Rattle.reports.specs.Listing.{Lists}
@@ -49,7 +49,7 @@ use Rattle.area_messages.specs.AreaMessages.{AreaMessages}
 use Rattle.sharing.specs.declared.AreaReply.{AreaReply}
 use Rattle.perform.proofs.StateKept.{Kept, state-kept}
 use Rattle.known.specs.Known.{unitMeant, Known}
-use Rattle.perform.specs.Perform.{performed, Wrote, Obeyed, Obeys}
+use Rattle.perform.specs.Perform.{performed, Wrote, Obeyed, CanObey, Obeys}
 
 -- equal words are the same words
 pub words-equal : (message : Message) (count : ℕ) (a b : List ℕ) → a ≡ b → SameWords message count a b
@@ -87,8 +87,12 @@ module _ {image : List ℕ} {state : State} {p : Plain} (g : Good p) (r : Repres
   pub meant : {message : Message} → Known state message → T (known p (unitMeant message))
   meant {message} k = rw (known-yes p (unitMeant message) (k .number ∙ r .areas .number) (omega (arith, k .number, k .low))) tt
 
+  -- and has its number
+  own : {message : Message} → Known state message → p .unit ≡ unitMeant message
+  own k = sym (k .number ∙ r .areas .number)
+
   -- the unit stays
-  stays : (message : Message) (lent : List ℕ) {a : Answer} {after : List ℕ} → state .initialized ≡ true → step p message lent ≡ record { unit = p; answer = a; lent = after }
+  pub stays : (message : Message) (lent : List ℕ) {a : Answer} {after : List ℕ} → state .initialized ≡ true → step p message lent ≡ record { unit = p; answer = a; lent = after }
       → Wrote p image state message lent (performed image state a after) → Obeyed p image state message lent (record { image = image; state = state; answer = a; lent = after })
   stays message lent {a} {after} i e w = record {
     wrote = w;
@@ -121,11 +125,11 @@ module _ {image : List ℕ} {state : State} {p : Plain} (g : Good p) (r : Repres
 
   pub look-up-obeyed : {o : Opened} {name : Name} {lent after : List ℕ} {result : ℕ} → NumbersOf o p → Known state (LookUp name) → LooksUp image o name lent result after
       → Obeyed p image state (LookUp name) lent (record { image = image; state = state; answer = answer result 0 0 0; lent = after })
-  look-up-obeyed {name = name} {lent = lent} n k c = stays (LookUp name) lent (k .ready) (c .all p (on-disc g r) n (meant k)) (refl, refl)
+  look-up-obeyed {name = name} {lent = lent} n k c = stays (LookUp name) lent (k .ready) (c .all p (on-disc g r) n (own k)) (refl, refl)
 
   pub describe-obeyed : {o : Opened} {unit bytes : ℕ} {lent after : List ℕ} {a : Answer} → NumbersOf o p → Known state (UnitDescription unit bytes) → Describes image o unit bytes lent a after
       → Obeyed p image state (UnitDescription unit bytes) lent (record { image = image; state = state; answer = a; lent = after })
-  describe-obeyed {unit = unit} {bytes = bytes} {lent = lent} n k c = stays (UnitDescription unit bytes) lent (k .ready) (c .all p (on-disc g r) n (meant k)) (refl, refl)
+  describe-obeyed {unit = unit} {bytes = bytes} {lent = lent} n k c = stays (UnitDescription unit bytes) lent (k .ready) (c .all p (on-disc g r) n (own k)) (refl, refl)
 
   pub list-obeyed : {o : Opened} {unit : ℕ} {lent after : List ℕ} {a : Answer} → NumbersOf o p → Known state (Listing unit) → Lists image o lent a after
       → Obeyed p image state (Listing unit) lent (record { image = image; state = state; answer = a; lent = after })
@@ -133,36 +137,47 @@ module _ {image : List ℕ} {state : State} {p : Plain} (g : Good p) (r : Repres
       let l = c .all p (on-disc g r) n unit (meant k) in
       record { wrote = (refl, refl); same = l .same; represents = subst (Represents image state) (sym (l .stays)) r; number = refl; initialized = k .ready }
 
-  pub create-obeyed : {o : Opened} {name : Name} {size attributes : ℕ} {lent after : List ℕ} {result : ℕ} → Words lent → NumbersOf o p → Known state (Create name size attributes)
-      → Creates image o name size attributes after result → Obeyed p image state (Create name size attributes) lent (record { image = after; state = state; answer = answer result 0 0 0; lent = lent })
-  create-obeyed {name = name} {size = size} {attributes = attributes} {lent = lent} w n k c =
-      let s = c .all p (on-disc g r) n (meant k) in
+  -- each message by its step on the unit p, and by its contract
+
+  pub create-by : {name : Name} {size attributes : ℕ} {lent after : List ℕ} {result : ℕ} → Words lent → Known state (Create name size attributes)
+      → CreateStep p image name size attributes after result → Obeyed p image state (Create name size attributes) lent (record { image = after; state = state; answer = answer result 0 0 0; lent = lent })
+  create-by {name = name} {size = size} {attributes = attributes} {lent = lent} w k s =
       steps (Create name size attributes) lent refl (k .ready) (s, refl)
       (record { answer = replied (s .step lent); good = step-keeps p (Create name size attributes) lent g w; represents = create-represents s lent g r })
 
-  pub set-obeyed : {o : Opened} {name : Name} {lent after : List ℕ} {result : ℕ} → Words lent → NumbersOf o p → Known state (Set name) → Sets image o name lent after result
+  pub create-obeyed : {o : Opened} {name : Name} {size attributes : ℕ} {lent after : List ℕ} {result : ℕ} → Words lent → NumbersOf o p → Known state (Create name size attributes)
+      → Creates image o name size attributes after result → Obeyed p image state (Create name size attributes) lent (record { image = after; state = state; answer = answer result 0 0 0; lent = lent })
+  create-obeyed w n k c = create-by w k (c .all p (on-disc g r) n (own k))
+
+  pub set-by : {name : Name} {lent after : List ℕ} {result : ℕ} → Words lent → Known state (Set name) → SetStep p image name lent after result
       → Obeyed p image state (Set name) lent (record { image = after; state = state; answer = answer result 0 0 0; lent = lent })
-  set-obeyed {name = name} {lent = lent} w n k c =
-      let s = c .all p (on-disc g r) n (meant k) in
+  set-by {name = name} {lent = lent} w k s =
       steps (Set name) lent refl (k .ready) (s, refl)
       (record { answer = replied (s .step); good = step-keeps p (Set name) lent g w; represents = set-represents s w g r })
 
+  pub set-obeyed : {o : Opened} {name : Name} {lent after : List ℕ} {result : ℕ} → Words lent → NumbersOf o p → Known state (Set name) → Sets image o name lent after result
+      → Obeyed p image state (Set name) lent (record { image = after; state = state; answer = answer result 0 0 0; lent = lent })
+  set-obeyed w n k c = set-by w k (c .all p (on-disc g r) n (own k))
+
+  pub remove-by : {name : Name} {lent after : List ℕ} {result : ℕ} → Known state (Remove name) → RemoveStep p image name after result
+      → Obeyed p image state (Remove name) lent (record { image = after; state = state; answer = answer result 0 0 0; lent = lent })
+  remove-by {name = name} {lent = lent} k s = steps (Remove name) lent refl (k .ready) (s, refl) (remove-stepped g r s lent)
+
   pub remove-obeyed : {o : Opened} {name : Name} {lent after : List ℕ} {result : ℕ} → NumbersOf o p → Known state (Remove name) → Removes image o state name after result
       → Obeyed p image state (Remove name) lent (record { image = after; state = state; answer = answer result 0 0 0; lent = lent })
-  remove-obeyed {name = name} {lent = lent} n k c =
-      let s = c .all p g r n (meant k) in
-      steps (Remove name) lent refl (k .ready) (s, refl) (remove-stepped g r s lent)
+  remove-obeyed n k c = remove-by k (c .all p g r n)
+
+  pub change-by : {name : Name} {lent after : List ℕ} {result : ℕ} → Words lent → Known state (Change name) → ChangeStep p image name lent after result
+      → Obeyed p image state (Change name) lent (record { image = after; state = state; answer = answer result 0 0 0; lent = lent })
+  change-by {name = name} {lent = lent} w k s = steps (Change name) lent refl (k .ready) (s, refl) (change-stepped g r w s)
 
   pub change-obeyed : {o : Opened} {name : Name} {lent after : List ℕ} {result : ℕ} → Words lent → NumbersOf o p → Known state (Change name) → Changes image o state name lent after result
       → Obeyed p image state (Change name) lent (record { image = after; state = state; answer = answer result 0 0 0; lent = lent })
-  change-obeyed {name = name} {lent = lent} w n k c =
-      let s = c .all p g r n (meant k) in
-      steps (Change name) lent refl (k .ready) (s, refl) (change-stepped g r w s)
+  change-obeyed w n k c = change-by w k (c .all p g r n)
 
-  pub create-area-obeyed : {o : Opened} {name : Name} {lent : List ℕ} {d : AreaDone} → NumbersOf o p → Known state (CreateArea name) → CreatesArea image o state name d
+  pub create-area-by : {name : Name} {lent : List ℕ} {d : AreaDone} → Known state (CreateArea name) → CreateAreaStep p state name d
       → Obeyed p image state (CreateArea name) lent (record { image = image; state = d .state; answer = answer (d .result) 0 0 0; lent = lent })
-  create-area-obeyed {name = name} {lent = lent} {d = d} n k c =
-      let s = c .all p g r n (meant k) in
+  create-area-by {name = name} {lent = lent} {d = d} k s =
       let e = kept (s .step lent) in
       steps (CreateArea name) lent (e .0) (e .1 ∙ k .ready) (refl, s) (create-area-stepped g r s lent)
     where
@@ -171,10 +186,13 @@ module _ {image : List ℕ} {state : State} {p : Plain} (g : Good p) (r : Repres
       kept (written z q e (dummyCreate a same)) = (ap (λ (x : State). x .unit) same, ap (λ (x : State). x .initialized) same)
       kept (written z q e (made m)) = (ap (λ (x : State). x .unit) (m .left), ap (λ (x : State). x .initialized) (m .left))
 
-  pub remove-area-obeyed : {o : Opened} {name : Name} {lent after : List ℕ} {d : AreaDone} → NumbersOf o p → Known state (RemoveArea name) → RemovesArea image o state name after d
+  pub create-area-obeyed : {o : Opened} {name : Name} {lent : List ℕ} {d : AreaDone} → NumbersOf o p → Known state (CreateArea name) → CreatesArea image o state name d
+      → Obeyed p image state (CreateArea name) lent (record { image = image; state = d .state; answer = answer (d .result) 0 0 0; lent = lent })
+  create-area-obeyed n k c = create-area-by k (c .all p g r n)
+
+  pub remove-area-by : {name : Name} {lent after : List ℕ} {d : AreaDone} → Known state (RemoveArea name) → RemoveAreaStep p image state name after d
       → Obeyed p image state (RemoveArea name) lent (record { image = after; state = d .state; answer = answer (d .result) 0 0 0; lent = lent })
-  remove-area-obeyed {name = name} {lent = lent} {after = after} {d = d} n k c =
-      let s = c .all p g r n (meant k) in
+  remove-area-by {name = name} {lent = lent} {after = after} {d = d} k s =
       let e = kept (s .step lent) in
       steps (RemoveArea name) lent (e .0) (e .1 ∙ k .ready) s (remove-area-stepped g r s lent)
     where
@@ -184,11 +202,15 @@ module _ {image : List ℕ} {state : State} {p : Plain} (g : Good p) (r : Repres
       kept (written z q e (dummyRemove a b same)) = (ap (λ (x : State). x .unit) same, ap (λ (x : State). x .initialized) same)
       kept (written z q e (books m)) = (ap (λ (x : State). x .unit) (m .left), ap (λ (x : State). x .initialized) (m .left))
 
+  pub remove-area-obeyed : {o : Opened} {name : Name} {lent after : List ℕ} {d : AreaDone} → NumbersOf o p → Known state (RemoveArea name) → RemovesArea image o state name after d
+      → Obeyed p image state (RemoveArea name) lent (record { image = after; state = d .state; answer = answer (d .result) 0 0 0; lent = lent })
+  remove-area-obeyed n k c = remove-area-by k (c .all p g r n)
+
   pub area-message-obeyed : {o : Opened} {name : Name} {sender : ℕ} {operation : Operation} {lent filled after : List ℕ} {d : AreaReply} → NumbersOf o p
       → Known state (AreaMessage name sender operation) → AreaMessages image state o name sender operation lent d filled after
       → Obeyed p image state (AreaMessage name sender operation) lent (record { image = after; state = d .state; answer = d .answer; lent = filled })
   area-message-obeyed {sender = sender} {operation = operation} {d = d} n k c =
-      let a = c .all p g r n (meant k) in
+      let a = c .all p g r n in
       let e : Kept state (d .state) = subst (Kept state) (sym (a .reached)) (state-kept p state sender operation (d .answer) _ _) in
       record {
         wrote = a;
@@ -237,6 +259,19 @@ module _ {image : List ℕ} {state : State} {p : Plain} (g : Good p) (r : Repres
       }
 
 -- ---- the message in hand is one of these, and so are answer and state
+
+-- what a message's own step starts from
+module _ {image : List ℕ} {state : State} {o : Opened} {m message : Message} (c : CanObey image state o m) (e : m ≡ message) where
+  known-now : T (known (c .standing .unit) (unitMeant message))
+  known-now = meant (c .standing .good) (c .standing .represents) (subst (Known state) e (c .known))
+
+  pub can-mean : Meant image state o (unitMeant message)
+  can-mean = record { standing = c .standing; meant = known-now }
+
+  pub can-mean-on : MeantOn image o (unitMeant message)
+  can-mean-on =
+      let h = c .standing in
+      record { opened = record { unit = h .unit; on = on-disc (h .good) (h .represents); numbers = h .numbers }; meant = known-now }
 
 pub answer-obeys : {image after lent filled : List ℕ} {state next s : State} {o : Opened} {m message : Message} {a b : Answer} → m ≡ message → Known state m → (a ≡ b) × (s ≡ next)
     → (Known state message → (p : Plain) → Good p → Represents image state p → NumbersOf o p → Obeyed p image state message lent (performed after next b filled))

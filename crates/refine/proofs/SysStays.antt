@@ -1,13 +1,12 @@
 -- SYS on the image is SYS of the plain unit: where that one has not shrunk, neither has SYS on the image.
-use mathlib.Core.Path.{_≡_, refl, sym, ap, ap₂, _∙_}
+use mathlib.Core.Path.{_≡_, sym, ap, ap₂, _∙_}
 use mathlib.Core.List.{List, _++_}
-use Prim.Native.Nat.{ℕ, _*_, _≤_}
+use Prim.Native.Nat.{ℕ, _*_}
 use native.Mathlib.Omega.{arith}
 use native.Mathlib.Nat.{mul-le-mul-left}
 use Rattle.types.specs.declared.State.{State}
-use Rattle.disc.specs.Words.{word}
 use Rattle.disc.specs.Stretches.{slicesAt}
-use Rattle.disc.specs.Kit.{kitSector, sysIndexSector}
+use Rattle.disc.specs.Kit.{sysIndexSector}
 use Rattle.plain.specs.Unit.{Plain}
 use Rattle.plain.specs.Good.{Good}
 use Rattle.plain.specs.Claims.{NeverShrinks}

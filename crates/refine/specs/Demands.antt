@@ -113,7 +113,7 @@ pub record Demand3After (image : List ℕ) (state : State) (calls : List Call) (
   pub same : SameReplies calls replies (answers start calls)
   -- "Entries, files and open areas at the end are the plain unit's too."
   pub represented : Represents end stop (after start calls)
-  -- the unit at the end is one that a sound image has
+  -- the plain unit at the end keeps the rules of a sound unit, too
   pub good-after : Good (after start calls)
   -- "[SYS] never shrinks."
   pub sys-stays : SysNeverShrinks image state end stop

@@ -21,13 +21,14 @@ use Rattle.plain.specs.Good.{Good}
 use Rattle.plain.specs.Questions.{replies, done, known}
 use Rattle.plain.specs.Catalog.{stepRemove}
 use Rattle.refine.specs.Represents.{Represents}
-use Rattle.refine.specs.Replies.{Replies, refused, written}
+use Rattle.refine.specs.Replies.{refused, written}
 use Rattle.steps.proofs.Whole.{on-disc}
 use Rattle.unit.specs.declared.Opened.{Opened}
-use Rattle.unit.specs.Opened.{NumbersOf, Represented}
+use Rattle.unit.specs.Opened.{NumbersOf, Meant}
 use Rattle.unit.specs.Find.{NameAt, NameFound, FindsName}
 use Rattle.unit.specs.Files.{nameOpen}
 use Rattle.unit.proofs.OpenLaws.{on-catalog}
+use Rattle.unit.proofs.MeantLaws.{meant-known}
 use Rattle.unit.proofs.AskLaws.{true-yes, false-no, asks-yes, asks-no, given-none, given-some}
 use Rattle.unit.proofs.FileLaws.{found-file, file-words, system-none, name-open, name-closed}
 use Rattle.remove.specs.Remove.{CanDropFrom, CanDrop, Dropped, Removes}
@@ -59,13 +60,14 @@ module _ (p : Plain) (name : Name) (lent : List ℕ) (mine : T (known p (unitIn 
 
 -- ---- by what was found
 
-module _ {image : List ℕ} {o : Opened} {n : ℕ} {r : Found} (state : State) (name : Name) (is : n ≡ named name) (finds : FindsName image o n r) where
+module _ {image : List ℕ} {o : Opened} {n : ℕ} {r : Found} (state : State) (name : Name) (meant : Meant image state o (unitIn name)) (is : n ≡ named name)
+    (finds : FindsName image o n r) where
   found : (p : Plain) → Good p → Represents image state p → NumbersOf o p → NameFound image p (named name) r
   found p g rep num = subst (λ (m : ℕ). NameFound image p m r) is (finds .all p (on-catalog (on-disc g rep)) num)
 
   pub removes-none : r ≡ Nothing → Removes image o state name image 0x5000
   removes-none e = record {
-    all = λ p g rep num mine. record { step = λ lent. refused (λ z. omega arith) (remove-none p name lent mine (found p g rep num .nothing e)) refl };
+    all = λ p g rep num. record { step = λ lent. refused (λ z. omega arith) (remove-none p name lent (meant-known meant rep) (found p g rep num .nothing e)) refl };
   }
 
   module _ {place : Place} (e : r ≡ At place) where
@@ -74,10 +76,10 @@ module _ {image : List ℕ} {o : Opened} {n : ℕ} {r : Found} (state : State) (
 
     pub removes-system : isSystem n ≡ true → Removes image o state name image 0x1200
     removes-system system = record {
-      all = λ p g rep num mine. record {
+      all = λ p g rep num. record {
         step = λ lent.
             let none-there = system-none p (named name) g (true-yes (ap isSystem (sym is) ∙ system)) in
-            refused (λ z. omega arith) (remove-system p name lent mine (at p g rep num .entered) none-there) refl;
+            refused (λ z. omega arith) (remove-system p name lent (meant-known meant rep) (at p g rep num .entered) none-there) refl;
       };
     }
 
@@ -87,11 +89,11 @@ module _ {image : List ℕ} {o : Opened} {n : ℕ} {r : Found} (state : State) (
 
       pub removes-open : nameOpen n state ≡ true → Removes image o state name image 0x1200
       removes-open h = record {
-        all = λ p g rep num mine. record {
+        all = λ p g rep num. record {
           step = λ lent.
               let f = file-of p g rep num in
               let there = sym (name-open (rep .areas) (named name)) ∙ ap (λ (m : ℕ). nameOpen m state) (sym is) ∙ h in
-              refused (λ z. omega arith) (remove-open p name lent mine (at p g rep num .entered) (f .0) (f .1) there) refl;
+              refused (λ z. omega arith) (remove-open p name lent (meant-known meant rep) (at p g rep num .entered) (f .0) (f .1) there) refl;
         };
       }
 
@@ -103,8 +105,8 @@ module _ {image : List ℕ} {o : Opened} {n : ℕ} {r : Found} (state : State) (
         can-from p g rep num =
             record { on = on-disc g rep; numbers = num; file = file-of p g rep num .1; closed = closed p rep; at = at p g rep num }
 
-        pub can-drop : Represented image state o → CanDrop image o place
-        can-drop h = record { unit = h .unit; name = named name; file = _; can = can-from (h .unit) (h .good) (h .represents) (h .numbers) }
+        pub can-drop : CanDrop image o place
+        can-drop = let h = meant .standing in record { unit = h .unit; name = named name; file = _; can = can-from (h .unit) (h .good) (h .represents) (h .numbers) }
 
         -- the attributes in the entry are the file's
         attributes-are : (p : Plain) (g : Good p) (rep : Represents image state p) (num : NumbersOf o p) → entryWord image place 6 ≡ file-of p g rep num .0 .attributes
@@ -112,24 +114,24 @@ module _ {image : List ℕ} {o : Opened} {n : ℕ} {r : Found} (state : State) (
 
         pub removes-permanent : bit 11 (entryWord image place 6) ≡ true → Removes image o state name image 0x1200
         removes-permanent h = record {
-          all = λ p g rep num mine. record {
+          all = λ p g rep num. record {
             step = λ lent.
                 let f = file-of p g rep num in
                 let held = sym (ap permanent (attributes-are p g rep num)) ∙ h in
-                refused (λ z. omega arith) (remove-permanent p name lent mine (at p g rep num .entered) (f .0) (f .1) (closed p rep) held) refl;
+                refused (λ z. omega arith) (remove-permanent p name lent (meant-known meant rep) (at p g rep num .entered) (f .0) (f .1) (closed p rep) held) refl;
           };
         }
 
         pub removes-done : bit 11 (entryWord image place 6) ≡ false → {after : List ℕ} → Dropped image o place after → Removes image o state name after 0
         unfolding at can-from
         removes-done h {after} drops = record {
-          all = λ p g rep num mine. record {
+          all = λ p g rep num. record {
             step = λ lent.
                 let f = file-of p g rep num in
                 let a = at p g rep num in
                 let free = sym (ap permanent (attributes-are p g rep num)) ∙ h in
                 written refl (withFiles p (tableRemove (named name) (p .files)))
-                (remove-done p name lent mine (a .entered) (f .0) (f .1) (closed p rep) free)
+                (remove-done p name lent (meant-known meant rep) (a .entered) (f .0) (f .1) (closed p rep) free)
                 (record {
                   f = f .0;
                   file = f .1;

@@ -3,16 +3,14 @@ use mathlib.Core.Path.{_≡_}
 use mathlib.Core.List.{List}
 use mathlib.Core.Option.{none, some}
 use Prim.Native.Nat.{ℕ, _<_}
-use lib.Dec.{T}
 use Rattle.types.specs.declared.Name.{Name}
 use Rattle.types.specs.declared.State.{State}
-use Rattle.disc.specs.Names.{named, unitIn}
+use Rattle.disc.specs.Names.{named}
 use Rattle.disc.specs.Entries.{placeCount, nameAt}
 use Rattle.catalog.specs.declared.Place.{Place}
 use Rattle.plain.specs.Table.{tableFind, tableRemove}
 use Rattle.plain.specs.Unit.{Plain, File, withFiles}
 use Rattle.plain.specs.Good.{Good}
-use Rattle.plain.specs.Questions.{known}
 use Rattle.plain.specs.Catalog.{stepRemove}
 use Rattle.refine.specs.Represents.{Represents}
 use Rattle.refine.specs.OnDisc.{OnDisc}
@@ -59,6 +57,6 @@ pub record Removed (p : Plain) (image : List ℕ) (n : ℕ) (after : List ℕ) (
 pub record RemoveStep (p : Plain) (image : List ℕ) (name : Name) (after : List ℕ) (result : ℕ) : Type 0 where
   pub step : (lent : List ℕ) → Replies p (stepRemove p name lent) lent result (after ≡ image) (Removed p image (named name) after)
 
--- The same of every unit that image and state represent and that the message means.
+-- The same of every unit that image and state represent.
 pub record Removes (image : List ℕ) (o : Opened) (state : State) (name : Name) (after : List ℕ) (result : ℕ) : Type 0 where
-  pub all : (p : Plain) → Good p → Represents image state p → NumbersOf o p → T (known p (unitIn name)) → RemoveStep p image name after result
+  pub all : (p : Plain) → Good p → Represents image state p → NumbersOf o p → RemoveStep p image name after result

@@ -1,6 +1,7 @@
 // Remove, from question 3 on: a name and its file are dropped.
 
-ghost use Rattle.unit.specs.Opened.{Represented};
+ghost use Rattle.disc.specs.Names.{unitIn};
+ghost use Rattle.unit.specs.Opened.{Meant};
 ghost use Rattle.remove.specs.Remove.{CanDrop, Dropped, Removes};
 use catalog::Found;
 use catalog::Place;
@@ -24,7 +25,7 @@ fn drop_file(image: &mut [u16], o: Opened, place: Place)
 
 // Remove of the name in a message that means this unit: the result word.
 pub fn remove(image: &mut [u16], o: Opened, state: State, name: Name) -> u16
-    requires { ⌜ Represented (now image) state o ⌝ }
+    requires { ⌜ Meant (now image) state o (unitIn name) ⌝ }
     ensures { λ r. ⌜ Removes (now (image .entry)) o state name (now (image .exit)) r ⌝ }
 {
     let n = names::fold(name);

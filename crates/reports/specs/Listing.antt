@@ -18,7 +18,7 @@ use Rattle.plain.specs.Step.{reply}
 use Rattle.refine.specs.OnDisc.{OnDisc}
 use Rattle.refine.specs.Demands.{SameReply}
 use Rattle.unit.specs.declared.Opened.{Opened}
-use Rattle.unit.specs.Opened.{NumbersOf}
+use Rattle.unit.specs.Opened.{NumbersOf, MeantOn}
 
 -- f 0, f 1 and so on, n lists one after the other.
 unfoldable pub inTurn : (ℕ → List ℕ) → ℕ → List ℕ
@@ -54,6 +54,11 @@ pub record CountOf (l : List ℕ) (count : ℕ) : Type 0 where
 pub record Copied (before : List ℕ) (at : ℕ) (words after : List ℕ) (next : ℕ) : Type 0 where
   pub stored : after ≡ store before at words
   pub end : next ≡ at + length words
+
+-- What the listing starts from, whatever number the unit has.
+pub record CanList (image : List ℕ) (o : Opened) : Type 0 where
+  pub number : ℕ
+  pub meant : MeantOn image o number
 
 -- "Listing writes each entry's 16 booked words once and hands back the number of entries, 0 if refused; the entries' order is left
 -- open": answer and lent words after are the plain unit's but for that order, and the unit stays.

@@ -5,9 +5,9 @@ ghost use Prim.Native.Nat.{_+_, _*_, _≤_, _<_};
 ghost use lib.ListN.{length};
 ghost use Rattle.words.specs.Store.{store};
 ghost use Rattle.plain.specs.Questions.{answer};
-ghost use Rattle.unit.specs.Opened.{OpenedOn};
+ghost use Rattle.unit.specs.Opened.{MeantOn};
 ghost use Rattle.reports.specs.Description.{described, Describes};
-ghost use Rattle.reports.specs.Listing.{slotEntry, slotEntries, blockEntries, Readable, CountOf, Copied, Lists};
+ghost use Rattle.reports.specs.Listing.{slotEntry, slotEntries, blockEntries, Readable, CountOf, Copied, CanList, Lists};
 use types::Answer;
 use types::Block;
 use types::Sector;
@@ -53,9 +53,10 @@ fn store_description(image: &[u16], o: Opened, unit: u16, lent: &mut [u16])
     words::copy_words(&description, 0, lent, 0, 16);
 }
 
-// Get Unit Description. N and the free sectors are read in the kit, the other numbers are the unit's as it was opened.
+// Get Unit Description of a message that means this unit. N and the free sectors are read in the kit, the other numbers are the
+// unit's as it was opened.
 pub fn describe(image: &[u16], o: Opened, unit: u16, bytes: u16, lent: &mut [u16]) -> Answer
-    requires { ⌜ unit ≤ 3 ⌝ }
+    requires { ⌜ MeantOn (now image) o unit ⌝ }
     ensures { λ r. ⌜ Describes (now (image .entry)) o unit bytes (now (lent .entry)) r (now (lent .exit)) ⌝ }
 {
     if bytes < 32 {
@@ -146,7 +147,7 @@ fn copy_entries(image: &[u16], n: u32, lent: &mut [u16])
 
 // The listing: the entries of SYS in the order of their places, counted first.
 pub fn list(image: &[u16], o: Opened, lent: &mut [u16]) -> Answer
-    requires { ⌜ OpenedOn (now image) o ⌝ }
+    requires { ⌜ CanList (now image) o ⌝ }
     ensures { λ r. ⌜ Lists (now (image .entry)) o (now (lent .entry)) r (now (lent .exit)) ⌝ }
 {
     let blocks = o.keys as u32 * o.layers as u32;

@@ -53,7 +53,7 @@ module _ {image : List ℕ} {g : Geometry} {L : ℕ} where
 
   -- the files or their slices are not those of a sound unit, or the map decides
   module _ {state : State} {r : Bool} {marks : List ℕ}
-      (files : Marking r (SoundFiles image state g (placeCount (g .keys) L)) (g .slices) marks (sysSlices image g) (slicesBelow image state (g .first) (g .slice) (placesIn image g) (placeCount (g .keys) L))) where
+      (files : Marking r (SoundFiles image state g (placeCount (g .keys) L)) (g .slices) marks (sysSlices image g) (slicesBelow image state (g .first .0) (g .slice) (placesIn image g) (placeCount (g .keys) L))) where
     pub files-refused : B.not r ≡ true → Decides false (SoundLayers image state g L)
     files-refused e = fails (λ s. files .not (not-true r e) (s .files) (s .once))
 

@@ -45,31 +45,31 @@ module _ {image : List ℕ} {g : Geometry} {before after : List ℕ} {sys : Inde
   }
 
   module _ (good : sys .good ≡ true) where
-    read : IndexBlock image (g .first) (g .slice) sysIndexSector × InRangeOnce (g .slices) (sysSlices image g) × MarksOf after (sysSlices image g)
+    read : IndexBlock image (g .first .0) (g .slice) sysIndexSector × InRangeOnce (g .slices) (sysSlices image g) × MarksOf after (sysSlices image g)
     read = marked .marking [] (none .is) (none .once) .yes good
 
     pub sys-of : SysOf image g
     sys-of = record { unit = unit; index = read .0; once = read .1 }
 
-    first-one : sys .start ≡ g .first → firstOf (sysSlices image g) ≡ 1
+    first-one : sys .start .0 ≡ g .first .0 → firstOf (sysSlices image g) ≡ 1
     first-one e =
-        starts-first (g .first) (g .slice) (firstOf (sysSlices image g)) (omega (arith, unit .limits .slice-low))
-        (first-some (g .first) (g .slice) (g .slices) (sysSlices image g) (read .0 .pairs) (read .0 .some) (read .1))
+        starts-first (g .first .0) (g .slice) (firstOf (sysSlices image g)) (omega (arith, unit .limits .slice-low))
+        (first-some (g .first .0) (g .slice) (g .slices) (sysSlices image g) (read .0 .pairs) (read .0 .some) (read .1))
         (omega (arith, e, marked .start good))
 
-    one-first : firstOf (sysSlices image g) ≡ 1 → sys .start ≡ g .first
+    one-first : firstOf (sysSlices image g) ≡ 1 → sys .start .0 ≡ g .first .0
     one-first e =
-        let f : sliceStart (g .first) (g .slice) 1 ≡ g .first = omega arith in
-        marked .start good ∙ ap (sliceStart (g .first) (g .slice)) e ∙ f
+        let f : sliceStart (g .first .0) (g .slice) 1 ≡ g .first .0 = omega arith in
+        marked .start good ∙ ap (sliceStart (g .first .0) (g .slice)) e ∙ f
 
     -- SYS begins elsewhere
-    pub sys-elsewhere : {marks : List ℕ} → (sys .start ≡ g .first → ⊥) → SysMarking image g marks 0
+    pub sys-elsewhere : {marks : List ℕ} → (sys .start .0 ≡ g .first .0 → ⊥) → SysMarking image g marks 0
     sys-elsewhere d = record {
       known = λ n. absurd (n refl);
       only = λ L sound names. absurd (d (one-first (sound .first)));
     }
 
-    pub sys-layers : {r : ℕ} → sys .start ≡ g .first → LayersOf (g .keys) (g .slice) (sysSlices image g) (placesIn image g) r → SysMarking image g after r
+    pub sys-layers : {r : ℕ} → sys .start .0 ≡ g .first .0 → LayersOf (g .keys) (g .slice) (sysSlices image g) (placesIn image g) r → SysMarking image g after r
     sys-layers {r} e layers = record {
       known = λ d.
           let fits = layers .fits d in (

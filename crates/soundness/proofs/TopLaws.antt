@@ -38,7 +38,7 @@ once-left m l r once k = omega (arith, once k, occurrences-append k l r)
 -- ---- by the geometry
 
 abbrev SoundBy : List ℕ → State → Geometry → Type 0
-SoundBy image state g = SoundWith image state (g .keys) (g .slice) (g .first) (g .sectors) (sysSlices image g)
+SoundBy image state g = SoundWith image state (g .keys) (g .slice) (g .first .0) (g .sectors) (sysSlices image g)
 
 module _ {image : List ℕ} {g : Geometry} (is : GeometryOf image g) where
   -- SYS's slices have room for its layers
@@ -73,7 +73,7 @@ module _ {image : List ℕ} {g : Geometry} (is : GeometryOf image g) where
       once = once-left
           (g .slices)
           (sysSlices image g)
-          (slicesBelow image state (g .first) (g .slice) (placesIn image g) (placeCount (g .keys) (w .layers)))
+          (slicesBelow image state (g .first .0) (g .slice) (placesIn image g) (placeCount (g .keys) (w .layers)))
           (by-layers w .once);
       first = w .sysFirst;
       count = w .sysCount;

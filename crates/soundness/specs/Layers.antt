@@ -20,7 +20,7 @@ use Rattle.soundness.specs.Areas.{AreasEntered}
 -- "SYS has length H times L and H times L / s slices, rounded up, slice 1 first", its index as it must be.
 pub record SysSound (image : List ℕ) (g : Geometry) (L : ℕ) : Type 0 where
   pub some : 1 ≤ L
-  pub index : IndexBlock image (g .first) (g .slice) sysIndexSector
+  pub index : IndexBlock image (g .first .0) (g .slice) sysIndexSector
   pub once : InRangeOnce (g .slices) (sysSlices image g)
   pub first : firstOf (sysSlices image g) ≡ 1
   pub count : length (sysSlices image g) ≡ ceilDiv (g .keys * L) (g .slice)
@@ -32,7 +32,7 @@ pub record SysMarking (image : List ℕ) (g : Geometry) (marks : List ℕ) (r : 
 
 -- The slices that all files have, SYS's first.
 abbrev pub unitSlices : List ℕ → State → Geometry → ℕ → List ℕ
-unitSlices image state g L = allSlices image state (g .first) (g .slice) (sysSlices image g) (placeCount (g .keys) L)
+unitSlices image state g L = allSlices image state (g .first .0) (g .slice) (sysSlices image g) (placeCount (g .keys) L)
 
 -- The rules on names, open areas' names, files and map, where SYS has L layers.
 pub record SoundLayers (image : List ℕ) (state : State) (g : Geometry) (L : ℕ) : Type 0 where

@@ -15,6 +15,7 @@ ghost use Rattle.soundness.specs.Layers.{SysMarking, SoundLayers};
 use entries::Found;
 use kit::Geometry;
 use types::Name;
+use types::Sector;
 use types::State;
 
 // Whether a name is entered in the first `blocks` sectors of SYS, and not SYS or MAP.
@@ -55,11 +56,13 @@ fn mark_sys(image: &[u16], g: Geometry, marks: &mut [u8; 4096]) -> u16
     requires { ⌜ UnitOf (now image) g × Marked (g .slices) (now marks) [] ⌝ }
     ensures { λ r. ⌜ SysMarking (now (image .entry)) g (now (marks .exit)) r ⌝ }
 {
-    let sys = marks::mark_index(image, 6, g, marks);
+    let sys = marks::mark_index(image, Sector(6), g, marks);
     if !sys.good {
         return 0;
     }
-    if sys.start != g.first {
+    let start = sys.start;
+    let first = g.first;
+    if start.0 != first.0 {
         return 0;
     }
     entries::find_layers(image, g)

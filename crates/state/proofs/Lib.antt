@@ -1,4 +1,4 @@
 pub mod SearchLaws
 pub mod DistinctLaws
-pub mod NameLaws
+pub mod AnswerLaws
 pub mod ShapeLaws

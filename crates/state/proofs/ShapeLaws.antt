@@ -31,9 +31,6 @@ users-length area vs g = sym (length-map (area .users) _) ∙ LL.owed A.the-type
 pub name-words : (name : Name) (vs : List Val) → Is N.the-row name vs → (name .1 < 65536) × (name .2 < 65536)
 name-words name vs g = let owed = LL.owed N.the-type N′.the-laws name vs g in (owed .1 .0 .1, owed .1 .1 .0 .1)
 
-pub area-name-words : (area : Area) (vs : List Val) → Is A.the-row area vs → (area .name .1 < 65536) × (area .name .2 < 65536)
-area-name-words area vs g = let owed = LL.owed A.the-type A′.the-laws area vs g .1 .0 .1 .1 in (owed .1 .0 .1, owed .1 .1 .0 .1)
-
 -- a place that a search found is one of the eight descriptors, of the three entries
 pub area-within : (n : ℕ) (state : State) (vs : List Val) → Is S.the-row state vs → (j : ℕ) → areaNamed n state ≡ At j → j < 8
 area-within n state vs g j e = omega (arith, first-at (isNamed n) pastArea (state .areas) j e .inside, areas-length state vs g)

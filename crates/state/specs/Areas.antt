@@ -1,7 +1,8 @@
 -- Operations on the state by value: area descriptors and user entries, searches among them, Reserve, Release and positions.
+use mathlib.Core.Path.{_≡_}
 use mathlib.Core.Bool.{Bool, true, false, not, _&&_, _||_, cond}
 use mathlib.Core.List.{List, [], _∷_}
-use Prim.Native.Nat.{ℕ, suc, _+_, _-_}
+use Prim.Native.Nat.{ℕ, suc, _+_, _-_, _≤_}
 use lib.ListN.{set, replicate}
 use lib.Dec.{leb, ltb, eqb}
 use Rattle.types.specs.declared.Sector.{Sector}
@@ -36,6 +37,11 @@ module _ {A : Type 0} where
   countOf test [] = 0
   countOf test (x ∷ l) = cond (test x) 1 0 + countOf test l
 
+-- The result word for each case of a search's answer, where `refusal` is the word of the question's no.
+abbrev pub wordOf : ℕ → Found → ℕ
+wordOf refusal (At j) = 0
+wordOf refusal Absent = refusal
+
 -- ---- area descriptors: "eight area processes"
 
 -- The state with another descriptor j, the area with another user entry u; unchanged past the end.
@@ -63,9 +69,23 @@ isNamed n area = area .live && eqb (packed (area .name)) n
 abbrev pub areaNamed : ℕ → State → Found
 areaNamed n state = firstFrom (isNamed n) 0 (state .areas)
 
+abbrev pub openWord : Found → ℕ
+openWord r = wordOf 0x4800 r
+
+pub record AreaFound (n : ℕ) (state : State) (r : Found) : Type 0 where
+  pub first : r ≡ areaNamed n state
+  pub word : openWord r ≡ cond (anyOf (isNamed n) (state .areas)) 0 0x4800
+
 -- "Already open, or one of eight vacant? 0900h": the lowest vacant descriptor.
 abbrev pub vacantAreaOf : State → Found
 vacantAreaOf state = firstFrom isVacant 0 (state .areas)
+
+abbrev pub vacantWord : Found → ℕ
+vacantWord r = wordOf 0x0900 r
+
+pub record VacantFound (state : State) (r : Found) : Type 0 where
+  pub first : r ≡ vacantAreaOf state
+  pub word : vacantWord r ≡ cond (anyOf isVacant (state .areas)) 0 0x0900
 
 -- "Init: no area process?"
 abbrev pub anyOpen : State → Bool
@@ -95,6 +115,18 @@ hasId id user = eqb (user .id) id
 -- "Sender a user?": the sender's entry. The lowest vacant entry is that of 0.
 abbrev pub entryOf : ℕ → Area → Found
 entryOf id area = firstFrom (hasId id) 0 (area .users)
+
+-- "Sender a user? 0810h", and of Reserve "entry vacant or own ..? 0808h".
+abbrev pub userWord : Found → ℕ
+userWord r = wordOf 0x0810 r
+
+abbrev pub entryWord : Found → ℕ
+entryWord r = wordOf 0x0808 r
+
+pub record UserFound (id : ℕ) (area : Area) (r : Found) : Type 0 where
+  pub first : r ≡ entryOf id area
+  pub user : userWord r ≡ cond (anyOf (hasId id) (area .users)) 0 0x0810
+  pub entry : entryWord r ≡ cond (anyOf (hasId id) (area .users)) 0 0x0808
 
 abbrev pub isTaken : User → Bool
 isTaken user = not (hasId 0 user)
@@ -128,6 +160,24 @@ abbrev pub raised : ℕ → Role → Role
 raised count Sharing = cond (eqb count 4) ExclusiveUser (cond (eqb count 2) ExclusiveWriter Sharing)
 raised count ExclusiveWriter = cond (eqb count 4) ExclusiveUser ExclusiveWriter
 raised count ExclusiveUser = ExclusiveUser
+
+-- "Reserve 2, 3, 4 (exclusive writer, user, exclusive user)": the number that asks for a role.
+abbrev pub roleNumber : Role → ℕ
+roleNumber ExclusiveWriter = 2
+roleNumber Sharing = 3
+roleNumber ExclusiveUser = 4
+
+-- "Sharing, exclusive writer or exclusive user": the order in which a role rises.
+abbrev pub roleRank : Role → ℕ
+roleRank Sharing = 0
+roleRank ExclusiveWriter = 1
+roleRank ExclusiveUser = 2
+
+-- The role after Reserve with a count: a sharing user has the role that the count asks for, and no role falls.
+pub record RoleRaised (count : ℕ) (role r : Role) : Type 0 where
+  pub is : r ≡ raised count role
+  pub asked : role ≡ Sharing → 2 ≤ count → count ≤ 4 → roleNumber r ≡ count
+  pub rises : roleRank role ≤ roleRank r
 
 -- "Inserts the sender at position 0 or adds 1 to its open count."
 abbrev pub inserted : ℕ → ℕ → User

@@ -3,7 +3,7 @@
 ghost use mathlib.Core.Path.{_≡_};
 ghost use Prim.Native.Nat.{_<_};
 ghost use Rattle.types.specs.State.{areaAt, userAt};
-ghost use Rattle.state.specs.Areas.{setArea, setUser, packed, isNamed, areaNamed, vacantAreaOf, anyOpen, areaOpened, areaClosed, withLive, entryOf, userCount, isKind, isOther, anyOther, raised, inserted, openedAgain, answered, placed, shutOut, reserved, releasedUser, released, moved};
+ghost use Rattle.state.specs.Areas.{setArea, setUser, packed, isNamed, AreaFound, VacantFound, anyOpen, areaOpened, areaClosed, withLive, UserFound, userCount, isKind, isOther, anyOther, RoleRaised, inserted, openedAgain, answered, placed, shutOut, reserved, releasedUser, released, moved};
 use types::Area;
 use types::Block;
 use types::Name;
@@ -76,12 +76,12 @@ fn is_named(area: Area, name: Name) -> bool
     ensures { λ r. ⌜ r ≡ isNamed (packed name) area ⌝ }
 {
     let own = area.name;
-    area.live && (own.0 == name.0 && (own.1 == name.1 && own.2 == name.2))
+    area.live && names::same_name(own, name)
 }
 
 // The first open descriptor of the name.
 pub fn find_area(state: State, name: Name) -> Found
-    ensures { λ r. ⌜ r ≡ areaNamed (packed name) state ⌝ }
+    ensures { λ r. ⌜ AreaFound (packed name) state r ⌝ }
 {
     let mut j: usize = 0;
     while j < 8 {
@@ -96,7 +96,7 @@ pub fn find_area(state: State, name: Name) -> Found
 
 // The lowest vacant descriptor.
 pub fn vacant_area_of(state: State) -> Found
-    ensures { λ r. ⌜ r ≡ vacantAreaOf state ⌝ }
+    ensures { λ r. ⌜ VacantFound state r ⌝ }
 {
     let mut j: usize = 0;
     while j < 8 {
@@ -165,7 +165,7 @@ pub fn with_live(area: Area, index: Sector, length: u16) -> Area
 
 // The first user entry with the identification; that of 0 is the lowest vacant entry.
 pub fn find_user(area: Area, sender: u16) -> Found
-    ensures { λ r. ⌜ r ≡ entryOf sender area ⌝ }
+    ensures { λ r. ⌜ UserFound sender area r ⌝ }
 {
     let mut u: usize = 0;
     while u < 3 {
@@ -238,7 +238,7 @@ pub fn any_other(area: Area, sender: u16, kind: Kind) -> bool
 
 // The role after Reserve with a count: it only rises.
 pub fn raised_role(role: Role, count: u16) -> Role
-    ensures { λ r. ⌜ r ≡ raised count role ⌝ }
+    ensures { λ r. ⌜ RoleRaised count role r ⌝ }
 {
     match role {
         Role::Sharing => {

@@ -120,14 +120,14 @@ module _ {image : List ℕ} {state : State} {o : Opened} {p q : Plain} {n j send
   is-input : input q (moved p n sender (areaUsers state j) (areaUser state j u)) f k lent ≡ transputAt p n sender (areaUsers state j) (areaUser state j u) f 1 lent q k
   is-input = sym (either-no _ _ _ refl)
 
-  input-refused : length (f .sectors) ≤ k → InputLeaves image state p q n j sender u f k lent (areaReply (atPosition state j u k) 0x0810 0 k) lent
+  pub input-refused : length (f .sectors) ≤ k → InputLeaves image state p q n j sender u f k lent (areaReply (atPosition state j u k) 0x0810 0 k) lent
   input-refused x = record {
     leaves = leaves (is-input ∙ input-past p n sender (areaUsers state j) (areaUser state j u) f 1 lent q k refl (le-ltb k (length (f .sectors)) x)) (at .good) (at .represents);
     block = refl;
     reached = refused-state state j u k 0x0810 (λ z. omega arith);
   }
 
-  input-handed : k < length (f .sectors) → InputLeaves image state p q n j sender u f k lent (areaReply (atPosition state j u (k + 1)) 0 512 k) (fill (getD (f .sectors) k []) lent)
+  pub input-handed : k < length (f .sectors) → InputLeaves image state p q n j sender u f k lent (areaReply (atPosition state j u (k + 1)) 0 512 k) (fill (getD (f .sectors) k []) lent)
   input-handed x = record {
     leaves =
         leaves (is-input ∙ input-done p n sender (areaUsers state j) (areaUser state j u) f 1 lent q k refl (lt-ltb k (length (f .sectors)) x)) (moved-good (at .seat) (suc k) x)
@@ -293,7 +293,7 @@ module _ {image : List ℕ} {state : State} {o : Opened} {p : Plain} {n j sender
         rw r (refused p w k d (asked .refuses (λ z. d (e ∙ z)) ∙ ap₂ (λ (x y : ℕ). refusedAt p x y lent) (sym e) (sym own)) (placed-own k own))
 
     module _ {w : ℕ} (e : w ≡ word) (yes : w ≡ 0) where
-      allowed : Allowed sender users f operation bytes lent
+      pub allowed : Allowed sender users f operation bytes lent
       allowed = asked .allows (sym e ∙ yes)
 
       pub transput-own : {reply : AreaReply} {filled after : List ℕ} (k : ℕ) → isRandom operation ≡ false → k ≡ userAt (areaAt state j) u .position .0

@@ -4,7 +4,7 @@ use mathlib.Core.List.{List, []}
 use mathlib.Core.Logic.{_≢_}
 use mathlib.Core.Bool.{false, not}
 use mathlib.Core.Option.{Option, none, some}
-use Prim.Native.Nat.{ℕ, _*_, _≤_, _<_}
+use Prim.Native.Nat.{ℕ, zero, suc, _*_, _≤_, _<_}
 use native.Mathlib.Omega.{arith}
 use lib.Dec.{T, T-not}
 use lib.ListN.{length, getD}
@@ -37,7 +37,7 @@ use Rattle.steps.proofs.WriteLaws.{entry-of, part-few}
 use Rattle.unit.specs.declared.Opened.{Opened}
 use Rattle.unit.specs.Opened.{NumbersOf, OpenedOn, Represented}
 use Rattle.unit.specs.Find.{NameAt}
-use Rattle.unit.specs.Files.{BlockOf, isFound, nameOpen}
+use Rattle.unit.specs.Files.{ownBlock, BlockOf, isFound, nameOpen}
 use Rattle.unit.proofs.AskLaws.{false-no}
 
 -- ---- a represented unit is on its image
@@ -66,6 +66,15 @@ block-some image index d e = record {
       e ∙ read-block image (p .F) (p .s) index (f .slices) (on .good .files n f found .few) (rw here at (on .layout .files n f found .index some)))
       (λ none. absurd (d (at ∙ index-none (p .F) (p .s) (f .slices) none)));
 }
+
+pub own-none : (image : List ℕ) (index : ℕ) → index ≡ 0 → zeroWords 256 ≡ ownBlock image index
+unfolding ownBlock
+own-none image index z = rw z refl
+
+pub own-some : (image : List ℕ) (index : ℕ) → index ≢ 0 → blockAt image index ≡ ownBlock image index
+unfolding ownBlock
+own-some image zero d = absurd (d refl)
+own-some image (suc q) d = refl
 
 -- the block of a file of the unit, and its number of slices
 module _ {image : List ℕ} {o : Opened} {p : Plain} {index : ℕ} {block : List ℕ} (on : OnDisc image p) (num : NumbersOf o p) (n : ℕ) (f : File)

@@ -14,22 +14,32 @@ use Rattle.disc.proofs.Geometry.{quot}
 use Rattle.catalog.specs.declared.Place.{Place}
 use Rattle.catalog.specs.declared.Found.{Found}
 use Rattle.catalog.specs.declared.Found.the-variants.{At, Nothing}
-use Rattle.catalog.specs.Catalog.{placeStart, placeNamed}
+use Rattle.catalog.specs.Catalog.{placeStart, placeNamed, nameWord, areaNameWord}
 use Rattle.catalog.proofs.PlaceLaws.{LiesIn, FirstWith, found-word, named-at, named-nothing}
 use Rattle.plain.specs.Unit.{Plain, M, held, entry}
+use Rattle.plain.specs.Questions.{Outcome}
 use Rattle.sound.specs.Places.{Unused}
 use Rattle.refine.specs.Represents.{PlaceOf}
 use Rattle.refine.specs.Writes.{placeSector}
 use Rattle.refine.proofs.CatalogLaws.{at, name-zero}
-use Rattle.refine.proofs.Ground.{positive, sys-data, sys-slices, place-in}
+use Rattle.refine.proofs.Ground.{positive, part-sys, sys-data, sys-slices, place-in}
+use Rattle.steps.proofs.WriteLaws.{part-sectors}
 use Rattle.unit.specs.declared.Opened.{Opened}
 use Rattle.unit.specs.Opened.{NumbersOf, CatalogOn, Searchable, unitPlaces, sysCatalog}
-use Rattle.unit.specs.Find.{PlaceIs, NameAt, NameFound, FindsName}
+use Rattle.unit.specs.Find.{PlaceIs, NameAt, enteredWord, NameFound, FindsName}
 use Rattle.unit.proofs.OpenLaws.{unit-ground, unit-named}
+use Rattle.unit.proofs.AskLaws.{asks-yes, asks-no}
 
 -- a unit has a key
 pub some-key : {image : List ℕ} {o : Opened} → Searchable image o → 1 ≤ o .keys
 some-key h = omega (arith, h .on .good .limits .keys-low, h .numbers .keys)
+
+-- the numbers of SYS's blocks are words
+pub few-blocks : {image : List ℕ} {o : Opened} → Searchable image o → o .keys * o .layers ≤ 65536
+few-blocks h =
+    let p = h .unit in
+    let gr = unit-ground (h .on) in
+    rw (h .numbers .keys, h .numbers .layers) (omega (arith, gr .sysCover, mul-comm (p .s) (length (p .sys)), part-sectors p gr (p .sys) (part-sys p gr)))
 
 -- where a place of SYS begins
 pub place-start : {p : Plain} {t : ℕ} {place : Place} → PlaceIs p t place → placeStart place ≡ placeSector p t * 256 + t % 16 * 16
@@ -88,12 +98,28 @@ module _ {image : List ℕ} {p : Plain} (on : CatalogOn image p) where
       go none e = refl
       go (some x) e = let a = at (on .catalog) (unit-named on) n x e in absurd (h (a .place) (a .inside) (a .key) (a .name))
 
+  -- the words of the question, by what was found
+  entered-word : {n : ℕ} (word : Found → ℕ) (refusal : ℕ) → ((place : Place) → word (At place) ≡ 0) → word Nothing ≡ refusal → (r : Found)
+      → ((place : Place) → r ≡ At place → NameAt image p n place) → (r ≡ Nothing → entry p n ≡ none) → (lent : List ℕ) → word r ≡ enteredWord p n refusal lent
+  entered-word word refusal zero-word none-word (At place) at-place none-there lent =
+      zero-word place ∙ sym (ap (λ (o : Outcome). o .answer .result) (asks-yes _ _ _ (rw (at-place place refl .entered) tt)))
+  entered-word word refusal zero-word none-word Nothing at-place none-there lent =
+      none-word ∙ sym (ap (λ (o : Outcome). o .answer .result) (asks-no _ _ _ (rw (none-there refl) tt)))
+
+  finds : {n : ℕ} {r : Found} → ((place : Place) → r ≡ At place → NameAt image p n place) → (r ≡ Nothing → entry p n ≡ none) → NameFound image p n r
+  finds {n} {r} at-place none-there = record {
+    at = at-place;
+    nothing = none-there;
+    word = entered-word nameWord 0x5000 (λ place. refl) refl r at-place none-there;
+    areaWord = entered-word areaNameWord 0x4800 (λ place. refl) refl r at-place none-there;
+  }
+
   module _ {o : Opened} (num : NumbersOf o p) where
     keys-low : 1 ≤ o .keys
     keys-low = omega (arith, on .good .limits .keys-low, num .keys)
 
     pub name-found : (n : ℕ) {r : Found} → n ≢ 0 → r ≡ placeNamed image (sysCatalog o) n → NameFound image p n r
-    name-found n {r} nz e = record { at = at-place; nothing = none-there }
+    name-found n {r} nz e = finds at-place none-there
       where
         lies : LiesIn image (sysCatalog o) (p .F) (p .s) (p .sys)
         lies = sys-lies num
@@ -119,10 +145,7 @@ module _ {image : List ℕ} {p : Plain} (on : CatalogOn image p) where
 
     -- unused places have the name 0, which no entry has
     pub zero-found : (n : ℕ) {r : Found} → n ≡ 0 → r ≡ Nothing → NameFound image p n r
-    zero-found n z e = record {
-      at = λ place q. absurd (nothing≢at (sym e ∙ q));
-      nothing = λ q. ap (entry p) z ∙ unit-named on .zero;
-    }
+    zero-found n z e = finds (λ place q. absurd (nothing≢at (sym e ∙ q))) (λ q. ap (entry p) z ∙ unit-named on .zero)
       where
         nothing≢at : {place : Place} → Nothing ≡ At place → ⊥
         nothing≢at q = let z : _≡_ {A = ℕ} 0 1 = cc in omega arith

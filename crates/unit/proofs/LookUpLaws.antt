@@ -21,11 +21,12 @@ use Rattle.plain.specs.Catalog.{stepLookUp}
 use Rattle.refine.specs.OnDisc.{OnDisc}
 use Rattle.refine.proofs.Ground.{entry-length}
 use Rattle.unit.specs.declared.Opened.{Opened}
-use Rattle.unit.specs.Opened.{NumbersOf, CatalogOn}
+use Rattle.unit.specs.Opened.{NumbersOf, MeantOn, CatalogOn}
 use Rattle.unit.specs.Find.{NameAt, NameFound, FindsName}
 use Rattle.unit.specs.LookUp.{LooksUp}
 use Rattle.unit.proofs.OpenLaws.{on-catalog}
 use Rattle.unit.proofs.AskLaws.{asks-yes, asks-no, given-none, given-some}
+use Rattle.unit.proofs.MeantLaws.{meant-on-known}
 use Rattle.unit.proofs.FindLaws.{place-room}
 
 -- the 16 words of a found place are the entry
@@ -51,16 +52,17 @@ module _ (p : Plain) (name : Name) (lent : List ℕ) (mine : T (known p (unitIn 
 
 -- ---- Look-up, by what was found
 
-module _ {image : List ℕ} {o : Opened} {n : ℕ} {r : Found} (name : Name) (lent : List ℕ) (is : n ≡ named name) (finds : FindsName image o n r) where
+module _ {image : List ℕ} {o : Opened} {n : ℕ} {r : Found} (name : Name) (lent : List ℕ) (meant : MeantOn image o (unitIn name)) (is : n ≡ named name)
+    (finds : FindsName image o n r) where
   found : (p : Plain) → OnDisc image p → NumbersOf o p → NameFound image p (named name) r
   found p on num = subst (λ (m : ℕ). NameFound image p m r) is (finds .all p (on-catalog on) num)
 
   pub looks-none : r ≡ Nothing → LooksUp image o name lent 0x5000 lent
-  looks-none e = record { all = λ p on num mine. look-none p name lent mine (found p on num .nothing e) }
+  looks-none e = record { all = λ p on num own. look-none p name lent (meant-on-known p meant own) (found p on num .nothing e) }
 
   module _ {place : Place} (e : r ≡ At place) where
     pub looks-short : length lent < 16 → LooksUp image o name lent 0x1200 lent
-    looks-short short = record { all = λ p on num mine. look-short p name lent mine (found p on num .at place e .entered) short }
+    looks-short short = record { all = λ p on num own. look-short p name lent (meant-on-known p meant own) (found p on num .at place e .entered) short }
 
     pub looks-done : {after : List ℕ} → 16 ≤ length lent → after ≡ entryAt image place ++ drop 16 lent → LooksUp image o name lent 0 after
-    looks-done enough x = record { all = λ p on num mine. look-done p name lent mine (on-catalog on) (found p on num .at place e) enough x }
+    looks-done enough x = record { all = λ p on num own. look-done p name lent (meant-on-known p meant own) (on-catalog on) (found p on num .at place e) enough x }

@@ -78,7 +78,7 @@ module _ {image : List ℕ} {p : Plain} (on : OnDisc image p) {g : Geometry} (ge
   slice-is : g .slice ≡ p .s
   slice-is = geo .slice ∙ on .layout .kit .slice
 
-  first-is : g .first ≡ p .F
+  first-is : g .first .0 ≡ p .F
   first-is = geo .first ∙ on .layout .kit .first
 
   sectors-is : g .sectors ≡ p .N
@@ -104,6 +104,6 @@ module _ {image : List ℕ} {p : Plain} (on : OnDisc image p) {g : Geometry} (ge
       let own = rw (keys-is, first-is, slice-is, sys-read image p (on .good) (on .layout .sysIndex)) at of in
       own .only (p .layers) (on .good .layered) (on .good .sysCount) (sound-names (on-catalog on))
 
-  pub numbers-of : (o : Opened) → o .keys ≡ g .keys → o .slice ≡ g .slice → o .first .0 ≡ g .first → o .slices ≡ g .slices
+  pub numbers-of : (o : Opened) → o .keys ≡ g .keys → o .slice ≡ g .slice → o .first .0 ≡ g .first .0 → o .slices ≡ g .slices
       → LayersOf (g .keys) (g .slice) (sysSlices image g) (placesIn image g) (o .layers) → NumbersOf o p
   numbers-of o a b c d e = record { keys = a ∙ keys-is; slice = b ∙ slice-is; first = c ∙ first-is; slices = d ∙ slices-is; layers = layers-is e }

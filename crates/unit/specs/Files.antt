@@ -3,11 +3,12 @@ use mathlib.Core.Path.{_≡_}
 use mathlib.Core.Bool.{Bool, true, false}
 use mathlib.Core.List.{List}
 use mathlib.Core.Option.{some}
-use Prim.Native.Nat.{ℕ}
+use Prim.Native.Nat.{ℕ, zero, suc}
 use lib.ListN.{length}
 use Rattle.types.specs.declared.State.{State}
 use Rattle.disc.specs.Entries.{indexSector}
-use Rattle.index.specs.Block.{wholeIndex}
+use Rattle.words.specs.Store.{zeroWords}
+use Rattle.index.specs.Block.{wholeIndex, blockAt}
 use Rattle.state.specs.declared.Found.{Found}
 use Rattle.state.specs.declared.Found.the-variants.{At, Absent}
 use Rattle.state.specs.Areas.{areaNamed}
@@ -15,8 +16,13 @@ use Rattle.plain.specs.Table.{tableFind}
 use Rattle.plain.specs.Unit.{Plain, File}
 use Rattle.refine.specs.OnDisc.{OnDisc}
 
--- "8 index sector (0 if none)": the words are the index block of every file, of every unit on the image, that has this index
--- sector; those of a file with no slice are 0.
+-- "8 index sector (0 if none)": the block of a file with this index sector, its words up to the count and zeros past it; all are 0 if
+-- the file has no slice.
+unfoldable pub ownBlock : List ℕ → ℕ → List ℕ
+ownBlock image zero = zeroWords 256
+ownBlock image (suc q) = blockAt image (suc q)
+
+-- The words are the index block of every file, of every unit on the image, that has this index sector.
 pub record BlockOf (image : List ℕ) (index : ℕ) (words : List ℕ) : Type 0 where
   pub all : (p : Plain) → OnDisc image p → (n : ℕ) (f : File) → tableFind n (p .files) ≡ some f
       → index ≡ indexSector (p .F) (p .s) (length (f .slices)) (f .slices) → words ≡ wholeIndex (p .F) (p .s) (f .slices)

@@ -8,8 +8,10 @@ use Rattle.disc.specs.Entries.{placeCount, nameAt}
 use Rattle.catalog.specs.declared.Place.{Place}
 use Rattle.catalog.specs.declared.Found.{Found}
 use Rattle.catalog.specs.declared.Found.the-variants.{At, Nothing}
-use Rattle.catalog.specs.Catalog.{entryWord}
+use Rattle.catalog.specs.Catalog.{entryWord, nameWord, areaNameWord}
+use Rattle.plain.specs.Table.{isSome}
 use Rattle.plain.specs.Unit.{Plain, entry}
+use Rattle.plain.specs.Questions.{asks, replies, done}
 use Rattle.plain.specs.Taking.{placesTaken}
 use Rattle.sound.specs.Places.{Unused}
 use Rattle.refine.specs.Writes.{placeSector}
@@ -31,10 +33,17 @@ pub record NameAt (image : List ℕ) (p : Plain) (n : ℕ) (place : Place) : Typ
   pub entered : entry p n ≡ some words
   pub holds : (w : ℕ) → w < 16 → entryWord image place w ≡ getD words w 0
 
--- "3. Does the name stand in the catalog?"
+-- The word of the plain unit's question whether name n is entered; `refusal` is that of the answer no.
+abbrev pub enteredWord : Plain → ℕ → ℕ → List ℕ → ℕ
+enteredWord p n refusal lent = asks (isSome (entry p n)) (replies p refusal lent) (done p lent) .answer .result
+
+-- The place of the name's entry, or that there is none; and the words of question 3, and of area create's question, for each of the
+-- answer's cases are the plain unit's.
 pub record NameFound (image : List ℕ) (p : Plain) (n : ℕ) (r : Found) : Type 0 where
   pub at : (place : Place) → r ≡ At place → NameAt image p n place
   pub nothing : r ≡ Nothing → entry p n ≡ none
+  pub word : (lent : List ℕ) → nameWord r ≡ enteredWord p n 0x5000 lent
+  pub areaWord : (lent : List ℕ) → areaNameWord r ≡ enteredWord p n 0x4800 lent
 
 -- The same of every unit whose catalog is on the image.
 pub record FindsName (image : List ℕ) (o : Opened) (n : ℕ) (r : Found) : Type 0 where

@@ -2,6 +2,7 @@
 use mathlib.Core.Path.{_≡_}
 use mathlib.Core.List.{List}
 use Prim.Native.Nat.{ℕ, _*_}
+use lib.Dec.{T}
 use lib.ListN.{length}
 use Rattle.types.specs.declared.State.{State}
 use Rattle.disc.specs.Words.{Holds}
@@ -11,6 +12,7 @@ use Rattle.disc.specs.Entries.{placeCount}
 use Rattle.catalog.specs.declared.Catalog.{Catalog}
 use Rattle.plain.specs.Unit.{Plain, M, entry}
 use Rattle.plain.specs.Good.{Good}
+use Rattle.plain.specs.Questions.{known}
 use Rattle.sound.specs.Sound.{sysPlaces}
 use Rattle.refine.specs.Represents.{CatalogOf, Represents}
 use Rattle.refine.specs.OnDisc.{OnDisc}
@@ -40,6 +42,17 @@ pub record Represented (image : List ℕ) (state : State) (o : Opened) : Type 0 
   pub good : Good unit
   pub represents : Represents image state unit
   pub numbers : NumbersOf o unit
+
+-- "1. Unit known (the state's, 0 to 3)": what a message to the unit `number` starts from, once that question is answered yes. The unit
+-- is one of those that a promise speaks of: it is on the image, the numbers are its own, and its number is the message's.
+pub record MeantOn (image : List ℕ) (o : Opened) (number : ℕ) : Type 0 where
+  pub opened : OpenedOn image o
+  pub meant : T (known (opened .unit) number)
+
+-- The same with the state.
+pub record Meant (image : List ℕ) (state : State) (o : Opened) (number : ℕ) : Type 0 where
+  pub standing : Represented image state o
+  pub meant : T (known (standing .unit) number)
 
 -- The places of a unit's SYS.
 abbrev pub unitPlaces : List ℕ → Plain → ℕ → ℕ → ℕ

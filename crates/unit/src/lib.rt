@@ -3,12 +3,12 @@
 
 ghost use mathlib.Core.Path.{_≡_};
 ghost use Prim.Native.Nat.{_<_};
-ghost use Rattle.disc.specs.Names.{pack};
+ghost use Rattle.disc.specs.Names.{pack, unitIn};
 ghost use Rattle.catalog.specs.Catalog.{placeUnused};
 ghost use Rattle.refine.specs.OnDisc.{SomeOnDisc};
-ghost use Rattle.unit.specs.Opened.{NumbersIn, OpenedOn, Searchable, sysCatalog};
+ghost use Rattle.unit.specs.Opened.{NumbersIn, MeantOn, Searchable, sysCatalog};
 ghost use Rattle.unit.specs.Find.{FindsName, FindsUnused};
-ghost use Rattle.unit.specs.Files.{BlockOf, nameOpen};
+ghost use Rattle.unit.specs.Files.{ownBlock, BlockOf, nameOpen};
 ghost use Rattle.unit.specs.LookUp.{LooksUp};
 use catalog::Catalog;
 use catalog::Found;
@@ -33,10 +33,11 @@ pub fn open_unit(image: &[u16]) -> Opened
 {
     let g = kit::geometry_of(image);
     let layers = entries::find_layers(image, g);
+    let first = g.first;
     Opened {
         keys: g.keys,
         slice: g.slice,
-        first: Sector(g.first),
+        first: first,
         slices: g.slices,
         layers: layers,
     }
@@ -76,7 +77,8 @@ pub fn find_unused(image: &[u16], o: Opened, key: u16) -> Found
 
 // The index block of the ordinary file with the index sector given; that of a file with no slice, whose index sector is 0.
 pub fn file_block(image: &[u16], index: Sector) -> IndexBlock
-    ensures { λ r. ⌜ BlockOf (now (image .entry)) (index .0) (r .words) ⌝ }
+    ensures words { λ r. ⌜ r .words ≡ ownBlock (now (image .entry)) (index .0) ⌝ }
+    ensures file { λ r. ⌜ BlockOf (now (image .entry)) (index .0) (r .words) ⌝ }
 {
     if index.0 == 0 {
         return index::empty_block();
@@ -94,9 +96,10 @@ pub fn is_open(state: State, name: Name) -> bool
     }
 }
 
-// Look-up from question 3 on: the result word, and the entry in the first 16 lent words.
+// Look-up from question 3 on, of the name in a message that means this unit: the result word, and the entry in the first 16 lent
+// words.
 pub fn look_up(image: &[u16], o: Opened, name: Name, lent: &mut [u16]) -> u16
-    requires { ⌜ OpenedOn (now image) o ⌝ }
+    requires { ⌜ MeantOn (now image) o (unitIn name) ⌝ }
     ensures { λ r. ⌜ LooksUp (now (image .entry)) o name (now (lent .entry)) r (now (lent .exit)) ⌝ }
 {
     let Found::At(place) = find_name(image, o, names::fold(name)) else {

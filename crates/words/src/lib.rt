@@ -64,6 +64,14 @@ pub fn copy_words(src: &[u16], from: usize, dst: &mut [u16], at: usize, count: u
     }
 }
 
+// Hands out `count` words of sector q, from word `from` on, as the first lent words.
+pub fn read_words(image: &[u16], q: Sector, from: usize, lent: &mut [u16], count: usize)
+    requires { ⌜ (count ≤ length (now lent)) × (q .0 * 256 + from + count ≤ length (now image)) ⌝ }
+    ensures { λ _. ⌜ now (lent .exit) ≡ store (now (lent .entry)) 0 (take count (drop (q .0 * 256 + from) (now (image .entry)))) ⌝ }
+{
+    copy_words(image, q.0 as usize * 256 + from, lent, 0, count);
+}
+
 // Stores the first `count` words of src in sector q, from word `from` on.
 pub fn store_words(image: &mut [u16], q: Sector, from: usize, src: &[u16], count: usize)
     requires { ⌜ (count ≤ length (now src)) × (q .0 * 256 + from + count ≤ length (now image)) ⌝ }

@@ -3,10 +3,11 @@
 use std::array::from_fn;
 
 use reference::generate::Unit;
-use reference::{Answer, Message, Operation, State};
-use ruzkemp::sys::{AreaState, UnitState, UserState};
+use reference::raw::MessageWords;
+use reference::{Answer, Message, Operation};
+use ruzkemp::sys::{AreaState, UnitMessage, UnitState, UserState};
 
-use crate::state::{words_of, StateWords};
+use crate::state::{given_words, StateWords};
 use crate::Side;
 
 /// The proved library with the unit that it works on.
@@ -21,7 +22,7 @@ impl Default for Proved {
 
 impl Side for Proved {
     fn set(&mut self, unit: &Unit) {
-        let state = mirror_of(&unit.state, unit.image.len()).into();
+        let state = mirror_of(&given_words(unit)).into();
         self.0 = ruzkemp::Unit::with_state(unit.image.clone(), state);
     }
 
@@ -30,18 +31,11 @@ impl Side for Proved {
     }
 
     fn perform(&mut self, message: &Message, lent: &mut [u16]) -> Answer {
-        let ruzkemp::Answer {
-            result,
-            bytes,
-            block,
-            entries,
-        } = self.0.perform(&message_of(message), lent);
-        Answer {
-            result,
-            bytes,
-            block,
-            entries,
-        }
+        answer_of(self.0.perform(&message_of(message), lent))
+    }
+
+    fn perform_raw(&mut self, message: &MessageWords, lent: &mut [u16]) -> Answer {
+        answer_of(self.0.perform_raw(raw_message_of(message), lent))
     }
 
     fn is_sound(&self) -> bool {
@@ -53,44 +47,55 @@ impl Side for Proved {
     }
 
     fn state(&self) -> StateWords {
-        let UnitState {
-            unit,
-            initialized,
-            areas,
-        } = *self.0.state().raw();
-        let mut words = vec![unit, initialized];
-        for area in areas {
-            words.push(area.live);
-            words.extend(area.name);
-            words.extend([area.index, area.length]);
-            for user in area.users {
-                words.extend([user.id, user.role, user.opens, user.position]);
-            }
-        }
-        words.try_into().expect("a state has so many words")
+        mirror_words(self.0.state().raw())
     }
 }
 
-/// A state as C has it. Any word but 0 is yes there and any role above 1 is exclusive user: which
-/// ones are given depends on the image's length, so that lists bring different ones.
-fn mirror_of(state: &State, image_words: usize) -> UnitState {
-    let more = [0, 1, 0x7FFF, 0xFFFD][image_words / 256 % 4];
-    let words = words_of(state);
+/// The words of a state as C has it.
+pub fn mirror_words(state: &UnitState) -> StateWords {
+    let mut words = vec![state.unit, state.initialized];
+    for area in state.areas {
+        words.push(area.live);
+        words.extend(area.name);
+        words.extend([area.index, area.length]);
+        for user in area.users {
+            words.extend([user.id, user.role, user.opens, user.position]);
+        }
+    }
+    words.try_into().expect("a state has so many words")
+}
+
+/// An answer of the interface for Rust.
+pub fn answer_of(answer: ruzkemp::Answer) -> Answer {
+    let ruzkemp::Answer {
+        result,
+        bytes,
+        block,
+        entries,
+    } = answer;
+    Answer {
+        result,
+        bytes,
+        block,
+        entries,
+    }
+}
+
+/// A state as C has it.
+pub fn mirror_of(words: &StateWords) -> UnitState {
     let mut words = words.iter().copied();
     let mut next = || words.next().expect("a state has so many words");
-    let yes = |word: u16| if word == 0 { 0 } else { word + more };
-    let role = |word: u16| if word < 2 { word } else { word + more };
     UnitState {
         unit: next(),
-        initialized: yes(next()),
+        initialized: next(),
         areas: from_fn(|_| AreaState {
-            live: yes(next()),
+            live: next(),
             name: from_fn(|_| next()),
             index: next(),
             length: next(),
             users: from_fn(|_| UserState {
                 id: next(),
-                role: role(next()),
+                role: next(),
                 opens: next(),
                 position: next(),
             }),
@@ -98,7 +103,26 @@ fn mirror_of(state: &State, image_words: usize) -> UnitState {
     }
 }
 
-fn message_of(message: &Message) -> ruzkemp::Message {
+/// A message of words as C has it.
+pub fn raw_message_of(message: &MessageWords) -> UnitMessage {
+    let mut words = message.iter().copied();
+    let mut next = || words.next().expect("a message has twelve words");
+    UnitMessage {
+        call: next(),
+        name: from_fn(|_| next()),
+        unit: next(),
+        size: next(),
+        attributes: next(),
+        sender: next(),
+        operation: next(),
+        number: next(),
+        bytes: next(),
+        block: next(),
+    }
+}
+
+/// A message as the interface for Rust has it.
+pub fn message_of(message: &Message) -> ruzkemp::Message {
     use ruzkemp::Message as To;
     match *message {
         Message::Init { unit } => To::Init { unit },

@@ -319,8 +319,8 @@ fn init(unit: &Unit) -> Step {
     })
 }
 
-/// The next step: mostly a call of the caller's, now and then with other words lent; at times
-/// Format, and Init soon after it.
+/// The next step: mostly a call of the caller's, now and then with other words lent, or as words
+/// whose number or operation may be unknown; at times Format, and Init soon after it.
 fn next(random: &mut Random, caller: &mut Caller, unit: &Unit) -> Step {
     if unit.state.unit <= 3 && !unit.state.initialized && random.chance(25) {
         return init(unit);
@@ -332,6 +332,9 @@ fn next(random: &mut Random, caller: &mut Caller, unit: &Unit) -> Step {
     if random.chance(4) {
         let number = random.pick(&[0, 1, 2, 9, 15, 16, 17, 31, 32, 255, 256, 257, 512]);
         call.lent.resize(number, random.word());
+    }
+    if random.chance(8) {
+        return Step::Raw(generate::raw(random, call));
     }
     Step::Call(call)
 }

@@ -1,10 +1,11 @@
 //! A unit as one implementation has it.
 
-use reference::generate::{Call, Unit};
-use reference::pairs::{call_name, Counts, FORMAT};
+use reference::generate::{Call, RawCall, Unit};
+use reference::pairs::{call_name, Counts, FORMAT, NO_CALL};
+use reference::raw::{explain_words, message_of, MessageWords};
 use reference::{explain, explain_format, soundness, Answer, Message, State};
 
-use crate::state::{state_of, words_of, StateWords};
+use crate::state::{given_words, kept_words, state_of, words_of, StateWords};
 
 /// One step of a list.
 #[derive(Clone, PartialEq, Eq, Debug)]
@@ -18,21 +19,25 @@ pub enum Step {
     },
     /// Any other call.
     Call(Call),
+    /// A message of words, whose number may be no call's.
+    Raw(RawCall),
 }
 
 /// An implementation with the unit that it works on.
 pub trait Side {
-    /// Takes a unit to work on.
+    /// Takes a unit to work on, with the words of [`given_words`].
     fn set(&mut self, unit: &Unit);
     /// Formats the unit and answers the result word.
     fn format(&mut self, bytes: u16, record: &[u16]) -> u16;
     /// Carries out any other call and answers it.
     fn perform(&mut self, message: &Message, lent: &mut [u16]) -> Answer;
+    /// Carries out a message of words and answers it.
+    fn perform_raw(&mut self, message: &MessageWords, lent: &mut [u16]) -> Answer;
     /// Whether image and state are a sound unit.
     fn is_sound(&self) -> bool;
     /// The image.
     fn image(&self) -> &[u16];
-    /// The state.
+    /// The words of the state.
     fn state(&self) -> StateWords;
 
     /// The unit.
@@ -58,6 +63,10 @@ pub trait Side {
                 let mut lent = lent.clone();
                 (self.perform(message, &mut lent), lent)
             }
+            Step::Raw(RawCall { message, lent }) => {
+                let mut lent = lent.clone();
+                (self.perform_raw(message, &mut lent), lent)
+            }
         }
     }
 }
@@ -67,12 +76,18 @@ pub struct Second {
     /// What came up so far.
     pub counts: Counts,
     unit: Unit,
+    words: StateWords,
 }
 
 impl Second {
     /// The unit, as it stands.
     pub fn current(&self) -> &Unit {
         &self.unit
+    }
+
+    /// The words of the state after a call: those that stand for the same value stay.
+    fn keep_words(&mut self) {
+        self.words = kept_words(&self.words, &self.unit.state);
     }
 }
 
@@ -85,6 +100,7 @@ impl Default for Second {
                 image: Vec::new(),
                 state: State::new(0),
             },
+            words: words_of(&State::new(0)),
         }
     }
 }
@@ -92,6 +108,7 @@ impl Default for Second {
 impl Side for Second {
     fn set(&mut self, unit: &Unit) {
         self.unit.clone_from(unit);
+        self.words = given_words(unit);
     }
 
     fn format(&mut self, bytes: u16, record: &[u16]) -> u16 {
@@ -99,6 +116,7 @@ impl Side for Second {
         let outcome = explain_format(image, state, bytes, record);
         let word = outcome.map_or_else(|question| question.word(), |()| 0);
         self.counts.add(FORMAT, word, outcome.err());
+        self.keep_words();
         word
     }
 
@@ -106,6 +124,16 @@ impl Side for Second {
         let Unit { image, state } = &mut self.unit;
         let (answer, question) = explain(image, state, message, lent);
         self.counts.add(call_name(message), answer.result, question);
+        self.keep_words();
+        answer
+    }
+
+    fn perform_raw(&mut self, message: &MessageWords, lent: &mut [u16]) -> Answer {
+        let Unit { image, state } = &mut self.unit;
+        let (answer, question) = explain_words(image, state, message, lent);
+        let name = message_of(message).map_or(NO_CALL, |message| call_name(&message));
+        self.counts.add(name, answer.result, question);
+        self.keep_words();
         answer
     }
 
@@ -118,6 +146,6 @@ impl Side for Second {
     }
 
     fn state(&self) -> StateWords {
-        words_of(&self.unit.state)
+        self.words
     }
 }

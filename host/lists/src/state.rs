@@ -2,6 +2,8 @@
 
 use std::array::from_fn;
 
+use reference::generate::Unit;
+use reference::layout::SECTOR;
 use reference::{Area, Role, State, User};
 
 /// Unit, initialized, and for each area process live, name, index sector, length and users; for
@@ -25,6 +27,38 @@ pub fn words_of(state: &State) -> StateWords {
     let mut words = vec![state.unit, state.initialized.into()];
     words.extend(state.areas.iter().flat_map(area));
     words.try_into().expect("a state has so many words")
+}
+
+/// Words that stand for the unit's state. Any but 0 is yes and any role above 1 is exclusive
+/// user: which ones are given depends on the place and on the image's length, so that lists bring
+/// different ones.
+pub fn given_words(unit: &Unit) -> StateWords {
+    let sectors = unit.image.len() / SECTOR;
+    let words = words_of(&unit.state);
+    from_fn(|word| {
+        let more = [0, 1, 0x7FFF, 0xFFFD][(sectors + word) % 4];
+        let place = place(word);
+        let is_yes = (place == "initialized" || place.ends_with("live")) && words[word] == 1;
+        let is_exclusive = place.ends_with("role") && words[word] == 2;
+        if is_yes || is_exclusive {
+            words[word] + more
+        } else {
+            words[word]
+        }
+    })
+}
+
+/// The words that a call leaves: each that stands for the same value stays, any other is that of
+/// the new state.
+pub fn kept_words(before: &StateWords, after: &State) -> StateWords {
+    let (old, new) = (words_of(&state_of(before)), words_of(after));
+    from_fn(|word| {
+        if old[word] == new[word] {
+            before[word]
+        } else {
+            new[word]
+        }
+    })
 }
 
 /// The state that words stand for: any word but 0 is yes, and roles above 2 are exclusive user.
@@ -88,5 +122,39 @@ mod tests {
         assert_eq!(words_of(&state_of(&words)), words);
         assert_eq!(state_of(&words).areas[7].users[2].position, 145);
         assert_eq!(place(145), "area 7 user 2 position");
+    }
+
+    #[test]
+    fn given_words_stand_for_the_state() {
+        let mut unit = Unit {
+            image: vec![0; 10 * SECTOR],
+            state: State::new(2),
+        };
+        unit.state.initialized = true;
+        for area in &mut unit.state.areas {
+            area.live = true;
+            area.users[1].role = Role::ExclusiveWriter;
+            area.users[2].role = Role::ExclusiveUser;
+        }
+        let words = given_words(&unit);
+        assert_eq!(state_of(&words), unit.state);
+        assert_ne!(words, words_of(&unit.state));
+    }
+
+    #[test]
+    fn a_word_that_stands_for_its_value_is_kept() {
+        let mut words = words_of(&State::new(2));
+        let area0 = |field: &str| (0..146).find(|&word| place(word) == format!("area 0 {field}"));
+        let (live, role) = (area0("live").unwrap(), area0("user 0 role").unwrap());
+        (words[1], words[live], words[role]) = (0x8000, 7, 9);
+        let mut state = state_of(&words);
+        assert_eq!(kept_words(&words, &state), words);
+        state.areas[0].users[0].position = 5;
+        (state.areas[0].live, state.areas[1].live) = (false, true);
+        state.areas[0].users[0].role = Role::ExclusiveWriter;
+        let kept = kept_words(&words, &state);
+        let area1 = (0..146).find(|&word| place(word) == "area 1 live").unwrap();
+        assert_eq!((kept[1], kept[live], kept[role]), (0x8000, 0, 1));
+        assert_eq!((kept[area1], kept[role + 2]), (1, 5));
     }
 }

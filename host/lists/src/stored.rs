@@ -20,8 +20,8 @@
 //! `look-up NAME`, `change NAME`, `remove NAME`, `create-area NAME`, `remove-area NAME`,
 //! `reserve NAME SENDER COUNT`, `position NAME SENDER BLOCK`, `sense NAME SENDER`,
 //! `transput NAME SENDER OPERATION BYTES BLOCK`, `other NAME SENDER NUMBER`,
-//! `description UNIT BYTES` and `listing UNIT`, each with `lent WORDS` behind it if words are
-//! lent; `6*0` is 0 six times.
+//! `description UNIT BYTES` and `listing UNIT`, and `raw WORDS` for the twelve words of a C
+//! program's message, each with `lent WORDS` behind it if words are lent; `6*0` is 0 six times.
 //!
 //! An outcome is the result word, then what is not 0 of `bytes`, `block` and `entries`, then
 //! `lent` with the words up to the last that changed, or with a digest of all where those are of

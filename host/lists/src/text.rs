@@ -1,6 +1,6 @@
 //! Steps, outcomes and edits of a unit as text; `stored` says how it reads.
 
-use reference::generate::{add_file, Call, Unit};
+use reference::generate::{add_file, Call, RawCall, Unit};
 use reference::layout::{name_of, SECTOR};
 use reference::{format, Answer, Message, Name, Operation, State};
 
@@ -18,6 +18,9 @@ pub fn step_text(step: &Step) -> String {
     match step {
         Step::Format { bytes, record } => format!("format {bytes}{}", lent_text("record", record)),
         Step::Call(Call { message, lent }) => message_text(message) + &lent_text("lent", lent),
+        Step::Raw(RawCall { message, lent }) => {
+            lent_text("raw", message).trim_start().to_owned() + &lent_text("lent", lent)
+        }
     }
 }
 
@@ -130,6 +133,7 @@ pub fn outcome_text(
     let old = match step {
         Step::Format { record, .. } => record,
         Step::Call(call) => &call.lent,
+        Step::Raw(call) => &call.lent,
     };
     let lent = sort_listed(lent, answer.entries as usize);
     let last = lent.iter().zip(old).rposition(|(new, old)| new != old);
@@ -163,6 +167,11 @@ pub fn parse_step(text: &str) -> Result<Step, String> {
             bytes: number(bytes)?,
             record: lent,
         });
+    }
+    if let ["raw", ref words @ ..] = tokens[..at] {
+        let words = parse_words(words)?;
+        let message = words.try_into().map_err(|_| "twelve words are wanted")?;
+        return Ok(Step::Raw(RawCall { message, lent }));
     }
     let message = parse_message(&tokens[..at])?;
     Ok(Step::Call(Call { message, lent }))

@@ -1,19 +1,31 @@
 //! Wrong outcomes are reported: each test gives the comparison one wrong word.
 
 use lists::random::Lists;
-use lists::state::{words_of, StateWords};
+use lists::state::{state_of, words_of, StateWords};
 use lists::stored::{filled, first_difference};
 use lists::{compare, Both, Difference, Second, Seen, Side, Step};
-use reference::generate::{Call, Unit};
+use reference::generate::{Call, RawCall, Unit};
+use reference::raw::MessageWords;
 use reference::{Answer, Message, State};
 
 /// Changes what the second implementation shows after a call.
 type Fault = fn(&mut Answer, &mut [u16], &mut Shown);
 
-/// Image, state and verdict.
+/// Image, words of the state and verdict.
 struct Shown {
-    unit: Unit,
+    image: Vec<u16>,
+    state: StateWords,
     sound: bool,
+}
+
+impl Shown {
+    fn of(second: &Second) -> Shown {
+        Shown {
+            image: second.image().to_vec(),
+            state: second.state(),
+            sound: second.is_sound(),
+        }
+    }
 }
 
 /// The second implementation with a fault that shows from some call on.
@@ -28,10 +40,7 @@ impl Faulty {
     fn new(calls_before: u64, fault: Fault) -> Faulty {
         let second = Second::default();
         Faulty {
-            shown: Shown {
-                unit: second.unit(),
-                sound: false,
-            },
+            shown: Shown::of(&second),
             second,
             calls_before,
             fault,
@@ -39,10 +48,7 @@ impl Faulty {
     }
 
     fn show(&mut self, answer: &mut Answer, lent: &mut [u16]) {
-        self.shown = Shown {
-            unit: self.second.unit(),
-            sound: self.second.is_sound(),
-        };
+        self.shown = Shown::of(&self.second);
         if self.second.counts.calls > self.calls_before {
             (self.fault)(answer, lent, &mut self.shown);
         }
@@ -69,16 +75,22 @@ impl Side for Faulty {
         answer
     }
 
+    fn perform_raw(&mut self, message: &MessageWords, lent: &mut [u16]) -> Answer {
+        let mut answer = self.second.perform_raw(message, lent);
+        self.show(&mut answer, lent);
+        answer
+    }
+
     fn is_sound(&self) -> bool {
         self.shown.sound
     }
 
     fn image(&self) -> &[u16] {
-        &self.shown.unit.image
+        &self.shown.image
     }
 
     fn state(&self) -> StateWords {
-        words_of(&self.shown.unit.state)
+        self.shown.state
     }
 }
 
@@ -111,21 +123,48 @@ fn one_wrong_word_is_reported() {
     let entries = reported(|answer, _, _| answer.entries -= 1);
     assert_eq!(entries, "number of entries");
     assert_eq!(reported(|_, lent, _| lent[32] = 8), "lent word 32");
-    let image = reported(|_, _, shown| shown.unit.image[256 * 19 + 255] ^= 1);
+    let image = reported(|_, _, shown| shown.image[256 * 19 + 255] ^= 1);
     assert_eq!(image, "image sector 19 word 255");
-    let state = reported(|_, _, shown| shown.unit.state.areas[7].users[2].position = 1);
+    let state = reported(|_, _, shown| shown.state[145] = 1);
     assert_eq!(state, "state area 7 user 2 position");
-    let initialized = reported(|_, _, shown| shown.unit.state.initialized = false);
+    let initialized = reported(|_, _, shown| shown.state[1] = 0);
     assert_eq!(initialized, "state initialized");
     let sound = reported(|_, _, shown| shown.sound = false);
     assert_eq!(sound, "soundness after the call");
 }
 
+/// A number that no call has, put to a unit whose state has other words for yes.
+fn no_call(fault: Fault) -> Result<(), Difference> {
+    let mut both = Both::new(Faulty::new(0, fault));
+    let mut state = State::new(0);
+    state.initialized = true;
+    both.set(&Unit {
+        image: vec![0; 256 * 2],
+        state,
+    });
+    let (message, lent) = ([11; 12], vec![7; 33]);
+    both.put(&Step::Raw(RawCall { message, lent }))?;
+    Ok(())
+}
+
+#[test]
+fn a_number_that_no_call_has_is_compared_too() {
+    assert_eq!(no_call(|_, _, _| ()), Ok(()));
+    let reported = |fault| no_call(fault).expect_err("a difference").place;
+    assert_eq!(reported(|answer, _, _| answer.result = 0), "result word");
+    assert_eq!(reported(|_, lent, _| lent[0] = 8), "lent word 0");
+    let image = reported(|_, _, shown| shown.image[0] = 1);
+    assert_eq!(image, "image sector 0 word 0");
+    // Other words for the same state are a difference.
+    let rewritten = reported(|_, _, shown| shown.state = words_of(&state_of(&shown.state)));
+    assert_eq!(rewritten, "state initialized");
+}
+
 #[test]
 fn both_values_are_told() {
-    let difference = listing(|_, _, shown| shown.unit.image[256 * 8 + 3] = 10).unwrap_err();
+    let difference = listing(|_, _, shown| shown.image[256 * 8 + 3] = 10).unwrap_err();
     assert_eq!((difference.proved, difference.second), (10, 8));
-    let difference = listing(|_, _, shown| shown.unit.image.truncate(5119)).unwrap_err();
+    let difference = listing(|_, _, shown| shown.image.truncate(5119)).unwrap_err();
     let place = "number of words, from image sector 19 word 255 on";
     assert_eq!(difference.place, place);
     assert_eq!((difference.proved, difference.second), (5119, 5120));
@@ -163,11 +202,12 @@ fn a_unit_that_becomes_unsound_is_reported() {
 #[test]
 fn random_lists_find_a_fault_and_say_where() {
     let fault: Fault = |answer, _, shown| {
-        if answer.block == 3 {
-            shown.unit.image[256 * 9] ^= 1;
+        // Rare, so that some lists pass first.
+        if answer.block == 9 {
+            shown.image[256 * 9] ^= 1;
         }
     };
-    let mut lists = Lists::new(Faulty::new(1_000, fault), 5);
+    let mut lists = Lists::new(Faulty::new(0, fault), 5);
     let failure = lists.run(100_000).expect_err("a difference").to_string();
     for part in [
         "seed 5, list ",
@@ -178,7 +218,8 @@ fn random_lists_find_a_fault_and_say_where() {
         assert!(failure.contains(part), "{failure}");
     }
     // The list alone shows it again.
-    let list = failure.split("--list ").nth(1).unwrap().parse().unwrap();
+    let list: u64 = failure.split("--list ").nth(1).unwrap().parse().unwrap();
+    assert_ne!(list, 0, "{failure}");
     let again = Lists::new(Faulty::new(0, fault), 5).run_list(list);
     assert_eq!(again.expect_err("a difference").to_string(), failure);
 }

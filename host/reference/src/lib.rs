@@ -7,7 +7,8 @@
 //! * [`soundness`] says whether an image is a sound unit with a state, and if not, why;
 //!   [`is_sound`] only whether.
 //! * [`plain::Plain`] is the plain unit: a separate account with no map, index or place.
-//! * [`pairs`] says which result words document 01 allows to each call.
+//! * [`raw`] has the messages as a C program sends them, whose number may be no call's.
+//! * [`pairs`] says which result words are allowed to each call.
 //! * [`generate`] makes units, lists of calls and damage from a seed.
 
 #![warn(missing_docs)]
@@ -17,6 +18,7 @@ pub mod layout;
 pub mod pairs;
 pub mod plain;
 pub mod random;
+pub mod raw;
 mod sound;
 mod straight;
 mod types;

@@ -1,4 +1,4 @@
-//! Which result words document 01 allows to each call, and a count of those that came up.
+//! Which result words are allowed to each call, and a count of those that came up.
 
 use std::collections::{BTreeMap, BTreeSet};
 use std::fmt;
@@ -8,6 +8,8 @@ use crate::unit::Question::{self, *};
 
 /// The name of Format in the table.
 pub const FORMAT: &str = "Format";
+/// The name of a message whose number is no call's.
+pub const NO_CALL: &str = "No call";
 
 /// The name of a message in the table.
 pub fn call_name(message: &Message) -> &'static str {
@@ -109,10 +111,12 @@ fn row(call: &'static str, accepted: bool, groups: &[Refusals]) -> Row {
     }
 }
 
-/// Every pair of call and result word that document 01 allows, with the questions that give it.
+/// Every pair of call and result word that document 01 allows, with the questions that give it;
+/// and the one pair of a number that no call has.
 pub fn allowed() -> Vec<Row> {
     let mut rows = catalog_rows();
     rows.extend(area_rows());
+    rows.push(row(NO_CALL, false, &[&[(0xFFFF, CallNumbered)]]));
     rows
 }
 

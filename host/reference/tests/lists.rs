@@ -5,11 +5,12 @@ mod common;
 use common::{check_refusal, run_list, Tally};
 use reference::generate::{
     self, aged, crowded, damage, fill_vacant, format_call, formatted, fresh, large_record,
-    open_areas, Caller,
+    open_areas, raw, Caller,
 };
-use reference::pairs::{call_name, FORMAT};
+use reference::pairs::{call_name, FORMAT, NO_CALL};
 use reference::random::Random;
-use reference::{explain, explain_format, soundness};
+use reference::raw::{explain_words, message_of};
+use reference::{explain, explain_format, soundness, Answer};
 
 #[test]
 fn random_lists_and_the_table_of_pairs() {
@@ -76,11 +77,43 @@ fn random_lists_and_the_table_of_pairs() {
             }
         }
     }
+    numbers_of_no_call(random, &mut tally);
     tally.print();
     assert_eq!(tally.counts.missing(), [""; 0]);
     assert_eq!(tally.counts.foreign(), [""; 0]);
     for event in EVENTS {
         assert!(tally.events.contains_key(event), "{event} is missing");
+    }
+}
+
+/// Messages whose number is no call's, among others.
+fn numbers_of_no_call(random: &mut Random, tally: &mut Tally) {
+    for _ in 0..100 {
+        let mut unit = generate::unit(random);
+        let mut caller = Caller::new(random, &unit.image, &unit.state);
+        for _ in 0..10 {
+            let call = caller.call(random, &unit.image, &unit.state);
+            let mut call = raw(random, call);
+            let before = (unit.clone(), call.lent.clone());
+            let (image, state) = (&mut unit.image, &mut unit.state);
+            let (answer, question) = explain_words(image, state, &call.message, &mut call.lent);
+            match message_of(&call.message) {
+                Ok(message) => {
+                    let name = call_name(&message);
+                    tally.counts.add(name, answer.result, question);
+                }
+                Err(question) => {
+                    let result = 0xFFFF;
+                    let expected = Answer {
+                        result,
+                        ..Answer::default()
+                    };
+                    assert_eq!(answer, expected);
+                    assert!(before == (unit.clone(), call.lent));
+                    tally.counts.add(NO_CALL, result, Some(question));
+                }
+            }
+        }
     }
 }
 

@@ -1,9 +1,10 @@
-//! Refusals: the result words of document 01 and what they mean.
+//! Refusals: the result words and what they mean.
 
 use std::fmt;
 
 use crate::message::Call;
 use crate::reasons::{Reason, REASONS};
+use crate::sys::NO_SUCH_CALL;
 
 /// A result, or the refusal of a call.
 pub type Result<T> = std::result::Result<T, Error>;
@@ -51,12 +52,15 @@ pub enum Error {
     BlockSize,
     /// 0C00h. Output: the file is write protected.
     WriteProtected,
-    /// A word that document 01 does not name; the library is proved to answer none.
+    /// FFFFh. The number of a raw message is no call's. Document 01 does not have this word, and
+    /// no [`Message`](crate::Message) gives it.
+    NoSuchCall,
+    /// Any other word; the library is proved to answer none.
     Other(u16),
 }
 
-/// The words of document 01 with their variants.
-const WORDS: [(u16, Error); 16] = [
+/// The words with their variants.
+const WORDS: [(u16, Error); 17] = [
     (0x1200, Error::CatalogParameter),
     (0x9000, Error::CatalogUnsound),
     (0x5000, Error::NoEntry),
@@ -73,6 +77,7 @@ const WORDS: [(u16, Error); 16] = [
     (0x0808, Error::UsersOrIndexFull),
     (0x0880, Error::BlockSize),
     (0x0C00, Error::WriteProtected),
+    (NO_SUCH_CALL, Error::NoSuchCall),
 ];
 
 impl Error {

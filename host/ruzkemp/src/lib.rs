@@ -9,7 +9,8 @@
 //!   carry; [`State`], [`Area`], [`User`] and [`Role`] are what is open.
 //! * [`Error`] is a refusal, one variant for each result word.
 //! * [`Message`] and [`Answer`] are the calls as an emulator has them, for [`Unit::perform`].
-//! * [`sys`] is the C interface itself.
+//! * [`sys`] is the C interface itself; its messages, of any number, are for
+//!   [`Unit::perform_raw`].
 //!
 //! ```
 //! use ruzkemp::{Attributes, Name, Record, Role, Unit};

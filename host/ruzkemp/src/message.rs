@@ -155,6 +155,8 @@ pub enum Call {
     UnitDescription,
     /// The listing.
     Listing,
+    /// A raw message whose number is no call's.
+    Unknown,
 }
 
 impl Operation {
@@ -219,6 +221,41 @@ impl Message {
             Message::AreaMessage { operation, .. } => operation.call(),
             Message::UnitDescription { .. } => Call::UnitDescription,
             Message::Listing { .. } => Call::Listing,
+        }
+    }
+}
+
+impl UnitMessage {
+    /// Which call a message of raw words is.
+    pub fn kind(&self) -> Call {
+        match self.call {
+            call::INIT => Call::Init,
+            call::SET => Call::Set,
+            call::CREATE => Call::Create,
+            call::LOOK_UP => Call::LookUp,
+            call::CHANGE => Call::Change,
+            call::REMOVE => Call::Remove,
+            call::CREATE_AREA => Call::CreateArea,
+            call::REMOVE_AREA => Call::RemoveArea,
+            call::AREA_MESSAGE => self.operation().call(),
+            call::UNIT_DESCRIPTION => Call::UnitDescription,
+            call::LISTING => Call::Listing,
+            _ => Call::Unknown,
+        }
+    }
+
+    /// What a message to an area process asks for.
+    fn operation(&self) -> Operation {
+        match self.operation {
+            operation::RESERVE => Operation::Reserve(self.number),
+            operation::POSITION => Operation::Position(self.block),
+            operation::SENSE => Operation::Sense,
+            operation::TRANSPUT => Operation::Transput {
+                operation: self.number,
+                bytes: self.bytes,
+                block: self.block,
+            },
+            _ => Operation::Other(self.number),
         }
     }
 }

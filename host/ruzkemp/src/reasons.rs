@@ -1,4 +1,4 @@
-//! The reasons of document 01 for which a call is refused.
+//! The reasons for which a call is refused: those of document 01, and a number that no call has.
 
 use crate::error::Error::{self, *};
 use crate::message::Call::{self, *};
@@ -202,4 +202,5 @@ pub const REASONS: &[Reason] = &[
         &[&[Format]],
         "the image does not have 256 words for each sector",
     ),
+    (NoSuchCall, &[&[Unknown]], "the number is no call's"),
 ];

@@ -3,6 +3,10 @@
 //! Every field of the structs is a 16-bit word, but for the number of entries. A slice is a
 //! pointer and a number of words. The library keeps no pointer, has no memory of its own and
 //! reads and writes only the words lent to it.
+//!
+//! A call that is refused leaves every word as it was, but for the sender's position where
+//! document 01 says so. One that is obeyed leaves each word of the state that stands for the new
+//! value already: any but 0 for yes, any from 2 on for an exclusive user.
 
 use core::mem::{align_of, offset_of, size_of};
 
@@ -52,7 +56,7 @@ pub struct UnitState {
 #[repr(C)]
 #[derive(Clone, Copy, PartialEq, Eq, Debug, Default)]
 pub struct UnitMessage {
-    /// Which call: one of the numbers of [`call`].
+    /// Which call: one of the numbers of [`call`], else the answer is [`NO_SUCH_CALL`].
     pub call: u16,
     /// The file's name, with the unit number as sixth character.
     pub name: [u16; 3],
@@ -88,6 +92,9 @@ pub struct UnitAnswer {
     pub entries: u32,
 }
 
+/// The result word of a message whose number is no call's; document 01 does not have it.
+pub const NO_SUCH_CALL: u16 = 0xFFFF;
+
 /// The numbers of the calls.
 pub mod call {
     /// Init Catalog.
@@ -110,7 +117,7 @@ pub mod call {
     pub const AREA_MESSAGE: u16 = 8;
     /// Get Unit Description.
     pub const UNIT_DESCRIPTION: u16 = 9;
-    /// The listing, as is any number above.
+    /// The listing.
     pub const LISTING: u16 = 10;
 }
 

@@ -22,8 +22,9 @@ pub type Block = [u16; SECTOR];
 /// A unit: an image, owned (`Vec<u16>`) or borrowed (`&mut [u16]`), with its state.
 ///
 /// Every call but Format and Init asks anew whether the image is sound with the state, so the
-/// image may come from anywhere. A call that is refused changes nothing, but for the sender's
-/// position where [`position`](Unit::position) and the methods ending in `_at` say so.
+/// image may come from anywhere. A call that is refused changes no word of image, state and lent
+/// words, but for the sender's position where [`position`](Unit::position) and the methods ending
+/// in `_at` say so.
 #[derive(Clone, PartialEq, Eq, Debug)]
 pub struct Unit<I> {
     image: I,
@@ -92,8 +93,13 @@ impl<I: AsRef<[u16]> + AsMut<[u16]>> Unit<I> {
 
     /// Carries out any call with any lent words, and answers it.
     pub fn perform(&mut self, message: &Message, lent: &mut [u16]) -> Answer {
-        let raw = UnitMessage::from(message);
-        boundary::perform(self.state.raw_mut(), self.image.as_mut(), lent, raw).into()
+        self.perform_raw(message.into(), lent)
+    }
+
+    /// Carries out a message of any words, whose number may be no call's: that is answered FFFFh,
+    /// and nothing changes.
+    pub fn perform_raw(&mut self, message: UnitMessage, lent: &mut [u16]) -> Answer {
+        boundary::perform(self.state.raw_mut(), self.image.as_mut(), lent, message).into()
     }
 
     /// Format: writes an empty catalog and leaves the unit uninitialized. The record's unit must

@@ -118,6 +118,7 @@ fn numbers() -> Vec<String> {
         ("USERS_OR_INDEX_FULL", Error::UsersOrIndexFull),
         ("BLOCK_SIZE", Error::BlockSize),
         ("WRITE_PROTECTED_FILE", Error::WriteProtected),
+        ("NO_SUCH_CALL", Error::NoSuchCall),
     ];
     let attributes = [
         ("CATALOG_FILE", Attributes::CATALOG_FILE),

@@ -138,8 +138,9 @@ fn roles_have_the_counts_of_reserve() {
     assert_eq!(Role::from_number(3), Role::ExclusiveUser);
 }
 
-/// The calls with the words that document 01's questions can give them, in ascending order.
-const WORDS: [(Call, &[u16]); 18] = [
+/// The calls with the words that document 01's questions can give them, in ascending order; a
+/// number that no call has gives FFFFh.
+const WORDS: [(Call, &[u16]); 19] = [
     (Call::Format, &[0x1080, 0x1200]),
     (Call::Init, &[0x1200, 0x9000]),
     (Call::Set, &[0x1008, 0x1010, 0x1100, 0x1200, 0x9000]),
@@ -175,6 +176,7 @@ const WORDS: [(Call, &[u16]); 18] = [
     ),
     (Call::UnitDescription, &[0x1200, 0x9000]),
     (Call::Listing, &[0x1200, 0x9000]),
+    (Call::Unknown, &[0xFFFF]),
 ];
 
 #[test]
@@ -211,6 +213,10 @@ fn a_refusal_is_told_in_plain_words() {
     assert_eq!(
         Error::AreaFull.to_string(),
         "refused with 0900h: all eight area processes are in use, or no slice is free"
+    );
+    assert_eq!(
+        Error::NoSuchCall.explain(Call::Unknown),
+        "refused with FFFFh: the number is no call's"
     );
     assert_eq!(
         Error::Other(0x0001).to_string(),

@@ -1,8 +1,9 @@
 //! The methods of a unit, obeyed and refused. What is expected is worked out from document 01.
 
+use ruzkemp::sys::{call, operation, UnitMessage, NO_SUCH_CALL};
 use ruzkemp::{
-    is_sound, Answer, Attributes, Description, Entry, Error, Message, Name, Operation, Record,
-    Result, Role, State, Unit, SECTOR,
+    is_sound, Answer, Attributes, Call, Description, Entry, Error, Message, Name, Operation,
+    Record, Result, Role, State, Unit, SECTOR,
 };
 
 /// The unit of document 01's worked cases: H = 1, s = 2, N = 20, F = 10.
@@ -437,6 +438,111 @@ fn any_message_with_any_lent_words() {
     assert_eq!(unit.perform(&listing, &mut lent[1..]).result, 0x1200);
     let description = Message::UnitDescription { unit: 0, bytes: 32 };
     assert_eq!(unit.perform(&description, &mut lent).bytes, 32);
+}
+
+#[test]
+fn a_number_that_no_call_has_changes_nothing() {
+    let mut unit = opened();
+    let answered = Answer {
+        result: NO_SUCH_CALL,
+        ..Answer::default()
+    };
+    for call in [11, 12, 255, 256, 0x7FFF, 0x8000, 0xFFFF] {
+        // The other words are those of a listing that is obeyed.
+        let message = UnitMessage {
+            call,
+            ..UnitMessage::default()
+        };
+        let (before, mut lent) = (unit.clone(), [9; 3 * 16]);
+        let answer = unit.perform_raw(message, &mut lent);
+        assert_eq!(answer, answered, "{call}");
+        assert_eq!(answer.checked(), Err(Error::NoSuchCall));
+        assert!(unit == before && lent == [9; 3 * 16], "{call}");
+        assert_eq!(message.kind(), Call::Unknown);
+    }
+    let listing = UnitMessage {
+        call: call::LISTING,
+        ..UnitMessage::default()
+    };
+    assert_eq!(unit.perform_raw(listing, &mut [9; 3 * 16]).entries, 3);
+}
+
+#[test]
+fn a_raw_message_is_the_call_of_its_number() {
+    let number = |call, operation, number| UnitMessage {
+        call,
+        operation,
+        number,
+        ..UnitMessage::default()
+    };
+    let calls = [
+        Call::Init,
+        Call::Set,
+        Call::Create,
+        Call::LookUp,
+        Call::Change,
+        Call::Remove,
+        Call::CreateArea,
+        Call::RemoveArea,
+        Call::Release,
+        Call::UnitDescription,
+        Call::Listing,
+    ];
+    for (call, kind) in (call::INIT..=call::LISTING).zip(calls) {
+        assert_eq!(number(call, operation::RESERVE, 0).kind(), kind);
+    }
+    let to_area = |operation, count| number(call::AREA_MESSAGE, operation, count).kind();
+    assert_eq!(to_area(operation::RESERVE, 3), Call::Reserve);
+    assert_eq!(to_area(operation::POSITION, 3), Call::Position);
+    assert_eq!(to_area(operation::SENSE, 3), Call::Sense);
+    assert_eq!(to_area(operation::TRANSPUT, 5), Call::Input);
+    assert_eq!(to_area(operation::TRANSPUT, 19), Call::Output);
+    for unknown in [operation::OTHER, 5, 255, 0xFFFF] {
+        assert_eq!(to_area(unknown, 3), Call::OtherOperation);
+    }
+}
+
+#[test]
+fn words_of_the_state_that_stand_for_their_value_are_kept() -> Result<()> {
+    let (image, state) = opened().into_parts();
+    let mut raw = *state.raw();
+    // Words that stand for yes and for an exclusive user.
+    (raw.initialized, raw.areas[0].live) = (0x8000, 7);
+    raw.areas[0].users[0].role = 9;
+    let mut unit = Unit::with_state(image, raw.into());
+    let pass = name("PASS");
+    refused(&mut unit, Error::EntryExists, |unit| {
+        unit.create(pass, 0, Attributes::NONE)
+    });
+    refused(&mut unit, Error::CatalogParameter, Unit::init);
+    refused(&mut unit, Error::CatalogParameter, |unit| {
+        unit.format(&record())
+    });
+    // A refused Position changes that word alone, an obeyed Reserve the open count.
+    assert!(unit.position(pass, 7, 3).is_err());
+    raw.areas[0].users[0].position = 2;
+    assert_eq!(*unit.state().raw(), raw);
+    unit.reserve(pass, 7, Role::Sharing)?;
+    raw.areas[0].users[0].opens = 2;
+    assert_eq!(*unit.state().raw(), raw);
+    // What has another value gets the first word that stands for it.
+    unit.release(pass, 7)?;
+    unit.release(pass, 7)?;
+    raw.areas[0].users[0] = Default::default();
+    assert_eq!(*unit.state().raw(), raw);
+    unit.remove_area(pass)?;
+    raw.areas[0] = Default::default();
+    assert_eq!(*unit.state().raw(), raw);
+    unit.create_area(pass)?;
+    assert_eq!(unit.state().raw().areas[0].live, 1);
+    unit.remove_area(pass)?;
+    unit.init()?;
+    assert_eq!(*unit.state().raw(), raw, "initialized was yes");
+    unit.format(&record())?;
+    assert_eq!(unit.state().raw().initialized, 0);
+    unit.init()?;
+    assert_eq!(unit.state().raw().initialized, 1);
+    Ok(())
 }
 
 #[test]

@@ -129,6 +129,8 @@ pub fn word(call: Call) -> &'static str {
         Call::OtherOperation => "other",
         Call::UnitDescription => "describe",
         Call::Listing => "list",
+        // Of a raw message only, and the tool sends none.
+        Call::Unknown => "unknown",
     }
 }
 

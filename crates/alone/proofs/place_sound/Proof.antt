@@ -28,7 +28,7 @@ judged : (c : tie.After-place-legal) → let a = c .before .before .args in
 judged c =
     let start = c .before .before in
     let a = start .args in
-    place-block (a .image .now) (a .g .first) (a .g .slice) (sysSlices (a .image .now) (a .g)) (a .b .0) (a .i) (a .q .0) (start .pre .4) (start .pre .2) (start .pre .0 .keys) (start .pre .3) (c .place-legal .ensures)
+    place-block (a .image .now) (a .g .first .0) (a .g .slice) (sysSlices (a .image .now) (a .g)) (a .b .0) (a .i) (a .q .0) (start .pre .4) (start .pre .2) (start .pre .0 .keys) (start .pre .3) (c .place-legal .ensures)
 
 -- it is legal
 legal : (c : tie.Else1) → let a = c .before .before .before .args in
@@ -40,7 +40,7 @@ name-of : (c : tie.After-place-name) → let a = c .before .before .before .befo
 name-of c =
     let start = c .before .before .before .before in
     let a = start .args in
-    name-block (a .image .now) (a .g .first) (a .g .slice) (sysSlices (a .image .now) (a .g)) (a .b .0) (a .i) (a .q .0) (start .pre .4) (start .pre .2) (c .place-name .ensures)
+    name-block (a .image .now) (a .g .first .0) (a .g .slice) (sysSlices (a .image .now) (a .g)) (a .b .0) (a .i) (a .q .0) (start .pre .4) (start .pre .2) (c .place-name .ensures)
 
 place-legal-requires : tie.Need-place-legal-requires
 place-legal-requires c κs =

@@ -8,7 +8,7 @@ use Rattle.disc.specs.Words.{word}
 use Rattle.disc.proofs.WalkLaws.{sectorsBefore}
 use Rattle.entries.specs.Legal.{ownEntry}
 use Rattle.entries.specs.Sys.{placesIn}
-use Rattle.entries.proofs.SysLaws.{Turn, turn}
+use Rattle.entries.proofs.SysLaws.{Turn, turn, sys-small}
 use Rattle.alone.specs.Scan.{Passed}
 use Rattle.alone.proofs.AloneLaws.{passed-none, passed-at, scanned, refused, granted, fewer}
 use Rattle.alone.proofs.stretches_sound.Statement.{statement}
@@ -16,24 +16,24 @@ use Rattle.alone.proofs.stretches_sound.Tie as tie
 
 abbrev Inv-loop : tie.InvT-loop
 Inv-loop image g catalog classes filter₀ size b₀ j₀ filter b j =
-    (j ≤ word image 6 0) × (b ≤ catalog .size) × (b < catalog .size → b ≡ sectorsBefore image 6 j) × Passed (placesIn image g) (g .keys) (ownEntry catalog) filter (16 * b)
+    (j ≤ word image 6 0) × (b .0 ≤ catalog .size) × (b .0 < catalog .size → b .0 ≡ sectorsBefore image 6 j) × Passed (placesIn image g) (g .keys) (ownEntry catalog) filter (16 * b .0)
 
 abbrev μ-loop : tie.MeasureT-loop
 μ-loop image g catalog classes filter₀ size b₀ j₀ filter b j = word image 6 0 - j
 
 -- the turn, known once its numbers are read
-turn-of : (c : tie.After-pair-start Inv-loop μ-loop) → let at = c .before .before .before .before in let a = at .before .before .args in
-    Turn (a .image .now) (a .g) (a .catalog .size) (at .loop .j) (at .loop .b) (c .before .lesser .result) (c .pair-start .result .0)
+turn-of : (c : tie.After-pair-start Inv-loop μ-loop) → let at = c .before .before .before .before .before .before in let a = at .before .before .args in
+    Turn (a .image .now) (a .g) (a .catalog .size) (at .loop .j) (at .loop .b .0) (c .before .lesser .result) (c .pair-start .result .0)
 turn-of c =
-    let at = c .before .before .before .before in
+    let at = c .before .before .before .before .before .before in
     let l = at .before .before .pre .0 in
-    turn (l .sys) (at .loop .j) (l .room) (at .loop .inv .0) (at .loop .inv .2) (c .before .before .before .loop-test .taken) (c .before .before .pair-length .ensures) (c .before .lesser .ensures) (c .pair-start .ensures)
+    turn (l .sys) (at .loop .j) (l .room) (at .loop .inv .0) (at .loop .inv .2) (c .before .before .before .before .if1 .taken) (c .before .before .before .pair-length .ensures) (c .before .lesser .ensures) (c .pair-start .ensures)
 
 loop-holds : tie.Need-loop-holds Inv-loop μ-loop
 loop-holds c = (omega arith, omega arith, λ h. refl, passed-none _ (c .before .pre .2))
 
 pair-length-requires : tie.Need-pair-length-requires Inv-loop μ-loop
-pair-length-requires c κs = omega (arith, c .before .before .before .pre .0 .sys .index .few)
+pair-length-requires c κs = omega (arith, c .before .before .before .before .pre .0 .sys .index .few)
 
 sub-lesser : tie.Need-sub-lesser Inv-loop μ-loop
 sub-lesser c = search needs
@@ -42,36 +42,38 @@ lesser-requires : tie.Need-lesser-requires Inv-loop μ-loop
 lesser-requires c κs = search needs
 
 pair-start-requires : tie.Need-pair-start-requires Inv-loop μ-loop
-pair-start-requires c κs = omega (arith, c .before .before .before .before .before .pre .0 .sys .index .few)
+pair-start-requires c κs = omega (arith, c .before .before .before .before .before .before .before .pre .0 .sys .index .few)
 
 stretch-sound-requires : tie.Need-stretch-sound-requires Inv-loop μ-loop
 stretch-sound-requires c κs =
     let t = turn-of (c .before) in
-    let at = c .before .before .before .before .before in
+    let at = c .before .before .before .before .before .before .before in
     let pre = at .before .before .pre in
     (fewer (t .high) (pre .0), pre .1, t .walk, t .small, at .loop .inv .3)
 
 returns : tie.Need-returns Inv-loop μ-loop
 returns c =
     let t = turn-of (c .before .before .before) in
-    refused (c .before .stretch-sound .ensures) (c .if1 .taken) (omega (arith, t .high))
+    refused (c .before .stretch-sound .ensures) (c .if2 .taken) (omega (arith, t .high))
 
-add-b : tie.Need-add-b Inv-loop μ-loop
-add-b c = omega (arith, turn-of (c .before .before .before) .high)
+add-t13 : tie.Need-add-t13 Inv-loop μ-loop
+add-t13 c =
+    let l = c .before .before .before .before .before .before .before .before .before .before .before .before .pre .0 in
+    omega (arith, turn-of (c .before .before .before .before) .high, l .room, sys-small (l .sys), l .sys .unit .limits .sectors)
 
 add-j : tie.Need-add-j Inv-loop μ-loop
-add-j c = omega (arith, turn-of (c .before .before .before) .more)
+add-j c = omega (arith, turn-of (c .before .before .before .before) .more)
 
 loop-less : tie.Need-loop-less Inv-loop μ-loop
-loop-less c = omega (arith, turn-of (c .before .before .before) .more)
+loop-less c = omega (arith, turn-of (c .before .before .before .before) .more)
 
 loop-again : tie.Need-loop-again Inv-loop μ-loop
 loop-again c =
-    let t = turn-of (c .before .before .before) in
-    (omega (arith, t .more), t .high, t .next, granted (c .before .stretch-sound .ensures) (c .if1 .left))
+    let t = turn-of (c .before .before .before .before) in
+    (omega (arith, t .more), t .high, t .next, granted (c .before .before .stretch-sound .ensures) (c .before .if2 .left))
 
 returns-2 : tie.Need-returns-2 Inv-loop μ-loop
-returns-2 c = scanned (passed-at (omega arith) (c .before .loop .inv .3))
+returns-2 c = scanned (passed-at (omega arith) (c .before .before .loop .inv .3))
 
 pub stretches-sound-spec : {M : Type 1} → statement M
 stretches-sound-spec =
@@ -86,7 +88,7 @@ stretches-sound-spec =
     pair-start-requires
     stretch-sound-requires
     returns
-    add-b
+    add-t13
     add-j
     loop-less
     loop-again

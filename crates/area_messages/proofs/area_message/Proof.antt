@@ -32,13 +32,13 @@ reply-requires c κs = search needs
 returns : tie.Need-returns
 returns c =
     let found = c .before .before .before in
-    let s = found .before .before .before .before .args in
-    message-shut (s .image .now) (s .state) (s .o) (s .name) (s .sender) (s .operation) (found .before .fold .ensures .packed) (found .find-area .ensures) (c .before .enum-told .given .1) (c .reply .ensures)
+    let s = found .before .before .before .before in
+    message-shut (s .args .name) (s .pre) (s .args .sender) (s .args .operation) (found .before .fold .ensures .packed) (found .find-area .ensures .first) (c .before .enum-told .given .1) (c .reply .ensures)
 
 area-at-requires : tie.Need-area-at-requires
 area-at-requires c κs =
     let found = c .before .before .before in
-    area-low (c .before .before .before .before .before .before .before .pre .represents .areas) (packed (found .before .fold .result)) (c .before .j .given .0 .0) (sym (found .find-area .ensures) ∙ c .before .j .given .1)
+    area-low (c .before .before .before .before .before .before .before .pre .standing .represents .areas) (packed (found .before .fold .result)) (c .before .j .given .0 .0) (sym (found .find-area .ensures .first) ∙ c .before .j .given .1)
 
 any-other-requires : tie.Need-any-other-requires
 any-other-requires c κs = search needs
@@ -51,8 +51,8 @@ returns-2 c =
     let a = c .before .before .before in
     let at = a .before .before in
     let found = at .before .before in
-    let s = found .before .before .before .before .args in
-    message-reserved (s .image .now) (s .state) (s .o) (s .name) (s .sender) (s .operation) (found .before .fold .ensures .packed) (found .find-area .ensures) (at .j .given .1) (a .area-at .ensures)
+    let s = found .before .before .before .before in
+    message-reserved (s .args .name) (s .pre) (s .args .sender) (s .args .operation) (found .before .fold .ensures .packed) (found .find-area .ensures .first) (at .j .given .1) (a .area-at .ensures)
     (sym (c .before .before .any-other .ensures) ∙ c .before .if1 .taken) (c .reply2 .ensures)
 
 reply-requires-3 : tie.Need-reply-requires-3
@@ -64,8 +64,8 @@ returns-3 c =
     let a = one .before .before in
     let at = a .before .before in
     let found = at .before .before in
-    let s = found .before .before .before .before .args in
-    message-nobody (s .image .now) (s .state) (s .o) (s .name) (s .sender) (s .operation) (found .before .fold .ensures .packed) (found .find-area .ensures) (at .j .given .1) (a .area-at .ensures) (alone one) (c .before .if2 .taken)
+    let s = found .before .before .before .before in
+    message-nobody (s .args .name) (s .pre) (s .args .sender) (s .args .operation) (found .before .fold .ensures .packed) (found .find-area .ensures .first) (at .j .given .1) (a .area-at .ensures) (alone one) (c .before .if2 .taken)
     (c .reply3 .ensures)
 
 is-known-requires : tie.Need-is-known-requires
@@ -80,8 +80,8 @@ returns-4 c =
     let a = one .before .before in
     let at = a .before .before in
     let found = at .before .before in
-    let s = found .before .before .before .before .args in
-    message-strange (s .image .now) (s .state) (s .o) (s .name) (s .sender) (s .operation) (found .before .fold .ensures .packed) (found .find-area .ensures) (at .j .given .1) (a .area-at .ensures) (alone one) (c .before .before .before .if2 .left)
+    let s = found .before .before .before .before in
+    message-strange (s .args .name) (s .pre) (s .args .sender) (s .args .operation) (found .before .fold .ensures .packed) (found .find-area .ensures .first) (at .j .given .1) (a .area-at .ensures) (alone one) (c .before .before .before .if2 .left)
     (sym (c .before .before .is-known .ensures) ∙ not-true _ (c .before .if3 .taken)) (c .reply4 .ensures)
 
 operate-requires : tie.Need-operate-requires
@@ -91,8 +91,8 @@ operate-requires c κs =
     let at = a .before .before in
     let found = at .before .before in
     let s = found .before .before .before .before in
-    message-can (s .args .image .now) (s .args .state) (s .args .o) (s .args .name) (s .args .sender) (s .args .operation) (found .before .fold .ensures .packed) (found .find-area .ensures) (at .j .given .1) (a .area-at .ensures)
-    (alone one) (c .before .before .before .before .if2 .left) (s .pre)
+    message-can (s .args .name) (s .pre) (s .args .sender) (s .args .operation) (found .before .fold .ensures .packed) (found .find-area .ensures .first) (at .j .given .1) (a .area-at .ensures)
+    (alone one) (c .before .before .before .before .if2 .left)
 
 same-length : tie.Need-same-length
 same-length c = search needs
@@ -106,8 +106,8 @@ returns-5 c =
     let a = one .before .before in
     let at = a .before .before in
     let found = at .before .before in
-    let s = found .before .before .before .before .args in
-    message-asked (s .image .now) (s .state) (s .o) (s .name) (s .sender) (s .operation) (found .before .fold .ensures .packed) (found .find-area .ensures) (at .j .given .1) (a .area-at .ensures) (alone one) (c .before .before .before .before .before .before .before .before .before .if2 .left)
+    let s = found .before .before .before .before in
+    message-asked (s .args .name) (s .pre) (s .args .sender) (s .args .operation) (found .before .fold .ensures .packed) (found .find-area .ensures .first) (at .j .given .1) (a .area-at .ensures) (alone one) (c .before .before .before .before .before .before .before .before .before .if2 .left)
     (sym (c .before .before .before .before .before .before .before .before .is-known .ensures) ∙ not-false _ (c .before .before .before .before .before .before .before .if3 .left)) (c .before .before .before .before .operate .ensures)
 
 pub area-message-spec : {M : Type 1} → statement M

@@ -38,7 +38,7 @@ returns-2 : tie.Need-returns-2
 returns-2 c =
     let found = c .before .before .before in
     let a = found .before .before .before .before .before .before .args in
-    operate-stranger (a .image .now) (a .state) (a .o) (a .j) (a .sender) (a .operation) (found .before .before .before .reserve-count .ensures) (found .before .before .if1 .left) (found .before .area-at .ensures) (found .find-user .ensures)
+    operate-stranger (a .image .now) (a .state) (a .o) (a .j) (a .sender) (a .operation) (found .before .before .before .reserve-count .ensures) (found .before .before .if1 .left) (found .before .area-at .ensures) (found .find-user .ensures .first)
     (c .before .enum-told .given .1) (c .reply .ensures)
 
 user-step-requires : tie.Need-user-step-requires
@@ -46,7 +46,7 @@ user-step-requires c κs =
     let at = c .before .before .before in
     let found = at .before .before in
     let a = found .before .before .before .before .before .before .args in
-    operate-seated (a .image .now) (a .state) (a .o) (a .j) (a .sender) (a .operation) (found .before .before .before .reserve-count .ensures) (found .before .before .if1 .left) (found .before .area-at .ensures) (found .find-user .ensures) (at .u .given .1) (found .before .before .before .before .before .before .pre)
+    operate-seated (a .image .now) (a .state) (a .o) (a .j) (a .sender) (a .operation) (found .before .before .before .reserve-count .ensures) (found .before .before .if1 .left) (found .before .area-at .ensures) (found .find-user .ensures .first) (at .u .given .1) (found .before .before .before .before .before .before .pre)
 
 same-length : tie.Need-same-length
 same-length c = search needs
@@ -59,7 +59,7 @@ returns-3 c =
     let at = c .before .before .before .before .before .before .before .before in
     let found = at .before .before in
     let a = found .before .before .before .before .before .before .args in
-    operate-user (a .image .now) (a .state) (a .o) (a .j) (a .sender) (a .operation) (found .before .before .before .reserve-count .ensures) (found .before .before .if1 .left) (found .before .area-at .ensures) (found .find-user .ensures) (at .u .given .1)
+    operate-user (a .image .now) (a .state) (a .o) (a .j) (a .sender) (a .operation) (found .before .before .before .reserve-count .ensures) (found .before .before .if1 .left) (found .before .area-at .ensures) (found .find-user .ensures .first) (at .u .given .1)
     (c .before .before .before .before .user-step .ensures)
 
 pub operate-spec : {M : Type 1} → statement M

@@ -9,7 +9,7 @@ file-block-requires : tie.Need-file-block-requires
 file-block-requires c κs = search needs
 
 slice-total-requires : tie.Need-slice-total-requires
-slice-total-requires c κs = slices-fit (c .before .before .before .pre .can) (c .file-block .ensures)
+slice-total-requires c κs = slices-fit (c .before .before .before .pre .can) (c .file-block .ensures .1)
 
 slice-aggregate-read-entry : tie.Need-slice-aggregate-read-entry
 slice-aggregate-read-entry c = search needs
@@ -27,7 +27,7 @@ mul-entry : tie.Need-mul-entry
 mul-entry c =
     let counted = c .before .before .before .before .before in
     let block = counted .before in
-    record { fits = reserved-fits (block .before .before .before .pre .can) (block .file-block .ensures) (counted .slice-total .ensures) }
+    record { fits = reserved-fits (block .before .before .before .pre .can) (block .file-block .ensures .1) (counted .slice-total .ensures) }
 
 array-write-entry-3 : tie.Need-array-write-entry-3
 array-write-entry-3 c = search needs
@@ -51,7 +51,7 @@ returns c =
     let counted = read .before .before .before in
     let block = counted .before in
     record {
-      all = λ p n f can. booked can (block .file-block .ensures) (counted .slice-total .ensures) (read .read-entry .ensures) (wrote .write-entry .ensures);
+      all = λ p n f can. booked can (block .file-block .ensures .1) (counted .slice-total .ensures) (read .read-entry .ensures) (wrote .write-entry .ensures);
     }
 
 pub book-spec : {M : Type 1} → statement M

@@ -16,7 +16,7 @@ is-system-requires c κs = search needs
 returns : tie.Need-returns
 returns c =
     let test = c .before in
-    removes-system _ _ _ _ (test .before .fold .ensures .packed) (sym (test .is-system .ensures) ∙ c .if1 .taken)
+    removes-system _ _ (test .before .before .before .pre) (test .before .fold .ensures .packed) (sym (test .is-system .ensures) ∙ c .if1 .taken)
 
 find-area-requires : tie.Need-find-area-requires
 find-area-requires c κs = search needs
@@ -31,8 +31,8 @@ returns-2 : tie.Need-returns-2
 returns-2 c =
     let search = c .before .before in
     let test = search .before .before in
-    removes-none _ _ _ _ (test .before .fold .ensures .packed) (sym (test .is-system .ensures) ∙ search .before .if1 .left)
-    (sym (search .find-area .ensures) ∙ c .enum-told .given .1)
+    removes-none _ _ (test .before .before .before .pre) (test .before .fold .ensures .packed) (sym (test .is-system .ensures) ∙ search .before .if1 .left)
+    (sym (search .find-area .ensures .first) ∙ c .enum-told .given .1)
 
 area-at-requires : tie.Need-area-at-requires
 area-at-requires c κs =
@@ -40,8 +40,8 @@ area-at-requires c κs =
     let search = told .before .before in
     let test = search .before .before in
     let start = test .before .before .before in
-    area-inside _ _ _ (start .args .name) (test .before .fold .ensures .packed) (sym (test .is-system .ensures) ∙ search .before .if1 .left)
-    (sym (search .find-area .ensures) ∙ told .j .given .1) (start .pre)
+    area-inside _ (start .args .name) (start .pre) (test .before .fold .ensures .packed) (sym (test .is-system .ensures) ∙ search .before .if1 .left)
+    (sym (search .find-area .ensures .first) ∙ told .j .given .1)
 
 user-count-requires : tie.Need-user-count-requires
 user-count-requires c κs = search needs
@@ -53,14 +53,14 @@ returns-3 c =
     let told = area .before .before in
     let search = told .before .before in
     let test = search .before .before in
-    removes-used _ _ _ _ (test .before .fold .ensures .packed) (sym (test .is-system .ensures) ∙ search .before .if1 .left)
-    (sym (search .find-area .ensures) ∙ told .j .given .1) (area .area-at .ensures) (λ z. c .if2 .taken (count .user-count .ensures ∙ z))
+    removes-used _ _ (test .before .before .before .pre) (test .before .fold .ensures .packed) (sym (test .is-system .ensures) ∙ search .before .if1 .left)
+    (sym (search .find-area .ensures .first) ∙ told .j .given .1) (area .area-at .ensures) (λ z. c .if2 .taken (count .user-count .ensures ∙ z))
 
 find-name-requires : tie.Need-find-name-requires
 find-name-requires c κs =
     let area = c .before .before .before in
     let test = area .before .before .before .before .before .before in
-    searchable (represented-on (test .before .before .before .pre))
+    searchable (represented-on (test .before .before .before .pre .standing))
 
 enum-known-place : tie.Need-enum-known-place
 enum-known-place c = search needs
@@ -80,8 +80,8 @@ returns-4 c =
     let told = area .before .before in
     let search = told .before .before in
     let test = search .before .before in
-    removes-lost _ _ _ _ (test .before .fold .ensures .packed) (sym (test .is-system .ensures) ∙ search .before .if1 .left)
-    (sym (search .find-area .ensures) ∙ told .j .given .1) (area .area-at .ensures) (sym (count .user-count .ensures) ∙ alone .if2 .left) (f .find-name .ensures)
+    removes-lost _ _ (test .before .before .before .pre) (test .before .fold .ensures .packed) (sym (test .is-system .ensures) ∙ search .before .if1 .left)
+    (sym (search .find-area .ensures .first) ∙ told .j .given .1) (area .area-at .ensures) (sym (count .user-count .ensures) ∙ alone .if2 .left) (f .find-name .ensures)
     (c .enum-told2 .given .1)
 
 book-requires : tie.Need-book-requires
@@ -95,9 +95,9 @@ book-requires c κs =
     let search = told .before .before in
     let test = search .before .before in
     let start = test .before .before .before in
-    can-book _ _ _ (start .args .name) (test .before .fold .ensures .packed) (sym (test .is-system .ensures) ∙ search .before .if1 .left)
-    (sym (search .find-area .ensures) ∙ told .j .given .1) (area .area-at .ensures) (sym (count .user-count .ensures) ∙ alone .if2 .left) (f .find-name .ensures)
-    (place .place .given .1) (start .pre)
+    can-book _ (start .args .name) (start .pre) (test .before .fold .ensures .packed) (sym (test .is-system .ensures) ∙ search .before .if1 .left)
+    (sym (search .find-area .ensures .first) ∙ told .j .given .1) (area .area-at .ensures) (sym (count .user-count .ensures) ∙ alone .if2 .left) (f .find-name .ensures)
+    (place .place .given .1)
 
 close-area-requires : tie.Need-close-area-requires
 close-area-requires c κs = search needs
@@ -116,8 +116,8 @@ returns-5 c =
     let told = area .before .before in
     let search = told .before .before in
     let test = search .before .before in
-    removes-done _ _ _ _ (test .before .fold .ensures .packed) (sym (test .is-system .ensures) ∙ search .before .if1 .left)
-    (sym (search .find-area .ensures) ∙ told .j .given .1) (area .area-at .ensures) (sym (count .user-count .ensures) ∙ alone .if2 .left) (f .find-name .ensures)
+    removes-done _ _ (test .before .before .before .pre) (test .before .fold .ensures .packed) (sym (test .is-system .ensures) ∙ search .before .if1 .left)
+    (sym (search .find-area .ensures .first) ∙ told .j .given .1) (area .area-at .ensures) (sym (count .user-count .ensures) ∙ alone .if2 .left) (f .find-name .ensures)
     (place .place .given .1) (booked .book .ensures) (c .close-area .ensures)
 
 pub remove-area-spec : {M : Type 1} → statement M

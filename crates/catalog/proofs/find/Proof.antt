@@ -1,11 +1,12 @@
 -- `catalog::find` meets its contract: what is sought is the first place from a layer on. Assumes nothing.
 use mathlib.Core.Path.{_≡_, ap}
-use Prim.Native.Nat.{ℕ, _-_}
-use native.Mathlib.Nat.{sub-zero}
+use Prim.Native.Nat.{ℕ, _-_, _<_}
+use native.Mathlib.Nat.{sub-zero, mod-lt}
 use borrow.Author.Needs.{needs}
 use Rattle.disc.specs.Names.{pack}
 use Rattle.catalog.specs.Catalog.{keySector, slotNamed, placeFrom, placeNamed}
-use Rattle.catalog.proofs.WalkLaws.{place-here, place-next, place-none}
+use Rattle.catalog.proofs.AnswerLaws.{name-place}
+use Rattle.catalog.proofs.WalkLaws.{block-fits, place-here, place-next, place-none}
 use Rattle.catalog.proofs.find.Statement.{statement}
 use Rattle.catalog.proofs.find.Tie as tie
 
@@ -18,7 +19,7 @@ abbrev μ-loop : tie.MeasureT-loop
 μ-loop image c name key layer₀ layer = c .layers - layer
 
 key-requires : tie.Need-key-requires Inv-loop μ-loop
-key-requires c κs = c .before .pre
+key-requires c κs = c .before .pre .0
 
 loop-holds : tie.Need-loop-holds Inv-loop μ-loop
 loop-holds c =
@@ -27,7 +28,11 @@ loop-holds c =
     rw sub-zero (ap (λ (k : ℕ). placeFrom (slotNamed (a .image .now) n) (keySector (a .image .now) (a .c) k) (a .c .layers) 0) (c .key .ensures))
 
 key-sector-requires : tie.Need-key-sector-requires Inv-loop μ-loop
-key-sector-requires c κs = tt
+key-sector-requires c κs =
+    let l = c .before .before in
+    let start = l .before .before .before in
+    let low : l .before .key .result < start .args .c .keys = rw (l .before .key .ensures) (mod-lt _ (start .pre .0)) in
+    block-fits (start .args .c .keys) (start .args .c .layers) _ (l .loop .layer) low (c .if1 .taken) (start .pre .1)
 
 slot-named-requires : tie.Need-slot-named-requires Inv-loop μ-loop
 slot-named-requires c κs = tt
@@ -38,9 +43,10 @@ returns c =
     let l = turn .before .before in
     let a = l .before .before .before .args in
     let test = slotNamed (a .image .now) (pack (a .name .0) (a .name .1) (a .name .2)) in
-    place-here test (keySector (a .image .now) (a .c) (l .before .key .result)) (a .c .layers) (l .loop .layer)
+    name-place
+    (place-here test (keySector (a .image .now) (a .c) (l .before .key .result)) (a .c .layers) (l .loop .layer)
     (c .before .before .key-sector .result .0) (c .before .slot-named .result)
-    (l .loop .inv) (turn .if1 .taken) (c .before .before .key-sector .ensures) (c .before .slot-named .ensures) (c .if2 .taken)
+    (l .loop .inv) (turn .if1 .taken) (c .before .before .key-sector .ensures) (c .before .slot-named .ensures) (c .if2 .taken))
 
 add-layer : tie.Need-add-layer Inv-loop μ-loop
 add-layer c = search needs
@@ -63,7 +69,8 @@ returns-2 c =
     let l = c .before .before in
     let a = l .before .before .before .args in
     let test = slotNamed (a .image .now) (pack (a .name .0) (a .name .1) (a .name .2)) in
-    place-none test (keySector (a .image .now) (a .c) (l .before .key .result)) (a .c .layers) (l .loop .layer) (l .loop .inv) (c .if1 .left)
+    name-place
+    (place-none test (keySector (a .image .now) (a .c) (l .before .key .result)) (a .c .layers) (l .loop .layer) (l .loop .inv) (c .if1 .left))
 
 pub find-spec : {M : Type 1} → statement M
 find-spec =

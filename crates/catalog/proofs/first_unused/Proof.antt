@@ -4,7 +4,8 @@ use Prim.Native.Nat.{_-_}
 use native.Mathlib.Nat.{sub-zero}
 use borrow.Author.Needs.{needs}
 use Rattle.catalog.specs.Catalog.{keySector, slotUnused, placeFrom, placeUnused}
-use Rattle.catalog.proofs.WalkLaws.{place-here, place-next, place-none}
+use Rattle.catalog.proofs.AnswerLaws.{unused-place}
+use Rattle.catalog.proofs.WalkLaws.{block-fits, place-here, place-next, place-none}
 use Rattle.catalog.proofs.first_unused.Statement.{statement}
 use Rattle.catalog.proofs.first_unused.Tie as tie
 
@@ -18,7 +19,10 @@ loop-holds : tie.Need-loop-holds Inv-loop μ-loop
 loop-holds c = rw sub-zero refl
 
 key-sector-requires : tie.Need-key-sector-requires Inv-loop μ-loop
-key-sector-requires c κs = tt
+key-sector-requires c κs =
+    let l = c .before .before in
+    let start = l .before .before in
+    block-fits (start .args .c .keys) (start .args .c .layers) (start .args .key) (l .loop .layer) (start .pre .0) (c .if1 .taken) (start .pre .1)
 
 unused-slot-requires : tie.Need-unused-slot-requires Inv-loop μ-loop
 unused-slot-requires c κs = tt
@@ -28,9 +32,10 @@ returns c =
     let turn = c .before .before .before in
     let l = turn .before .before in
     let a = l .before .before .args in
-    place-here (slotUnused (a .image .now)) (keySector (a .image .now) (a .c) (a .key)) (a .c .layers) (l .loop .layer)
+    unused-place
+    (place-here (slotUnused (a .image .now)) (keySector (a .image .now) (a .c) (a .key)) (a .c .layers) (l .loop .layer)
     (c .before .before .key-sector .result .0) (c .before .unused-slot .result)
-    (l .loop .inv) (turn .if1 .taken) (c .before .before .key-sector .ensures) (c .before .unused-slot .ensures) (c .if2 .taken)
+    (l .loop .inv) (turn .if1 .taken) (c .before .before .key-sector .ensures) (c .before .unused-slot .ensures) (c .if2 .taken))
 
 add-layer : tie.Need-add-layer Inv-loop μ-loop
 add-layer c = search needs
@@ -51,7 +56,8 @@ returns-2 : tie.Need-returns-2 Inv-loop μ-loop
 returns-2 c =
     let l = c .before .before in
     let a = l .before .before .args in
-    place-none (slotUnused (a .image .now)) (keySector (a .image .now) (a .c) (a .key)) (a .c .layers) (l .loop .layer) (l .loop .inv) (c .if1 .left)
+    unused-place
+    (place-none (slotUnused (a .image .now)) (keySector (a .image .now) (a .c) (a .key)) (a .c .layers) (l .loop .layer) (l .loop .inv) (c .if1 .left))
 
 pub first-unused-spec : {M : Type 1} → statement M
 first-unused-spec =

@@ -12,7 +12,7 @@ fold-requires : tie.Need-fold-requires
 fold-requires c κs = search needs
 
 find-name-requires : tie.Need-find-name-requires
-find-name-requires c κs = searchable (represented-on (c .before .before .before .before .pre))
+find-name-requires c κs = searchable (represented-on (c .before .before .before .before .pre .standing))
 
 enum-known-place : tie.Need-enum-known-place
 enum-known-place c = search needs
@@ -26,8 +26,8 @@ same-length c = search needs
 returns : tie.Need-returns
 returns c =
     let f = c .before .before in
-    let a = f .before .before .before .before .before .args in
-    changes-none _ (a .name) (a .lent .now) (f .before .before .fold .ensures .packed) (f .find-name .ensures) (c .enum-told .given .1)
+    let a = f .before .before .before .before .before in
+    changes-none _ (a .args .name) (a .args .lent .now) (a .pre) (f .before .before .fold .ensures .packed) (f .find-name .ensures) (c .enum-told .given .1)
 
 same-length-2 : tie.Need-same-length-2
 same-length-2 c = search needs
@@ -36,8 +36,8 @@ returns-2 : tie.Need-returns-2
 returns-2 c =
     let place = c .before .before in
     let f = place .before .before in
-    let a = f .before .before .before .before .before .args in
-    changes-short _ (a .name) (a .lent .now) (f .before .before .fold .ensures .packed) (f .find-name .ensures) (place .place .given .1) (c .if1 .taken)
+    let a = f .before .before .before .before .before in
+    changes-short _ (a .args .name) (a .args .lent .now) (a .pre) (f .before .before .fold .ensures .packed) (f .find-name .ensures) (place .place .given .1) (c .if1 .taken)
 
 is-system-requires : tie.Need-is-system-requires
 is-system-requires c κs = search needs
@@ -51,8 +51,8 @@ returns-3 c =
     let long = test .before in
     let place = long .before .before in
     let f = place .before .before in
-    let a = f .before .before .before .before .before .args in
-    changes-system _ (a .name) (a .lent .now) (f .before .before .fold .ensures .packed) (f .find-name .ensures) (place .place .given .1) (omega (arith, long .if1 .left)) (sym (test .is-system .ensures) ∙ c .if2 .taken)
+    let a = f .before .before .before .before .before in
+    changes-system _ (a .args .name) (a .args .lent .now) (a .pre) (f .before .before .fold .ensures .packed) (f .find-name .ensures) (place .place .given .1) (omega (arith, long .if1 .left)) (sym (test .is-system .ensures) ∙ c .if2 .taken)
 
 is-open-requires : tie.Need-is-open-requires
 is-open-requires c κs = search needs
@@ -68,8 +68,8 @@ returns-4 c =
     let long = test .before in
     let place = long .before .before in
     let f = place .before .before in
-    let a = f .before .before .before .before .before .args in
-    changes-open _ (a .name) (a .lent .now) (f .before .before .fold .ensures .packed) (f .find-name .ensures) (place .place .given .1) (omega (arith, long .if1 .left)) (sym (test .is-system .ensures) ∙ own .if2 .left) (sym (live .is-open .ensures) ∙ c .if3 .taken)
+    let a = f .before .before .before .before .before in
+    changes-open _ (a .args .name) (a .args .lent .now) (a .pre) (f .before .before .fold .ensures .packed) (f .find-name .ensures) (place .place .given .1) (omega (arith, long .if1 .left)) (sym (test .is-system .ensures) ∙ own .if2 .left) (sym (live .is-open .ensures) ∙ c .if3 .taken)
 
 change-file-requires : tie.Need-change-file-requires
 change-file-requires c κs =
@@ -80,9 +80,9 @@ change-file-requires c κs =
     let long = test .before in
     let place = long .before .before in
     let f = place .before .before in
-    let a = f .before .before .before .before .before .args in
-    can-change-file _ (a .name) (a .lent .now) (f .before .before .fold .ensures .packed) (f .find-name .ensures) (place .place .given .1) (omega (arith, long .if1 .left)) (sym (test .is-system .ensures) ∙ own .if2 .left)
-    (sym (live .is-open .ensures) ∙ shut .if3 .left) (f .before .before .before .before .before .pre)
+    let a = f .before .before .before .before .before in
+    can-change-file _ (a .args .name) (a .args .lent .now) (a .pre) (f .before .before .fold .ensures .packed) (f .find-name .ensures) (place .place .given .1) (omega (arith, long .if1 .left)) (sym (test .is-system .ensures) ∙ own .if2 .left)
+    (sym (live .is-open .ensures) ∙ shut .if3 .left)
 
 same-length-5 : tie.Need-same-length-5
 same-length-5 c = search needs
@@ -97,8 +97,8 @@ returns-5 c =
     let long = test .before in
     let place = long .before .before in
     let f = place .before .before in
-    let a = f .before .before .before .before .before .args in
-    changes-file _ (a .name) (a .lent .now) (f .before .before .fold .ensures .packed) (f .find-name .ensures) (place .place .given .1) (omega (arith, long .if1 .left)) (sym (test .is-system .ensures) ∙ own .if2 .left)
+    let a = f .before .before .before .before .before in
+    changes-file _ (a .args .name) (a .args .lent .now) (a .pre) (f .before .before .fold .ensures .packed) (f .find-name .ensures) (place .place .given .1) (omega (arith, long .if1 .left)) (sym (test .is-system .ensures) ∙ own .if2 .left)
     (sym (live .is-open .ensures) ∙ shut .if3 .left) (changed .change-file .ensures)
 
 pub change-spec : {M : Type 1} → statement M

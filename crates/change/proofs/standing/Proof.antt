@@ -20,7 +20,7 @@ file-block-requires c κs = search needs
 slice-total-requires : tie.Need-slice-total-requires
 slice-total-requires c κs =
     let index = c .before in
-    total-fits (index .before .before .before .before .pre .can) (index .entry-word3 .ensures) (c .file-block .ensures)
+    total-fits (index .before .before .before .before .pre .can) (index .entry-word3 .ensures) (c .file-block .ensures .1)
 
 returns : tie.Need-returns
 returns c =
@@ -29,7 +29,7 @@ returns c =
     let size = index .before in
     record {
       all = λ p n f can.
-          stands-as can (index .entry-word3 .ensures) (block .file-block .ensures) _ refl (size .before .entry-word .ensures) (size .entry-word2 .ensures)
+          stands-as can (index .entry-word3 .ensures) (block .file-block .ensures .1) _ refl (size .before .entry-word .ensures) (size .entry-word2 .ensures)
           (c .slice-total .ensures) refl;
     }
 

@@ -21,7 +21,8 @@ returns : tie.Need-returns
 returns c =
     let made = c .before .before in
     let folded = made .before .before in
-    creates (folded .before .before .before .args .name) (folded .fold .ensures .packed) (made .new-file .ensures) refl refl
+    let start = folded .before .before .before in
+    creates (start .args .name) (folded .fold .ensures .packed) (made .new-file .ensures) (start .pre) refl refl
 
 pub create-spec : {M : Type 1} → statement M
 create-spec =

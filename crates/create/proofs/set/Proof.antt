@@ -6,7 +6,7 @@ use Rattle.create.proofs.set.Statement.{statement}
 use Rattle.create.proofs.set.Tie as tie
 
 returns : tie.Need-returns
-returns c = let a = c .before .before .before .args in sets-short (a .name) (a .lent .now) (c .if1 .taken)
+returns c = let start = c .before .before .before in sets-short (start .args .name) (start .args .lent .now) (start .pre) (c .if1 .taken)
 
 fold-requires : tie.Need-fold-requires
 fold-requires c κs = search needs
@@ -29,7 +29,7 @@ returns-2 c =
     let folded = made .before .before .before in
     let left = folded .before .before in
     let start = left .before .before .before in
-    sets (start .args .name) (folded .fold .ensures .packed) (omega (arith, left .if1 .left)) (made .new-file .ensures)
+    sets (start .args .name) (start .pre) (folded .fold .ensures .packed) (omega (arith, left .if1 .left)) (made .new-file .ensures)
 
 pub set-spec : {M : Type 1} → statement M
 set-spec =

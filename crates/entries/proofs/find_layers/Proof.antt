@@ -32,7 +32,7 @@ size-of : (c : tie.After-word) → let t = c .before .before .before in let a = 
 size-of c =
     let t = c .before .before .before in
     let a = t .before .before .before .before .before .before .args in
-    place-word (a .image .now) (a .g .first) (a .g .slice) (sysSlices (a .image .now) (a .g)) (t .t .given .0 .0) 7 (c .before .sector-of .ensures) (c .word .ensures)
+    place-word (a .image .now) (a .g .first .0) (a .g .slice) (sysSlices (a .image .now) (a .g)) (t .t .given .0 .0) 7 (c .before .sector-of .ensures) (c .word .ensures)
 
 module _ (c : tie.After-word) where
   abbrev t : tie.After-t

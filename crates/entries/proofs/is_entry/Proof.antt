@@ -16,7 +16,7 @@ holds-entry-requires c κs = search needs
 returns : tie.Need-returns
 returns c =
     let a = c .before .before .before .args in
-    let e = entry-list (a .name .0) (a .name .1) (a .name .2) (a .size) (a .index) (a .reserved) (omega arith) (omega arith) in
+    let e = entry-list (a .name .0) (a .name .1) (a .name .2) (a .size) (a .index .0) (a .reserved) (omega arith) (omega arith) in
     subst (λ (l : List ℕ). Decides (c .holds-entry .result) (HoldsEntry (sectorPlaces (a .image .now) (a .q .0)) (a .i) l)) e (c .holds-entry .ensures)
 
 pub is-entry-spec : {M : Type 1} → statement M

@@ -28,7 +28,7 @@ passed c =
 
 -- the block is in the pair
 inside : (c : tie.After-pair-start Inv-loop μ-loop) → let a = c .before .before .before .before .before .args in
-    (c .pair-start .result .0 + c .before .before .loop .rest ≡ sectorIn (a .g .first) (a .g .slice) (sysSlices (a .image .now) (a .g)) (a .b .0))
+    (c .pair-start .result .0 + c .before .before .loop .rest ≡ sectorIn (a .g .first .0) (a .g .slice) (sysSlices (a .image .now) (a .g)) (a .b .0))
     × (c .pair-start .result .0 + c .before .before .loop .rest < a .g .sectors)
 inside c =
     let at = c .before .before in

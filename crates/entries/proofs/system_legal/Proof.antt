@@ -1,10 +1,13 @@
--- `entries::system_legal` meets its contract. Assumes nothing.
+-- `entries::system_legal` meets its contract: another first word is another name. Assumes nothing.
 use native.Mathlib.Omega.{arith}
 use borrow.Author.Needs.{needs}
 use Rattle.disc.proofs.DecideLaws.{holds}
-use Rattle.entries.proofs.PlaceLaws.{ordinary}
+use Rattle.entries.proofs.PlaceLaws.{ordinary, other-first}
 use Rattle.entries.proofs.system_legal.Statement.{statement}
 use Rattle.entries.proofs.system_legal.Tie as tie
+
+begins-as-system-requires : tie.Need-begins-as-system-requires
+begins-as-system-requires c κs = search needs
 
 named-legal-requires : tie.Need-named-legal-requires
 named-legal-requires c κs = search needs
@@ -12,16 +15,11 @@ named-legal-requires c κs = search needs
 returns : tie.Need-returns
 returns c = search needs
 
-named-legal-requires-2 : tie.Need-named-legal-requires-2
-named-legal-requires-2 c κs = search needs
-
 returns-2 : tie.Need-returns-2
-returns-2 c = search needs
-
-returns-3 : tie.Need-returns-3
-returns-3 c =
-    let n = c .before .before .before .before .before .pre .2 in
-    holds (ordinary (λ e. omega (arith, n .first, n .second-word, n .third-word)) (λ e. omega (arith, n .first, n .second-word, n .third-word)))
+returns-2 c =
+    let n = c .before .before .before .pre .2 in
+    let other = other-first (c .before .before .before .args .name .0) (c .before .begins-as-system .ensures) (c .if1 .left) in
+    holds (ordinary (λ e. omega (arith, other .0, n .first, n .second-word, n .third-word)) (λ e. omega (arith, other .1, n .first, n .second-word, n .third-word)))
 
 pub system-legal-spec : {M : Type 1} → statement M
-system-legal-spec = tie.close (tie.spec named-legal-requires returns named-legal-requires-2 returns-2 returns-3)
+system-legal-spec = tie.close (tie.spec begins-as-system-requires named-legal-requires returns returns-2)

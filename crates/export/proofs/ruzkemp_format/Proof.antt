@@ -43,7 +43,7 @@ use denote.Triple.Spec.{Meets, tripleOf}
 use denote.Triple.Table.{entered, cited}
 use denote.Triple.Walked.{says, Stays, stay-ref, stay-dropped, gave-slice, walkOf, AllGo, goes-dropped, goes-ref, goes-gave-slice, Walks, ends-at, walked, walk-meets}
 use denote.Exit.{yes}
-use Rattle.export.specs.Calls.{UnitFormats}
+use Rattle.export.specs.Calls.{unitFormatted, UnitFormats}
 -- the types and their laws: T of UnitState, O of FormatOutcome
 use Rattle.export.specs.declared.UnitState.{UnitState}
 use Rattle.export.proofs.UnitState as T
@@ -125,7 +125,7 @@ module _ {M : Type 1} (𝓤 : URA M) (H : Heap 𝓤) (A : Atoms 𝓤) (W : Given
 
   -- what `format_step` ensures where it returns r and leaves these lists
   abbrev Stepped : FormatOutcome → List ℕ → Type 0
-  Stepped r z0 = UnitFormats image h bytes lent z0 (r .result) (r .state)
+  Stepped r z0 = UnitFormats image h bytes lent (unitFormatted z0 (r .state) (r .result))
 
   -- the tokens of the slices' lifetimes
   abbrev tokens : Item 𝓤

@@ -42,7 +42,7 @@ use denote.Triple.Spec.{Meets, tripleOf}
 use denote.Triple.Table.{entered, cited}
 use denote.Triple.Walked.{says, Stays, stay-ref, stay-dropped, gave-slice, walkOf, AllGo, goes-dropped, goes-ref, goes-gave-slice, Walks, ends-at, walked, walk-meets}
 use denote.Exit.{yes}
-use Rattle.export.specs.Calls.{UnitPerforms}
+use Rattle.export.specs.Calls.{unitPerformed, UnitPerforms}
 -- the types and their laws: T of UnitState, O of UnitOutcome, B of UnitAnswer, Q of UnitMessage
 use Rattle.export.specs.declared.UnitState.{UnitState}
 use Rattle.export.proofs.UnitState as T
@@ -129,7 +129,7 @@ module _ {M : Type 1} (𝓤 : URA M) (H : Heap 𝓤) (A : Atoms 𝓤) (W : Given
 
   -- what `step` ensures where it returns r and leaves these lists
   abbrev Stepped : UnitOutcome → List ℕ → List ℕ → Type 0
-  Stepped r z0 z1 = UnitPerforms image h message lent z0 (r .state) (r .answer) z1
+  Stepped r z0 z1 = UnitPerforms image h message lent (unitPerformed z0 (r .state) (r .answer) z1)
 
   -- the tokens of the slices' lifetimes
   abbrev tokens : Item 𝓤

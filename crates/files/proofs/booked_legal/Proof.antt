@@ -15,13 +15,13 @@ div-own : tie.Need-div-own
 div-own c = search needs
 
 mul-if1 : tie.Need-mul-if1
-mul-if1 c = let a = c .before .args in omega (arith, div-mul-le-self (a .entry .reserved) (a .s))
+mul-if1 c = let a = c .before .before .before .args in omega (arith, div-mul-le-self (a .entry .reserved) (a .s))
 
 returns : tie.Need-returns
-returns c = fails (λ b. c .if1 .taken (booked-whole (c .before .before .before .pre) b))
+returns c = fails (λ b. c .if1 .taken (booked-whole (c .before .before .before .before .before .pre) b))
 
 returns-2 : tie.Need-returns-2
-returns-2 c = fails (λ b. omega (arith, booked-own (c .before .before .before .before .pre) b, b .slices-low))
+returns-2 c = fails (λ b. omega (arith, booked-own (c .before .before .before .before .before .before .pre) b, b .slices-low))
 
 returns-3 : tie.Need-returns-3
 returns-3 c = fails (λ b. omega (arith, b .length-low))
@@ -30,27 +30,27 @@ covered-requires : tie.Need-covered-requires
 covered-requires c κs = search needs
 
 returns-4 : tie.Need-returns-4
-returns-4 c = fails (λ b. refutes _ (c .before .covered .ensures) (c .if4 .taken) (booked-covered (c .before .before .before .before .before .before .before .before .before .pre) b))
+returns-4 c = fails (λ b. refutes _ (c .before .covered .ensures) (c .if4 .taken) (booked-covered (c .before .before .before .before .before .before .before .before .before .before .before .pre) b))
 
 returns-5 : tie.Need-returns-5
 returns-5 c =
     let d = c .before .before .before in
     let e = d .before .before in
-    let a = e .before .before .before .before .before .before .args in
-    let z : indexIf (a .entry .reserved / a .s) (a .live .index) ≡ 0 = ap (λ (n : ℕ). indexIf n (a .live .index)) (c .before .if5 .taken) in
-    decides-eq (a .entry .index) 0
-    (λ i. booked-is (e .before .before .before .before .before .before .pre) (e .before .before .before .if1 .left) (omega arith) (omega arith) (grants _ (d .covered .ensures) (c .before .before .if4 .left)) (i ∙ sym z))
-    (λ b. booked-index (e .before .before .before .before .before .before .pre) b ∙ z)
+    let a = e .before .before .before .before .before .before .before .before .args in
+    let z : indexIf (a .entry .reserved / a .s) (a .live .index .0) ≡ 0 = ap (λ (n : ℕ). indexIf n (a .live .index .0)) (c .before .if5 .taken) in
+    decides-eq (a .entry .index .0) 0
+    (λ i. booked-is (e .before .before .before .before .before .before .before .before .pre) (e .before .before .before .if1 .left) (omega arith) (omega arith) (grants _ (d .covered .ensures) (c .before .before .if4 .left)) (i ∙ sym z))
+    (λ b. booked-index (e .before .before .before .before .before .before .before .before .pre) b ∙ z)
 
 returns-6 : tie.Need-returns-6
 returns-6 c =
     let d = c .before .before .before .before in
     let e = d .before .before in
-    let a = e .before .before .before .before .before .before .args in
-    let z : indexIf (a .entry .reserved / a .s) (a .live .index) ≡ a .live .index = index-some (a .entry .reserved / a .s) (a .live .index) (c .before .before .if5 .left) in
-    decides-eq (a .entry .index) (a .live .index)
-    (λ i. booked-is (e .before .before .before .before .before .before .pre) (e .before .before .before .if1 .left) (omega arith) (omega arith) (grants _ (d .covered .ensures) (c .before .before .before .if4 .left)) (i ∙ sym z))
-    (λ b. booked-index (e .before .before .before .before .before .before .pre) b ∙ z)
+    let a = e .before .before .before .before .before .before .before .before .args in
+    let z : indexIf (a .entry .reserved / a .s) (a .live .index .0) ≡ a .live .index .0 = index-some (a .entry .reserved / a .s) (a .live .index .0) (c .before .before .if5 .left) in
+    decides-eq (a .entry .index .0) (a .live .index .0)
+    (λ i. booked-is (e .before .before .before .before .before .before .before .before .pre) (e .before .before .before .if1 .left) (omega arith) (omega arith) (grants _ (d .covered .ensures) (c .before .before .before .if4 .left)) (i ∙ sym z))
+    (λ b. booked-index (e .before .before .before .before .before .before .before .before .pre) b ∙ z)
 
 pub booked-legal-spec : {M : Type 1} → statement M
 booked-legal-spec =

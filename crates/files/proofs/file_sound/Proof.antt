@@ -24,7 +24,7 @@ returns c =
     let index = own .before .before in
     let entry = index .before in
     let a = entry .before .before .args in
-    file-refused (entryAt (a .image .now) (a .at)) (a .live) (index .live-index .ensures ∙ ap (λ (e : Entry). indexBy (a .live) (e .index)) (entry .entry-at .ensures))
+    file-refused (entryAt (a .image .now) (a .at)) (a .live) (index .live-index .ensures ∙ ap (λ (e : Entry). indexBy (a .live) (e .index .0)) (entry .entry-at .ensures))
     (own .own-index .ensures) (not-true _ (c .if1 .taken))
 
 numbers-legal-requires : tie.Need-numbers-legal-requires
@@ -36,7 +36,7 @@ returns-2 c =
     let index = own .before .before in
     let entry = index .before in
     let a = entry .before .before .args in
-    file-judged (entryAt (a .image .now) (a .at)) (a .live) (index .live-index .ensures ∙ ap (λ (e : Entry). indexBy (a .live) (e .index)) (entry .entry-at .ensures))
+    file-judged (entryAt (a .image .now) (a .at)) (a .live) (index .live-index .ensures ∙ ap (λ (e : Entry). indexBy (a .live) (e .index .0)) (entry .entry-at .ensures))
     (own .own-index .ensures) (not-false _ (c .before .if1 .left))
     (numbers-moved (entry .entry-at .ensures) (c .numbers-legal .ensures))
 

@@ -5,6 +5,9 @@ use Rattle.state.proofs.ShapeLaws.{areas-length}
 use Rattle.entries.proofs.SysLaws.{sys-small}
 use Rattle.files.proofs.SysLaws.{known-sys}
 use Rattle.files.proofs.SoundLaws.{ordinary-known, files-marked}
+use borrow.Author.Tests.{not-true, not-false}
+use Rattle.disc.proofs.DecideLaws.{true≢false}
+use Rattle.marks.proofs.MarkLaws.{marks, refuses}
 use borrow.Author.Needs.{needs}
 use Rattle.files.proofs.files_sound.Statement.{statement}
 use Rattle.files.proofs.files_sound.Tie as tie
@@ -32,14 +35,39 @@ stretches-sound-requires c κs =
     let pre = flat .before .before .before .before .before .pre in
     (pre .0, upto .open-upto .ensures .eight, fill .fill-cells .ensures, ordinary-known (pre .1))
 
+unmark-all-requires : tie.Need-unmark-all-requires
+unmark-all-requires c κs = search needs
+
 returns : tie.Need-returns
 returns c =
-    let upto = c .before .before .before .before .before .before .before .before .before .before in
+    let stretches = c .before .before .before in
+    let upto = stretches .before .before .before .before .before .before .before .before .before .before in
     let flat = upto .before .before in
     let start = flat .before .before .before .before .before in
     let a = start .args in
-    files-marked (a .image .now) (a .state) (a .g) _ _ _ (areas-length (a .state) _ (start .good .1 .0)) (flat .flatten .ensures) (upto .open-upto .ensures) (16 * (a .g .keys * a .layers)) (start .pre .1) (c .stretches-sound .ensures) (start .pre .0 .marked)
+    let judged = files-marked (a .image .now) (a .state) (a .g) _ _ _ (areas-length (a .state) _ (start .good .1 .0)) (flat .flatten .ensures) (upto .open-upto .ensures) (16 * (a .g .keys * a .layers)) (start .pre .1) (stretches .stretches-sound .ensures) (start .pre .0 .marked) in
+    (λ _. c .unmark-all .ensures, refuses (judged .not (not-true _ (c .before .before .if1 .taken))))
+
+returns-2 : tie.Need-returns-2
+returns-2 c =
+    let stretches = c .before in
+    let upto = stretches .before .before .before .before .before .before .before .before .before .before in
+    let flat = upto .before .before in
+    let start = flat .before .before .before .before .before in
+    let a = start .args in
+    let judged = files-marked (a .image .now) (a .state) (a .g) _ _ _ (areas-length (a .state) _ (start .good .1 .0)) (flat .flatten .ensures) (upto .open-upto .ensures) (16 * (a .g .keys * a .layers)) (start .pre .1) (stretches .stretches-sound .ensures) (start .pre .0 .marked) in
+    let y = judged .yes (not-false _ (c .if1 .left)) in
+    (λ e. absurd (true≢false e), marks (y .0) (record { is = y .2; once = y .1 }))
 
 pub files-sound-spec : {M : Type 1} → statement M
 files-sound-spec =
-    tie.close (tie.spec flatten-requires open-upto-requires fill-cells-requires mul-stretches-sound stretches-sound-requires returns)
+    tie.close
+    (tie.spec
+    flatten-requires
+    open-upto-requires
+    fill-cells-requires
+    mul-stretches-sound
+    stretches-sound-requires
+    unmark-all-requires
+    returns
+    returns-2)

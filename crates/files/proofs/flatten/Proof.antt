@@ -61,7 +61,7 @@ loop-again c =
 returns : tie.Need-returns Inv-loop μ-loop
 returns c =
     let i = c .before .loop .inv in
-    record { name = λ j h. i .1 .each j (omega arith); index = λ j h. i .2 .each j (omega arith); length = λ j h. i .3 .each j (omega arith) }
+    record { sizes = (i .1 .eight, i .2 .eight, i .3 .eight); name = λ j h. i .1 .each j (omega arith); index = λ j h. i .2 .each j (omega arith); length = λ j h. i .3 .each j (omega arith) }
 
 pub flatten-spec : {M : Type 1} → statement M
 flatten-spec =

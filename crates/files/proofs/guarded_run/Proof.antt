@@ -58,7 +58,7 @@ plain-place-requires : tie.Need-plain-place-requires Inv-loop μ-loop
 plain-place-requires c κs =
     let l = c .before .before .before .before .before .before in
     let s = l .before .before .before in
-    (s .pre .0, closed-some (s .args .image .now) (s .args .g) (placesFrom (s .args .image .now) (s .args .at)) (s .args .upto) (s .args .cells .now) (l .loop .i) (s .pre .1) (l .loop .inv .1), omega arith, l .before .reciprocal .ensures .1, s .pre .3 (l .loop .i) (omega arith))
+    (s .pre .0, closed-some (s .args .image .now) (s .args .g) (placesFrom (s .args .image .now) (s .args .at)) (s .args .upto) (s .args .cells .now) (l .loop .i) (s .pre .1) (l .loop .inv .1), omega arith, l .before .reciprocal .ensures .0, s .pre .3 (l .loop .i) (omega arith))
 
 returns-2 : tie.Need-returns-2 Inv-loop μ-loop
 returns-2 c =

@@ -1,10 +1,12 @@
 -- `files::live_of` meets its contract: the search from the start is the search from name j on. Assumes nothing.
+use lib.ListN.{getD}
 use mathlib.Core.Path.{_≡_, sym, _∙_}
 use Prim.Native.Nat.{_-_, _≤_}
+use borrow.Author.Tests.{eqb-true, eqb-false}
 use native.Mathlib.Omega.{arith}
-use borrow.Author.Needs.{needs}
 use Rattle.files.specs.Live.{liveIn, liveFrom}
 use Rattle.files.proofs.LiveLaws.{live-start, live-hit, live-miss, live-end}
+use borrow.Author.Needs.{needs}
 use Rattle.files.proofs.live_of.Statement.{statement}
 use Rattle.files.proofs.live_of.Tie as tie
 
@@ -18,28 +20,34 @@ abbrev μ-loop : tie.MeasureT-loop
 loop-holds : tie.Need-loop-holds Inv-loop μ-loop
 loop-holds c = (omega arith, live-start _ _ _ _ _)
 
-mul-if1 : tie.Need-mul-if1 Inv-loop μ-loop
-mul-if1 c = search needs
+mul-same-number : tie.Need-mul-same-number Inv-loop μ-loop
+mul-same-number c = search needs
 
-element-copy-out-if1 : tie.Need-element-copy-out-if1 Inv-loop μ-loop
-element-copy-out-if1 c = search needs
+element-copy-out-same-number : tie.Need-element-copy-out-same-number Inv-loop μ-loop
+element-copy-out-same-number c = search needs
 
-mul-t12 : tie.Need-mul-t12 Inv-loop μ-loop
-mul-t12 c = search needs
+same-number-requires : tie.Need-same-number-requires Inv-loop μ-loop
+same-number-requires c κs = search needs
 
-element-copy-out-t15 : tie.Need-element-copy-out-t15 Inv-loop μ-loop
-element-copy-out-t15 c = search needs
+mul-t13 : tie.Need-mul-t13 Inv-loop μ-loop
+mul-t13 c = search needs
 
-mul-t16 : tie.Need-mul-t16 Inv-loop μ-loop
-mul-t16 c = search needs
+element-copy-out-t16 : tie.Need-element-copy-out-t16 Inv-loop μ-loop
+element-copy-out-t16 c = search needs
 
-element-copy-out-t19 : tie.Need-element-copy-out-t19 Inv-loop μ-loop
-element-copy-out-t19 c = search needs
+mul-t18 : tie.Need-mul-t18 Inv-loop μ-loop
+mul-t18 c = search needs
+
+element-copy-out-t21 : tie.Need-element-copy-out-t21 Inv-loop μ-loop
+element-copy-out-t21 c = search needs
 
 returns : tie.Need-returns Inv-loop μ-loop
 returns c =
-    let l = c .before .before .before .before .before in
-    sym (l .loop .inv .1 ∙ live-hit _ _ _ _ _ (l .loop .j) (omega arith) (c .before .before .if1 .taken))
+    let l = c .before .before .before .before .before .before in
+    let a = l .before .args in
+    let test = c .before .before .before in
+    let same = eqb-true (getD (a .names .now) (l .loop .j) 0) (a .name) (sym (test .same-number .ensures) ∙ c .before .before .if1 .taken) in
+    sym (l .loop .inv .1 ∙ live-hit _ _ _ _ _ (l .loop .j) (omega arith) same)
 
 add-j : tie.Need-add-j Inv-loop μ-loop
 add-j c = search needs
@@ -49,8 +57,10 @@ loop-less c = search needs
 
 loop-again : tie.Need-loop-again Inv-loop μ-loop
 loop-again c =
-    let l = c .before .before .before in
-    (omega arith, l .loop .inv .1 ∙ live-miss _ _ _ _ _ (l .loop .j) (omega arith) (c .if1 .left))
+    let l = c .before .before .before .before in
+    let a = l .before .args in
+    let other = eqb-false (getD (a .names .now) (l .loop .j) 0) (a .name) (sym (c .before .same-number .ensures) ∙ c .if1 .left) in
+    (omega arith, l .loop .inv .1 ∙ live-miss _ _ _ _ _ (l .loop .j) (omega arith) other)
 
 returns-2 : tie.Need-returns-2 Inv-loop μ-loop
 returns-2 c = sym (c .before .loop .inv .1 ∙ live-end _ _ _ _ _ (c .before .loop .j) (omega arith))
@@ -62,12 +72,13 @@ live-of-spec =
     Inv-loop
     μ-loop
     loop-holds
-    mul-if1
-    element-copy-out-if1
-    mul-t12
-    element-copy-out-t15
-    mul-t16
-    element-copy-out-t19
+    mul-same-number
+    element-copy-out-same-number
+    same-number-requires
+    mul-t13
+    element-copy-out-t16
+    mul-t18
+    element-copy-out-t21
     returns
     add-j
     loop-less

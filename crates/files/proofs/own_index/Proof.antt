@@ -1,6 +1,8 @@
 -- `files::own_index` meets its contract. Assumes nothing.
 use mathlib.Core.Path.{refl}
-use Rattle.files.proofs.FileLaws.{own-none, own-some}
+use Rattle.disc.proofs.DecideLaws.{refutes, grants}
+use Rattle.marks.specs.Indexed.{ofFile}
+use Rattle.files.proofs.FileLaws.{own-none, own-outside, own-some}
 use borrow.Author.Needs.{needs}
 use Rattle.files.proofs.own_index.Statement.{statement}
 use Rattle.files.proofs.own_index.Tie as tie
@@ -8,11 +10,23 @@ use Rattle.files.proofs.own_index.Tie as tie
 returns : tie.Need-returns
 returns c = own-none _ (c .if1 .taken) refl refl
 
-mark-index-requires : tie.Need-mark-index-requires
-mark-index-requires c κs = search needs
+is-data-sector-requires : tie.Need-is-data-sector-requires
+is-data-sector-requires c κs = search needs
 
 returns-2 : tie.Need-returns-2
-returns-2 c = own-some (c .before .before .before .before .before .args .q) _ (c .before .before .before .if1 .left) (c .before .mark-index .ensures) refl refl
+returns-2 c =
+    let s = c .before .before .before .before .before in
+    own-outside (s .args .q .0) _ (s .pre .0) (c .before .before .if1 .left) (λ d. refutes _ (c .before .is-data-sector .ensures) (c .if2 .taken) d) refl
+
+mark-index-requires : tie.Need-mark-index-requires
+mark-index-requires c κs =
+    let pre = c .before .before .before .before .before .before .pre in
+    let d = grants _ (c .before .before .is-data-sector .ensures) (c .before .if2 .left) in
+    (pre .0, pre .1, ofFile (d .low) (d .high))
+
+returns-3 : tie.Need-returns-3
+returns-3 c = own-some (c .before .before .before .before .before .before .before .before .before .before .args .q .0) _ (c .before .before .before .before .before .before .before .if1 .left) (c .before .before .before .mark-index .ensures) refl refl
 
 pub own-index-spec : {M : Type 1} → statement M
-own-index-spec = tie.close (tie.spec returns mark-index-requires returns-2)
+own-index-spec =
+    tie.close (tie.spec returns is-data-sector-requires returns-2 mark-index-requires returns-3)

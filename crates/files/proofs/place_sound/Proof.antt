@@ -10,13 +10,13 @@ name-at-requires c κs = search needs
 returns : tie.Need-returns
 returns c = place-unused (c .before .name-at .result) (c .before .name-at .ensures) (c .if1 .taken)
 
-is-system-requires : tie.Need-is-system-requires
-is-system-requires c κs = search needs
+is-system-number-requires : tie.Need-is-system-number-requires
+is-system-number-requires c κs = search needs
 
 returns-2 : tie.Need-returns-2
 returns-2 c =
     let name = c .before .before .before in
-    place-system (name .name-at .result) (name .name-at .ensures) (c .before .is-system .ensures) (c .if2 .taken)
+    place-system (name .name-at .result) (name .name-at .ensures) (c .before .is-system-number .ensures) (c .if2 .taken)
 
 live-of-requires : tie.Need-live-of-requires
 live-of-requires c κs = search needs
@@ -29,7 +29,7 @@ returns-3 c =
     let live = c .before .before in
     let system = live .before .before in
     let name = system .before .before in
-    place-file (name .name-at .result) (name .name-at .ensures) (system .before .if1 .left) (system .is-system .ensures) (live .before .if2 .left) (live .live-of .ensures) (c .file-sound .ensures)
+    place-file (name .name-at .result) (name .name-at .ensures) (system .before .if1 .left) (system .is-system-number .ensures) (live .before .if2 .left) (live .live-of .ensures) (c .file-sound .ensures)
 
 pub place-sound-spec : {M : Type 1} → statement M
 place-sound-spec =
@@ -37,7 +37,7 @@ place-sound-spec =
     (tie.spec
     name-at-requires
     returns
-    is-system-requires
+    is-system-number-requires
     returns-2
     live-of-requires
     file-sound-requires

@@ -1,6 +1,6 @@
 -- `files::plain_file` meets its contract. Assumes nothing.
-use borrow.Author.Tests.{not-false}
-use Rattle.files.proofs.PlainLaws.{closed-left, closed-moved, closed-marked}
+use Rattle.disc.proofs.DecideLaws.{grants}
+use Rattle.files.proofs.PlainLaws.{closed-left, closed-marked, closed-moved}
 use borrow.Author.Needs.{needs}
 use Rattle.files.proofs.plain_file.Statement.{statement}
 use Rattle.files.proofs.plain_file.Tie as tie
@@ -21,8 +21,9 @@ returns-2 : tie.Need-returns-2
 returns-2 c =
     let numbers = c .before .before .before in
     let entry = numbers .before in
+    let pre = entry .before .before .pre in
     closed-moved (entry .entry-at .ensures)
-    (closed-marked (entry .entry-at .result) (entry .before .before .pre .0) (numbers .plain-numbers .ensures (not-false _ (c .before .before .if1 .left))) (c .mark-single .ensures))
+    (closed-marked (entry .entry-at .result) (pre .0) (grants _ (numbers .plain-numbers .ensures) (c .before .before .if1 .left)) (pre .1) (c .mark-single .ensures))
 
 pub plain-file-spec : {M : Type 1} → statement M
 plain-file-spec =

@@ -1,30 +1,34 @@
 -- `files::plain_numbers` meets its contract. Assumes nothing.
 use mathlib.Core.Path.{sym, _∙_}
 use native.Mathlib.Omega.{arith}
-use Rattle.disc.proofs.DecideLaws.{true≢false}
+use Rattle.disc.proofs.DecideLaws.{true≢false, fails}
 use borrow.Author.Needs.{needs}
 use Rattle.files.proofs.plain_numbers.Statement.{statement}
 use Rattle.files.proofs.plain_numbers.Tie as tie
 
 returns : tie.Need-returns
-returns c = λ e. absurd (true≢false (sym e))
+returns c = fails (λ p. omega (arith, p .short))
 
 entry-only-requires : tie.Need-entry-only-requires
 entry-only-requires c κs = search needs
 
 returns-2 : tie.Need-returns-2
-returns-2 c = λ e. absurd (true≢false (sym e))
+returns-2 c = fails (λ p. true≢false (sym (c .if2 .taken) ∙ c .before .entry-only .ensures ∙ p .slices))
 
 legal-attributes-requires : tie.Need-legal-attributes-requires
 legal-attributes-requires c κs = search needs
 
 returns-3 : tie.Need-returns-3
-returns-3 c = λ e.
+returns-3 c =
     let else2 = c .before in
     record {
-      allowed = sym (c .legal-attributes .ensures) ∙ e;
-      slices = sym (else2 .before .entry-only .ensures) ∙ else2 .if2 .left;
-      short = omega (arith, else2 .before .before .if1 .left);
+      yes = λ e.
+          record {
+            allowed = sym (c .legal-attributes .ensures) ∙ e;
+            slices = sym (else2 .before .entry-only .ensures) ∙ else2 .if2 .left;
+            short = omega (arith, else2 .before .before .if1 .left);
+          };
+      not = λ e p. true≢false (sym (p .allowed) ∙ sym (c .legal-attributes .ensures) ∙ e);
     }
 
 pub plain-numbers-spec : {M : Type 1} → statement M

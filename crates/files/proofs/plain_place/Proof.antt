@@ -27,7 +27,7 @@ plain-file-requires c κs = search needs
 returns-2 : tie.Need-returns-2
 returns-2 c =
     let else1 = c .before .before in
-    let s = else1 .before .before .before .before in
+    let s = else1 .before .before .before .before .before in
     plain-used (s .pre .4) (omega (arith, else1 .if1 .left, s .pre .0 .limits .first)) (c .plain-file .ensures)
 
 pub plain-place-spec : {M : Type 1} → statement M

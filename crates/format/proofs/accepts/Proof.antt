@@ -38,14 +38,14 @@ returns-3 c =
 shared-slice-read-sectors : tie.Need-shared-slice-read-sectors
 shared-slice-read-sectors c = search needs
 
-shared-slice-read-first : tie.Need-shared-slice-read-first
-shared-slice-read-first c = search needs
-
 shared-slice-read-within-limits : tie.Need-shared-slice-read-within-limits
 shared-slice-read-within-limits c = search needs
 
 shared-slice-read-within-limits-2 : tie.Need-shared-slice-read-within-limits-2
 shared-slice-read-within-limits-2 c = search needs
+
+shared-slice-read-within-limits-3 : tie.Need-shared-slice-read-within-limits-3
+shared-slice-read-within-limits-3 c = search needs
 
 within-limits-requires : tie.Need-within-limits-requires
 within-limits-requires c κs = search needs
@@ -57,7 +57,7 @@ shared-slice-read-if5 : tie.Need-shared-slice-read-if5
 shared-slice-read-if5 c = search needs
 
 sub-if5 : tie.Need-sub-if5
-sub-if5 c = omega (arith, limits (c .before) .some-data)
+sub-if5 c = omega (arith, limits (c .before .before) .some-data)
 
 returns-5 : tie.Need-returns-5
 returns-5 c = fails (λ f. c .if5 .taken (f .free))
@@ -69,14 +69,14 @@ returns-6 : tie.Need-returns-6
 returns-6 c = fails (λ f. c .if6 .taken (f .top))
 
 cast-result : tie.Need-cast-result
-cast-result c = omega (arith, limits (c .before .before .before .before) .sectors)
+cast-result c = omega (arith, limits (c .before .before .before .before .before) .sectors)
 
 mul-result : tie.Need-mul-result
-mul-result c = omega (arith, limits (c .before .before .before .before) .sectors)
+mul-result c = omega (arith, limits (c .before .before .before .before .before) .sectors)
 
 returns-7 : tie.Need-returns-7
 returns-7 c =
-    let e = c .before .before .before .before in
+    let e = c .before .before .before .before .before in
     let shut = e .before .before .before .before .before .before in
     let a = e .before .before .before .before .before .before .before .before .before .before .before .before .before .before .before .args in
     let n = getD (a .lent .now) 3 0 in
@@ -102,9 +102,9 @@ accepts-spec =
     any-open-requires
     returns-3
     shared-slice-read-sectors
-    shared-slice-read-first
     shared-slice-read-within-limits
     shared-slice-read-within-limits-2
+    shared-slice-read-within-limits-3
     within-limits-requires
     returns-4
     shared-slice-read-if5

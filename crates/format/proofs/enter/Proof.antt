@@ -23,7 +23,7 @@ returns c =
     let start = c .before .before .before .before .before .before in
     let a = start .args in
     let words = name-words (a .name) _ (start .good .1 .1 .1 .0) in
-    entry-stored (a .image .now) _ (a .q .0 * 256 + 16 * a .place) (a .name .0) (a .name .1) (a .name .2) (a .size) (a .index) (a .reserved) (words .0) (words .1)
+    entry-stored (a .image .now) _ (a .q .0 * 256 + 16 * a .place) (a .name .0) (a .name .1) (a .name .2) (a .size) (a .index .0) (a .reserved) (words .0) (words .1)
     (c .before .before .store-words .ensures)
 
 pub enter-spec : {M : Type 1} → statement M

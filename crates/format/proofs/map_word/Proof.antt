@@ -1,4 +1,5 @@
 -- `format::map_word` meets its contract: after b turns the word is made of its first b bits. Assumes nothing.
+use mathlib.Core.Path.{_≡_}
 use Prim.Native.Nat.{_+_, _-_, _*_, _≤_}
 use native.Mathlib.Omega.{arith}
 use Rattle.disc.specs.Stretches.{span}
@@ -26,28 +27,23 @@ mul-word c =
           (bits-more (a .slices) (span 1 (a .used)) (a .w) (l .b) (l .word) (omega arith) (l .inv .1)),
     )
 
-mul-map-bit : tie.Need-mul-map-bit Inv-loop μ-loop
-mul-map-bit c = omega arith
-
-add-map-bit : tie.Need-add-map-bit Inv-loop μ-loop
-add-map-bit c = omega arith
-
-add-map-bit-2 : tie.Need-add-map-bit-2 Inv-loop μ-loop
-add-map-bit-2 c = omega arith
+slice-at-requires : tie.Need-slice-at-requires Inv-loop μ-loop
+slice-at-requires c κs = omega arith
 
 map-bit-requires : tie.Need-map-bit-requires Inv-loop μ-loop
 map-bit-requires c κs = omega arith
 
 -- one bit more
-turn : (c : tie.After-map-bit Inv-loop μ-loop) → BitsDone (c .before .before .before .args .slices) (span 1 (c .before .before .before .args .used)) (c .before .before .before .args .w) (c .before .before .loop .b + 1) (c .before .before .loop .word * 2 + c .map-bit .result)
+turn : (c : tie.After-map-bit Inv-loop μ-loop) → BitsDone (c .before .before .before .before .args .slices) (span 1 (c .before .before .before .before .args .used)) (c .before .before .before .before .args .w) (c .before .before .before .loop .b + 1) (c .before .before .before .loop .word * 2 + c .map-bit .result)
 turn c =
-    let a = c .before .before .before .args in
-    let l = c .before .before .loop in
-    rw (c .map-bit .ensures) (bits-more (a .slices) (span 1 (a .used)) (a .w) (l .b) (l .word) (omega arith) (l .inv .1))
+    let a = c .before .before .before .before .args in
+    let l = c .before .before .before .loop in
+    let k : c .before .slice-at .result .0 ≡ 16 * a .w + 1 + l .b = omega (arith, c .before .slice-at .ensures) in
+    rw (c .map-bit .ensures, k) (bits-more (a .slices) (span 1 (a .used)) (a .w) (l .b) (l .word) (omega arith) (l .inv .1))
 
 add-word : tie.Need-add-word Inv-loop μ-loop
 add-word c =
-    let a = c .before .before .before .args in
+    let a = c .before .before .before .before .args in
     omega (arith, bits-fit (a .slices) (span 1 (a .used)) (a .w) _ _ (turn c))
 
 add-b : tie.Need-add-b Inv-loop μ-loop
@@ -72,9 +68,7 @@ map-word-spec =
     μ-loop
     loop-holds
     mul-word
-    mul-map-bit
-    add-map-bit
-    add-map-bit-2
+    slice-at-requires
     map-bit-requires
     add-word
     add-b

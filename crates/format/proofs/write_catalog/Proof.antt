@@ -1,10 +1,11 @@
 -- `format::write_catalog` meets its contract: SYS's sectors lie in the image, and both entries in them. Assumes nothing.
-use Prim.Native.Nat.{compare}
+use mathlib.Core.Path.{_≡_}
+use Prim.Native.Nat.{_+_, _<_, compare}
 use native.Mathlib.Omega.{arith}
 use Rattle.disc.proofs.SliceLaws.{same-le}
 use Rattle.refine.proofs.Format.{sys-end}
 use Rattle.format.specs.Format.{lentKeys, lentSlice, lentFirst, lentSectors}
-use Rattle.format.proofs.WriteLaws.{part-fits, catalog-written, key-inside}
+use Rattle.format.proofs.WriteLaws.{part-fits, catalog-written, key-inside, key-sector}
 use borrow.Author.Needs.{needs}
 use Rattle.format.proofs.write_catalog.Statement.{statement}
 use Rattle.format.proofs.write_catalog.Tie as tie
@@ -15,8 +16,8 @@ shared-slice-read-keys c = search needs
 shared-slice-read-slice : tie.Need-shared-slice-read-slice
 shared-slice-read-slice c = search needs
 
-shared-slice-read-first : tie.Need-shared-slice-read-first
-shared-slice-read-first c = search needs
+shared-slice-read-reserved : tie.Need-shared-slice-read-reserved
+shared-slice-read-reserved c = search needs
 
 sys-name-requires : tie.Need-sys-name-requires
 sys-name-requires c κs = search needs
@@ -52,40 +53,44 @@ clear-words-requires c κs =
     let l = start .args .lent .now in
     omega (arith, sys-end (lentKeys l) (lentSlice l) (lentFirst l) (lentSectors l) (start .pre .1))
 
-add-t12 : tie.Need-add-t12
-add-t12 c =
-    let key = c .before .before .before .before .before .before .before in
+sector-after-requires : tie.Need-sector-after-requires
+sector-after-requires c κs = search needs
+
+-- the sectors of SYS's and of MAP's key
+sys-sector : (c : tie.After-sector-after) → (c .sector-after .result .0 ≡ lentFirst (c .before .before .before .before .before .before .before .before .before .before .before .before .before .before .before .before .args .lent .now) + c .before .before .before .before .before .before .before .before .key .result) × (lentFirst (c .before .before .before .before .before .before .before .before .before .before .before .before .before .before .before .before .args .lent .now) + c .before .before .before .before .before .before .before .before .key .result < lentSectors (c .before .before .before .before .before .before .before .before .before .before .before .before .before .before .before .before .args .lent .now))
+sys-sector c =
+    let key = c .before .before .before .before .before .before .before .before in
     let start = key .before .before .before .before .before .before .before .before in
     let l = start .args .lent .now in
-    let lim = start .pre .1 in
-    omega (arith, key-inside (lentKeys l) (lentSlice l) (lentFirst l) (lentSectors l) lim _ (key .key .result) (key .key .ensures), lim .sectors)
+    let lim = start .pre .1 in (
+      key-sector (lentKeys l) (lentSlice l) (lentFirst l) (lentSectors l) lim _ (key .key .result) (key .key .ensures) (c .sector-after .ensures),
+      key-inside (lentKeys l) (lentSlice l) (lentFirst l) (lentSectors l) lim _ (key .key .result) (key .key .ensures),
+    )
 
-enter-requires : tie.Need-enter-requires
-enter-requires c κs =
-    let key = c .before .before .before .before .before .before .before in
-    let start = key .before .before .before .before .before .before .before .before in
-    let l = start .args .lent .now in
-    let lim = start .pre .1 in
-    omega (arith, key-inside (lentKeys l) (lentSlice l) (lentFirst l) (lentSectors l) lim _ (key .key .result) (key .key .ensures))
-
-add-t12-2 : tie.Need-add-t12-2
-add-t12-2 c =
-    let key = c .before .before .before .before .before .before .before .before .before .before in
+map-sector : (c : tie.After-sector-after2) → (c .sector-after2 .result .0 ≡ lentFirst (c .before .before .before .before .before .before .before .before .before .before .before .before .before .before .before .before .before .before .before .before .before .args .lent .now) + c .before .before .before .before .before .before .before .before .before .before .before .before .key2 .result) × (lentFirst (c .before .before .before .before .before .before .before .before .before .before .before .before .before .before .before .before .before .before .before .before .before .args .lent .now) + c .before .before .before .before .before .before .before .before .before .before .before .before .key2 .result < lentSectors (c .before .before .before .before .before .before .before .before .before .before .before .before .before .before .before .before .before .before .before .before .before .args .lent .now))
+map-sector c =
+    let key = c .before .before .before .before .before .before .before .before .before .before .before .before in
     let start = key .before .before .before .before .before .before .before .before .before in
     let l = start .args .lent .now in
-    let lim = start .pre .1 in
-    omega (arith, key-inside (lentKeys l) (lentSlice l) (lentFirst l) (lentSectors l) lim _ (key .key2 .result) (key .key2 .ensures), lim .sectors)
+    let lim = start .pre .1 in (
+      key-sector (lentKeys l) (lentSlice l) (lentFirst l) (lentSectors l) lim _ (key .key2 .result) (key .key2 .ensures) (c .sector-after2 .ensures),
+      key-inside (lentKeys l) (lentSlice l) (lentFirst l) (lentSectors l) lim _ (key .key2 .result) (key .key2 .ensures),
+    )
+
+enter-requires : tie.Need-enter-requires
+enter-requires c κs = let q = sys-sector c in omega arith
+
+sector-after-requires-2 : tie.Need-sector-after-requires-2
+sector-after-requires-2 c κs = search needs
 
 map-place-requires : tie.Need-map-place-requires
 map-place-requires c κs = search needs
 
 enter-requires-2 : tie.Need-enter-requires-2
 enter-requires-2 c κs =
-    let key = c .before .before .before .before .before .before .before .before .before .before .before in
-    let start = key .before .before .before .before .before .before .before .before .before in
-    let l = start .args .lent .now in
-    let lim = start .pre .1 in
-    omega (arith, key-inside (lentKeys l) (lentSlice l) (lentFirst l) (lentSectors l) lim _ (key .key2 .result) (key .key2 .ensures), c .map-place .ensures, same-le (compare (key .key2 .result) (key .before .key .result)))
+    let key = c .before .before .before .before .before .before .before .before .before .before .before .before .before in
+    let q = map-sector (c .before) in
+    omega (arith, c .map-place .ensures, same-le (compare (key .key2 .result) (key .before .key .result)))
 
 same-length : tie.Need-same-length
 same-length c = search needs
@@ -93,8 +98,8 @@ same-length c = search needs
 returns : tie.Need-returns
 returns c =
     let place = c .before .before .before in
-    let one = place .before .before .before .before in
-    let cleared = one .before .before .before .before in
+    let one = place .before .before .before .before .before in
+    let cleared = one .before .before .before .before .before in
     let used = cleared .before .before in
     let keys = used .before in
     let names = keys .before .before in
@@ -102,7 +107,7 @@ returns c =
     let l = start .args .lent .now in
     catalog-written (lentKeys l) (lentSlice l) (lentFirst l) (lentSectors l) (start .pre .1) (used .sys-slices .result) (used .sys-slices .ensures)
     _ _ _ _ _ (names .before .sys-name .ensures .packed) (names .map-name .ensures .packed) (keys .before .key .ensures) (keys .key2 .ensures) (place .map-place .ensures)
-    (start .args .image .now) _ _ _ (cleared .clear-words .ensures) (one .enter .ensures) (c .before .before .enter2 .ensures)
+    (start .args .image .now) _ _ _ (cleared .clear-words .ensures) (sys-sector (one .before) .0) (one .enter .ensures) (map-sector (place .before) .0) (c .before .before .enter2 .ensures)
 
 pub write-catalog-spec : {M : Type 1} → statement M
 write-catalog-spec =
@@ -110,7 +115,7 @@ write-catalog-spec =
     (tie.spec
     shared-slice-read-keys
     shared-slice-read-slice
-    shared-slice-read-first
+    shared-slice-read-reserved
     sys-name-requires
     map-name-requires
     key-requires
@@ -120,9 +125,9 @@ write-catalog-spec =
     cast-clear-words
     mul-clear-words
     clear-words-requires
-    add-t12
+    sector-after-requires
     enter-requires
-    add-t12-2
+    sector-after-requires-2
     map-place-requires
     enter-requires-2
     same-length

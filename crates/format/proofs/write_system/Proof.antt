@@ -16,8 +16,8 @@ shared-slice-read-slice c = search needs
 shared-slice-read-sectors : tie.Need-shared-slice-read-sectors
 shared-slice-read-sectors c = search needs
 
-shared-slice-read-first : tie.Need-shared-slice-read-first
-shared-slice-read-first c = search needs
+shared-slice-read-slices : tie.Need-shared-slice-read-slices
+shared-slice-read-slices c = search needs
 
 sys-slices-requires : tie.Need-sys-slices-requires
 sys-slices-requires c κs = search needs
@@ -33,14 +33,14 @@ sub-free c = search needs
 
 mul-free : tie.Need-mul-free
 mul-free c =
-    let start = c .before .before .before .before .before .before .before in
+    let start = c .before .before .before .before .before .before .before .before in
     let l = start .args .lent .now in
     let lim = start .pre .1 in
     part-fits (lentKeys l) (lentSlice l) (lentFirst l) (lentSectors l) lim (omega arith)
 
 mul-t14 : tie.Need-mul-t14
 mul-t14 c =
-    let start = c .before .before .before .before .before .before .before in
+    let start = c .before .before .before .before .before .before .before .before in
     let l = start .args .lent .now in
     let lim = start .pre .1 in
     part-fits (lentKeys l) (lentSlice l) (lentFirst l) (lentSectors l) lim (omega arith)
@@ -80,7 +80,7 @@ returns c =
     let three = c .before .before .before .before .before .before in
     let two = three .before .before .before .before .before in
     let one = two .before .before .before .before .before in
-    let used = one .before .before .before .before .before in
+    let used = one .before .before .before .before .before .before in
     let start = used .before .before .before .before .before .before .before in
     let l = start .args .lent .now in
     system-written (lentKeys l) (lentSlice l) (lentFirst l) (lentSectors l) (start .pre .1) (used .sys-slices .result) (used .sys-slices .ensures)
@@ -93,7 +93,7 @@ write-system-spec =
     shared-slice-read-keys
     shared-slice-read-slice
     shared-slice-read-sectors
-    shared-slice-read-first
+    shared-slice-read-slices
     sys-slices-requires
     sub-slices
     div-slices

@@ -2,7 +2,6 @@
 use mathlib.Core.Path.{ap, _∙_}
 use Prim.Native.Nat.{ℕ, _+_, _-_, _/_}
 use native.Mathlib.Omega.{arith}
-use Rattle.disc.proofs.NumberLaws.{quotient-lt}
 use Rattle.index.proofs.CaseLaws.{first-none, first-some}
 use borrow.Author.Needs.{needs}
 use Rattle.index.proofs.first_slice_at.Statement.{statement}
@@ -19,19 +18,13 @@ returns c =
 pair-start-requires : tie.Need-pair-start-requires
 pair-start-requires c κs = search needs
 
-less-requires : tie.Need-less-requires
-less-requires c κs = search needs
-
-div-t8 : tie.Need-div-t8
-div-t8 c = search needs
-
-add-t9 : tie.Need-add-t9
-add-t9 c = omega (arith, quotient-lt (c .less .result) (c .before .before .before .before .before .args .s) 32768 (omega arith) (omega arith))
+slice-from-requires : tie.Need-slice-from-requires
+slice-from-requires c κs = search needs
 
 returns-2 : tie.Need-returns-2
 returns-2 c =
     let a = c .before .before .before .before .before .args in
-    ap (λ (x : ℕ). x / a .s + 1) (c .less .ensures ∙ ap (λ (x : ℕ). x - a .first .0) (c .before .pair-start .ensures))
+    c .slice-from .ensures ∙ ap (λ (x : ℕ). (x - a .first .0) / a .s + 1) (c .before .pair-start .ensures)
     ∙ first-some (a .first .0) (a .s) (a .image .now) (a .q .0) _ (c .before .before .before .pair-count .ensures) (omega (arith, c .before .before .if1 .left))
 
 pub first-slice-at-spec : {M : Type 1} → statement M
@@ -41,7 +34,5 @@ first-slice-at-spec =
     pair-count-requires
     returns
     pair-start-requires
-    less-requires
-    div-t8
-    add-t9
+    slice-from-requires
     returns-2)

@@ -1,8 +1,7 @@
 -- `index::last_slice_at` meets its contract. Assumes nothing.
-use mathlib.Core.Path.{ap, ap₂, _∙_}
+use mathlib.Core.Path.{ap₂, _∙_}
 use Prim.Native.Nat.{ℕ, _+_, _-_, _/_}
 use native.Mathlib.Omega.{arith}
-use Rattle.disc.proofs.NumberLaws.{quotient-lt}
 use Rattle.index.proofs.CaseLaws.{last-none, last-some}
 use borrow.Author.Needs.{needs}
 use Rattle.index.proofs.last_slice_at.Statement.{statement}
@@ -31,24 +30,13 @@ sub-pair-start c = search needs
 pair-start-requires : tie.Need-pair-start-requires
 pair-start-requires c κs = search needs
 
-less-requires : tie.Need-less-requires
-less-requires c κs = search needs
-
-div-t11 : tie.Need-div-t11
-div-t11 c = search needs
-
-div-t12 : tie.Need-div-t12
-div-t12 c = search needs
-
-add-t13 : tie.Need-add-t13
-add-t13 c =
-    let s = c .before .before .before .before .before .before .args .s in
-    omega (arith, quotient-lt (c .less .result) s 32768 (omega arith) (omega arith), quotient-lt (c .before .before .pair-length .result) s 32768 (omega arith) (omega arith))
+last-slice-of-requires : tie.Need-last-slice-of-requires
+last-slice-of-requires c κs = search needs
 
 returns-2 : tie.Need-returns-2
 returns-2 c =
     let a = c .before .before .before .before .before .before .args in
-    ap₂ (λ (x y : ℕ). x / a .s + y / a .s) (c .less .ensures ∙ ap (λ (x : ℕ). x - a .first .0) (c .before .pair-start .ensures)) (c .before .before .pair-length .ensures)
+    c .last-slice-of .ensures ∙ ap₂ (λ (x y : ℕ). (x - a .first .0) / a .s + y / a .s) (c .before .pair-start .ensures) (c .before .before .pair-length .ensures)
     ∙ last-some (a .first .0) (a .s) (a .image .now) (a .q .0) _ (c .before .before .before .before .pair-count .ensures) (omega (arith, c .before .before .before .if1 .left))
 
 pub last-slice-at-spec : {M : Type 1} → statement M
@@ -62,8 +50,5 @@ last-slice-at-spec =
     pair-length-requires
     sub-pair-start
     pair-start-requires
-    less-requires
-    div-t11
-    div-t12
-    add-t13
+    last-slice-of-requires
     returns-2)

@@ -10,10 +10,10 @@ use Rattle.index.proofs.sector_at.Statement.{statement}
 use Rattle.index.proofs.sector_at.Tie as tie
 
 abbrev Inv-loop : tie.InvT-loop
-Inv-loop image q b n rest₀ j₀ rest j = (rest < 0x100000000) × (sectorFrom image (q .0) (n - j) j rest ≡ jointSector image (q .0) b)
+Inv-loop image q joined n rest₀ j₀ rest j = (rest < 0x100000000) × (sectorFrom image (q .0) (n - j) j rest ≡ jointSector image (q .0) joined)
 
 abbrev μ-loop : tie.MeasureT-loop
-μ-loop image q b n rest₀ j₀ rest j = n - j
+μ-loop image q joined n rest₀ j₀ rest j = n - j
 
 pair-count-requires : tie.Need-pair-count-requires Inv-loop μ-loop
 pair-count-requires c κs = search needs
@@ -24,7 +24,7 @@ cast-n c = search needs
 loop-holds : tie.Need-loop-holds Inv-loop μ-loop
 loop-holds c =
     let a = c .before .before .args in
-    (search needs, rw sub-zero (ap (λ (n : ℕ). sectorFrom (a .image .now) (a .q .0) n 0 (a .b)) (c .pair-count .ensures)))
+    (search needs, rw sub-zero (ap (λ (n : ℕ). sectorFrom (a .image .now) (a .q .0) n 0 (a .joined)) (c .pair-count .ensures)))
 
 pair-length-requires : tie.Need-pair-length-requires Inv-loop μ-loop
 pair-length-requires c κs = search needs
@@ -35,18 +35,18 @@ cast-length c = search needs
 pair-start-requires : tie.Need-pair-start-requires Inv-loop μ-loop
 pair-start-requires c κs = search needs
 
-cast-wrapping-add-u16 : tie.Need-cast-wrapping-add-u16 Inv-loop μ-loop
-cast-wrapping-add-u16 c = search needs
+cast-sector-after : tie.Need-cast-sector-after Inv-loop μ-loop
+cast-sector-after c = search needs
 
-wrapping-add-u16-requires : tie.Need-wrapping-add-u16-requires Inv-loop μ-loop
-wrapping-add-u16-requires c κs = search needs
+sector-after-requires : tie.Need-sector-after-requires Inv-loop μ-loop
+sector-after-requires c κs = search needs
 
 returns : tie.Need-returns Inv-loop μ-loop
 returns c =
     let l = c .before .before .before .before .before in
     let n = l .before .pair-count .result in
     let a = l .before .before .before .args in
-    c .wrapping-add-u16 .ensures
+    c .sector-after .ensures
     ∙ ap (λ (w : ℕ). (w + l .loop .rest) % 65536) (c .before .pair-start .ensures)
     ∙ sym (sector-here (a .image .now) (a .q .0) n (l .loop .j) (l .loop .rest) (c .before .before .before .before .loop-test .taken) (omega (arith, c .before .before .before .pair-length .ensures)))
     ∙ l .loop .inv .1
@@ -84,8 +84,8 @@ sector-at-spec =
     pair-length-requires
     cast-length
     pair-start-requires
-    cast-wrapping-add-u16
-    wrapping-add-u16-requires
+    cast-sector-after
+    sector-after-requires
     returns
     add-j
     loop-less

@@ -12,8 +12,8 @@ returns c = rw (c .if1 .taken, div-zero) refl
 
 returns-2 : tie.Need-returns-2
 returns-2 c =
-    let a = c .before .before .args in
-    let e : a .sectors - a .first ≡ 0 = omega arith in
+    let a = c .before .before .before .args in
+    let e : a .sectors - a .first .0 ≡ 0 = omega arith in
     sym (ap (λ (n : ℕ). n / a .slice) e ∙ zero-div (a .slice))
 
 div-result : tie.Need-div-result

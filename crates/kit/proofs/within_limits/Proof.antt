@@ -37,21 +37,21 @@ div-slices c = search needs
 
 mul-if8 : tie.Need-mul-if8
 mul-if8 c =
-    let a = c .before .before .before .before .before .before .before .args in
-    omega (arith, div-mul-le-self (a .sectors - a .first) (a .slice))
+    let a = c .before .before .before .before .before .before .before .before .before .before .args in
+    omega (arith, div-mul-le-self (a .sectors - a .first .0) (a .slice))
 
 returns-8 : tie.Need-returns-8
 returns-8 c =
-    let a = c .before .before .before .before .before .before .before .before .args in
-    fails (λ l. c .if8 .taken (whole-product (a .sectors - a .first) (a .slice) (l .whole)))
+    let a = c .before .before .before .before .before .before .before .before .before .before .before .args in
+    fails (λ l. c .if8 .taken (whole-product (a .sectors - a .first .0) (a .slice) (l .whole)))
 
 returns-9 : tie.Need-returns-9
 returns-9 c = fails (λ l. omega arith)
 
 returns-10 : tie.Need-returns-10
 returns-10 c =
-    let a = c .before .before .before .before .before .before .before .before .before .args in
-    let d = a .sectors - a .first in
+    let a = c .before .before .before .before .before .before .before .before .before .before .before .before .args in
+    let d = a .sectors - a .first .0 in
     let whole = c .before .if8 .left in
     decides-le (a .keys) d
     (λ h.

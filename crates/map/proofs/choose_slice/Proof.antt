@@ -4,6 +4,7 @@ use mathlib.Core.Logic.{⊎-elim}
 use borrow.Author.Needs.{needs}
 use Rattle.map.proofs.MarkLaws.{free-test, used-test}
 use Rattle.map.proofs.ChoiceLaws.{answer-next, answer-used, answer-end}
+use Rattle.map.proofs.AnswerLaws.{chosen-answers}
 use Rattle.map.proofs.choose_slice.Statement.{statement}
 use Rattle.map.proofs.choose_slice.Tie as tie
 
@@ -15,18 +16,22 @@ is-free-requires c κs = search needs
 
 returns : tie.Need-returns
 returns c =
-    answer-next _ _ _ (c .before .before .before .if1 .taken) (free-test _ _ (sym (c .before .is-free .ensures) ∙ c .if2 .taken))
+    let start = c .before .before .before .before .before .before in
+    chosen-answers (start .args .image .now) (start .args .slices) (start .args .last .0) (start .pre .0)
+    (answer-next _ _ _ (c .before .before .before .if1 .taken) (free-test _ _ (sym (c .before .is-free .ensures) ∙ c .if2 .taken)))
 
 lowest-free-requires : tie.Need-lowest-free-requires
 lowest-free-requires c κs = search needs
 
 returns-2 : tie.Need-returns-2
 returns-2 c =
-    c .lowest-free .ensures
+    let start = c .before .before .before .before in
+    chosen-answers (start .args .image .now) (start .args .slices) (start .args .last .0) (start .pre .0)
+    (c .lowest-free .ensures .slice
     ∙ ⊎-elim
     (λ w. answer-used _ _ _ (used-test _ _ (sym (w .2 .ensures) ∙ w .3 .left)))
     (λ w. answer-end _ _ _ (w .left))
-    (c .before .if1 .came)
+    (c .before .if1 .came))
 
 pub choose-slice-spec : {M : Type 1} → statement M
 choose-slice-spec =

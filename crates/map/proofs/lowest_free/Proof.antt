@@ -1,13 +1,16 @@
 -- `map::lowest_free` meets its contract. Both loops' invariant: no bit that the scan has passed is one. Assumes nothing.
-use Prim.Native.Nat.{_+_, _-_, _*_, _≤_}
+use mathlib.Core.Path.{ap, _∙_}
+use Prim.Native.Nat.{ℕ, _+_, _-_, _*_, _≤_}
 use native.Mathlib.Omega.{arith}
 use borrow.Author.Needs.{needs}
 use lib.Count.{leading-le}
 use lib.ListN.{getD}
 use lib.Pow.{pow-pos}
 use Rattle.disc.specs.Map.{mapBit}
+use Rattle.map.specs.declared.Choice.the-variants.{Free}
 use Rattle.map.proofs.MarkLaws.{mapBit-le}
 use Rattle.map.proofs.ChoiceLaws.{NoneBelow, scan-none, scan-found}
+use Rattle.map.proofs.AnswerLaws.{lowest-answers}
 use Rattle.map.proofs.ScanLaws.{scan-bit, none-first, none-next, none-leading}
 use Rattle.map.proofs.lowest_free.Statement.{statement}
 use Rattle.map.proofs.lowest_free.Tie as tie
@@ -53,17 +56,8 @@ bit-word-requires c κs = search needs
 div-if2 : tie.Need-div-if2 Inv-loop μ-loop Inv-scan μ-scan
 div-if2 c = rw (c .bit-word .ensures) (pow-pos _)
 
-mul-t17 : tie.Need-mul-t17 Inv-loop μ-loop Inv-scan μ-scan
-mul-t17 c = search needs
-
-add-t18 : tie.Need-add-t18 Inv-loop μ-loop Inv-scan μ-scan
-add-t18 c = search needs
-
-add-t19 : tie.Need-add-t19 Inv-loop μ-loop Inv-scan μ-scan
-add-t19 c = search needs
-
-cast-t20 : tie.Need-cast-t20 Inv-loop μ-loop Inv-scan μ-scan
-cast-t20 c = search needs
+slice-at-requires : tie.Need-slice-at-requires Inv-loop μ-loop Inv-scan μ-scan
+slice-at-requires c κs = search needs
 
 add-b : tie.Need-add-b Inv-loop μ-loop Inv-scan μ-scan
 add-b c = search needs
@@ -91,14 +85,17 @@ scan-again : tie.Need-scan-again Inv-loop μ-loop Inv-scan μ-scan
 scan-again c = (search needs, λ j p q. c .before .loop .inv .1 j p (omega arith))
 
 returns : tie.Need-returns Inv-loop μ-loop Inv-scan μ-scan
-returns c = scan-none _ (16 * c .before .scan .w + 1) (omega arith) (c .before .scan .inv .1)
+returns c = lowest-answers _ (scan-none _ (16 * c .before .scan .w + 1) (omega arith) (c .before .scan .inv .1))
 
 returns-2 : tie.Need-returns-2 Inv-loop μ-loop Inv-scan μ-scan
 returns-2 c =
-    let w = c .before .before .before .before .before .before .scan .w in
-    let b = c .before .before .before .loop .b in
-    let test = scan-bit (c .before .before .before .before .before .before .before .before .args .image .now) w b _ (c .before .before .loop-test .taken) (c .before .bit-word .ensures) in
-    scan-found _ (16 * w + b + 1) (omega arith) (omega arith) (λ z. omega arith) (c .before .before .before .loop .inv .1)
+    let at = c .before .before .before .before in
+    let w = at .before .before .before .scan .w in
+    let b = at .loop .b in
+    let image = at .before .before .before .before .before .args .image .now in
+    let test = scan-bit image w b _ (c .before .before .before .loop-test .taken) (c .before .before .bit-word .ensures) in
+    let found = scan-found _ (16 * w + b + 1) (omega arith) (omega arith) (λ z. omega arith) (at .loop .inv .1) in
+    lowest-answers image (ap (λ (k : ℕ). Free (record { 0 = k })) (c .slice-at .ensures) ∙ found)
 
 pub lowest-free-spec : {M : Type 1} → statement M
 lowest-free-spec =
@@ -116,10 +113,7 @@ lowest-free-spec =
     loop-holds
     bit-word-requires
     div-if2
-    mul-t17
-    add-t18
-    add-t19
-    cast-t20
+    slice-at-requires
     add-b
     loop-less
     loop-again

@@ -1,44 +1,42 @@
 -- `marks::mark_index` meets its contract. The loop's invariant: the pairs passed are legal, and their slices marked. Assumes nothing.
 use mathlib.Core.Path.{refl}
-use Prim.Native.Nat.{_-_, _+_, _≤_}
+use Prim.Native.Nat.{_-_, _+_, _≤_, _<_}
 use native.Mathlib.Omega.{arith}
 use mir.Facts.{fits-widen}
 use borrow.Author.Needs.{needs}
 use Rattle.disc.specs.Pairs.{pairLength, pairStart}
-use Rattle.marks.proofs.IndexMarks.{Passed, passed-none, passed-few, passed-more, refuse-index, count-is, past-image, same-start, no-pair, mark-index}
+use Rattle.marks.proofs.IndexMarks.{Passed, passed-none, passed-few, passed-more, refuse-index, count-is, index-inside, same-start, no-pair, mark-index}
 use Rattle.marks.proofs.mark_index.Statement.{statement}
 use Rattle.marks.proofs.mark_index.Tie as tie
 
 abbrev Inv-loop : tie.InvT-loop
-Inv-loop image q g marks₀ at pairs slices₀ end₀ j₀ marks slices end j = (j ≤ pairs) × Passed image g q marks₀ j slices end marks
+Inv-loop image g marks₀ sector at pairs slices₀ end₀ j₀ marks slices end j = (j ≤ pairs) × Passed image g sector marks₀ j slices (end .0) marks
 
 abbrev μ-loop : tie.MeasureT-loop
-μ-loop image q g marks₀ at pairs slices₀ end₀ j₀ marks slices end j = pairs - j
+μ-loop image g marks₀ sector at pairs slices₀ end₀ j₀ marks slices end j = pairs - j
 
 -- the function's entry and the loop's head, seen from the end of a turn
-abbrev entry : tie.Else5 Inv-loop μ-loop → tie.Start Inv-loop μ-loop
+abbrev entry : tie.Else4 Inv-loop μ-loop → tie.Start Inv-loop μ-loop
 entry c = c .before .before .before .before .before .before .before .before .before .before .before .before .before .before
 
-abbrev head : tie.Else5 Inv-loop μ-loop → tie.At-loop Inv-loop μ-loop
-head c = c .before .before .before .before .before .before .before
+abbrev head : tie.Else4 Inv-loop μ-loop → tie.At-loop Inv-loop μ-loop
+head c = c .before .before .before .before .before .before .before .before .before
+
+-- the index block is in the image
+inside : (s : tie.Start Inv-loop μ-loop) → s .args .q .0 < s .args .g .sectors
+inside s = index-inside (s .args .image .now) (s .args .g) (s .args .q .0) (s .pre .0) (s .pre .2)
 
 -- one pair more
-next : (c : tie.Else5 Inv-loop μ-loop) → let a = entry c .args in let l = head c .loop in
-    Passed (a .image .now) (a .g) (a .q) (a .marks .now) (l .j + 1) (l .slices + c .before .mark-pair .result)
-    (pairStart (a .image .now) (a .q) (l .j) + pairLength (a .image .now) (a .q) (l .j)) (c .before .mark-pair .last .1 .1 .1 .0)
+next : (c : tie.Else4 Inv-loop μ-loop) → let a = entry c .args in let l = head c .loop in
+    Passed (a .image .now) (a .g) (a .q .0) (a .marks .now) (l .j + 1) (l .slices + c .before .mark-pair .result)
+    (pairStart (a .image .now) (a .q .0) (l .j) + pairLength (a .image .now) (a .q .0) (l .j)) (c .before .mark-pair .last .1 .1 .1 .0)
 next c =
     let a = entry c .args in
-    passed-more (a .image .now) (a .g) (a .q) (entry c .pre .1) (head c .loop .inv .1) (c .before .mark-pair .result) (omega arith)
-    (c .before .before .before .if4 .left) (c .before .mark-pair .ensures)
+    passed-more (a .image .now) (a .g) (a .q .0) (entry c .pre .1) (head c .loop .inv .1) (c .before .mark-pair .result) (omega arith)
+    (c .before .before .before .if3 .left) (c .before .mark-pair .ensures)
 
-refused-requires : tie.Need-refused-requires Inv-loop μ-loop
-refused-requires c κs = search needs
-
-returns : tie.Need-returns Inv-loop μ-loop
-returns c =
-    let a = c .before .before .before .before .args in
-    refuse-index (a .image .now) (a .g) (a .q) (c .refused .ensures) (λ held marked block once.
-    omega (arith, block .some, past-image (a .image .now) (a .g) (a .q) (omega arith)))
+cast-at : tie.Need-cast-at Inv-loop μ-loop
+cast-at c = search needs
 
 mul-at : tie.Need-mul-at Inv-loop μ-loop
 mul-at c = search needs
@@ -47,10 +45,19 @@ mul-pairs : tie.Need-mul-pairs Inv-loop μ-loop
 mul-pairs c = search needs
 
 shared-slice-read-pairs : tie.Need-shared-slice-read-pairs Inv-loop μ-loop
-shared-slice-read-pairs c = search needs
+shared-slice-read-pairs c = omega (arith, c .before .before .pre .0 .size, inside (c .before .before))
 
 cast-pairs : tie.Need-cast-pairs Inv-loop μ-loop
 cast-pairs c = fits-widen tt (c .shared-slice-known2 .given _)
+
+refused-requires : tie.Need-refused-requires Inv-loop μ-loop
+refused-requires c κs = search needs
+
+returns : tie.Need-returns Inv-loop μ-loop
+returns c =
+    let a = c .before .before .before .before .before .args in
+    refuse-index (a .image .now) (a .g) (a .q .0) (c .refused .ensures) (λ held marked block once.
+    omega (arith, block .some, count-is (a .image .now) (a .g) (a .q .0)))
 
 refused-requires-2 : tie.Need-refused-requires-2 Inv-loop μ-loop
 refused-requires-2 c κs = search needs
@@ -58,17 +65,8 @@ refused-requires-2 c κs = search needs
 returns-2 : tie.Need-returns-2 Inv-loop μ-loop
 returns-2 c =
     let a = c .before .before .before .before .before .before .args in
-    refuse-index (a .image .now) (a .g) (a .q) (c .refused2 .ensures) (λ held marked block once.
-    omega (arith, block .some, count-is (a .image .now) (a .g) (a .q)))
-
-refused-requires-3 : tie.Need-refused-requires-3 Inv-loop μ-loop
-refused-requires-3 c κs = search needs
-
-returns-3 : tie.Need-returns-3 Inv-loop μ-loop
-returns-3 c =
-    let a = c .before .before .before .before .before .before .before .args in
-    refuse-index (a .image .now) (a .g) (a .q) (c .refused3 .ensures) (λ held marked block once.
-    omega (arith, block .few, count-is (a .image .now) (a .g) (a .q)))
+    refuse-index (a .image .now) (a .g) (a .q .0) (c .refused2 .ensures) (λ held marked block once.
+    omega (arith, block .few, count-is (a .image .now) (a .g) (a .q .0)))
 
 loop-holds : tie.Need-loop-holds Inv-loop μ-loop
 loop-holds c = (omega arith, passed-none _ _ _ _)
@@ -86,57 +84,59 @@ mul-sectors-2 : tie.Need-mul-sectors-2 Inv-loop μ-loop
 mul-sectors-2 c = search needs
 
 shared-slice-read-sectors : tie.Need-shared-slice-read-sectors Inv-loop μ-loop
-shared-slice-read-sectors c = search needs
+shared-slice-read-sectors c = omega (arith, c .before .before .before .before .before .before .before .pre .0 .size, inside (c .before .before .before .before .before .before .before))
 
-mul-start : tie.Need-mul-start Inv-loop μ-loop
-mul-start c = search needs
+mul-t21 : tie.Need-mul-t21 Inv-loop μ-loop
+mul-t21 c = search needs
 
-add-start : tie.Need-add-start Inv-loop μ-loop
-add-start c = search needs
+add-t22 : tie.Need-add-t22 Inv-loop μ-loop
+add-t22 c = search needs
 
-add-start-2 : tie.Need-add-start-2 Inv-loop μ-loop
-add-start-2 c = search needs
+add-t24 : tie.Need-add-t24 Inv-loop μ-loop
+add-t24 c = search needs
 
-mul-start-2 : tie.Need-mul-start-2 Inv-loop μ-loop
-mul-start-2 c = search needs
+mul-t23 : tie.Need-mul-t23 Inv-loop μ-loop
+mul-t23 c = search needs
 
-shared-slice-read-start : tie.Need-shared-slice-read-start Inv-loop μ-loop
-shared-slice-read-start c = search needs
+shared-slice-read-t26 : tie.Need-shared-slice-read-t26 Inv-loop μ-loop
+shared-slice-read-t26 c = omega (arith, c .before .before .before .before .before .before .before .before .pre .0 .size, inside (c .before .before .before .before .before .before .before .before))
+
+refused-requires-3 : tie.Need-refused-requires-3 Inv-loop μ-loop
+refused-requires-3 c κs = search needs
+
+returns-3 : tie.Need-returns-3 Inv-loop μ-loop
+returns-3 c =
+    let l = c .before .before .before .before .before .before .before .before .loop in
+    let s = c .before .before .before .before .before .before .before .before .before .before .before .before .before in
+    let a = s .args in
+    refuse-index (a .image .now) (a .g) (a .q .0) (c .refused3 .ensures) (λ held marked block once.
+    same-start (a .image .now) (a .g) (a .q .0) (s .pre .0) (l .inv .1) (omega (arith, count-is (a .image .now) (a .g) (a .q .0))) (c .before .before .if3 .taken) block)
+
+mark-pair-requires : tie.Need-mark-pair-requires Inv-loop μ-loop
+mark-pair-requires c κs = search needs
 
 refused-requires-4 : tie.Need-refused-requires-4 Inv-loop μ-loop
 refused-requires-4 c κs = search needs
 
 returns-4 : tie.Need-returns-4 Inv-loop μ-loop
 returns-4 c =
-    let l = c .before .before .before .before .before .loop in
-    let s = c .before .before .before .before .before .before .before .before .before .before .before .before in
+    let l = c .before .before .before .before .before .before .before .before .before .before .before .loop in
+    let s = c .before .before .before .before .before .before .before .before .before .before .before .before .before .before .before .before in
     let a = s .args in
-    refuse-index (a .image .now) (a .g) (a .q) (c .refused4 .ensures) (λ held marked block once.
-    same-start (a .image .now) (a .g) (a .q) (s .pre .0) (l .inv .1) (omega (arith, count-is (a .image .now) (a .g) (a .q))) (c .before .if4 .taken) block)
-
-mark-pair-requires : tie.Need-mark-pair-requires Inv-loop μ-loop
-mark-pair-requires c κs = search needs
-
-refused-requires-5 : tie.Need-refused-requires-5 Inv-loop μ-loop
-refused-requires-5 c κs = search needs
-
-returns-5 : tie.Need-returns-5 Inv-loop μ-loop
-returns-5 c =
-    let l = c .before .before .before .before .before .before .before .before .loop in
-    let s = c .before .before .before .before .before .before .before .before .before .before .before .before .before .before .before in
-    let a = s .args in
-    refuse-index (a .image .now) (a .g) (a .q) (c .refused5 .ensures)
-    (no-pair (a .image .now) (a .g) (a .q) (s .pre .0) (c .before .before .mark-pair .result) (l .inv .1)
-    (omega (arith, count-is (a .image .now) (a .g) (a .q))) (c .before .if5 .taken) (c .before .before .mark-pair .ensures))
+    refuse-index (a .image .now) (a .g) (a .q .0) (c .refused4 .ensures)
+    (no-pair (a .image .now) (a .g) (a .q .0) (s .pre .0) (c .before .before .before .mark-pair .result) (l .inv .1)
+    (omega (arith, count-is (a .image .now) (a .g) (a .q .0))) (c .before .before .if4 .taken) (c .before .before .before .mark-pair .ensures))
 
 add-slices : tie.Need-add-slices Inv-loop μ-loop
 add-slices c =
     let s = entry c in
-    let few = passed-few (s .args .image .now) (s .args .g) (s .args .q) (s .pre .1) (next c) in
+    let few = passed-few (s .args .image .now) (s .args .g) (s .args .q .0) (s .pre .1) (next c) in
     omega (arith, s .pre .0 .slices, s .pre .0 .limits .slices-high)
 
-add-end : tie.Need-add-end Inv-loop μ-loop
-add-end c = omega (arith, c .before .mark-pair .ensures .high (omega arith), entry c .pre .0 .limits .sectors)
+add-t26 : tie.Need-add-t26 Inv-loop μ-loop
+add-t26 c =
+    let e = c .before in
+    omega (arith, e .before .mark-pair .ensures .high (omega arith), entry e .pre .0 .limits .sectors)
 
 add-j : tie.Need-add-j Inv-loop μ-loop
 add-j c = search needs
@@ -145,24 +145,24 @@ loop-less : tie.Need-loop-less Inv-loop μ-loop
 loop-less c = search needs
 
 loop-again : tie.Need-loop-again Inv-loop μ-loop
-loop-again c = (omega arith, next c)
+loop-again c = (omega arith, next (c .before))
 
 add-t14 : tie.Need-add-t14 Inv-loop μ-loop
 add-t14 c = search needs
 
-mul-t26 : tie.Need-mul-t26 Inv-loop μ-loop
-mul-t26 c = search needs
+mul-t31 : tie.Need-mul-t31 Inv-loop μ-loop
+mul-t31 c = search needs
 
 shared-slice-read-t16 : tie.Need-shared-slice-read-t16 Inv-loop μ-loop
-shared-slice-read-t16 c = search needs
+shared-slice-read-t16 c = omega (arith, c .before .before .before .before .before .before .before .pre .0 .size, inside (c .before .before .before .before .before .before .before))
 
-returns-6 : tie.Need-returns-6 Inv-loop μ-loop
-returns-6 c =
+returns-5 : tie.Need-returns-5 Inv-loop μ-loop
+returns-5 c =
     let l = c .before .before .loop in
-    let s = c .before .before .before .before .before .before .before .before .before in
+    let s = c .before .before .before .before .before .before .before in
     let a = s .args in
-    let count = count-is (a .image .now) (a .g) (a .q) in
-    mark-index (a .image .now) (a .g) (a .q) (s .pre .0) _ (omega arith) (omega arith) (omega arith) (l .inv .1) refl refl refl
+    let count = count-is (a .image .now) (a .g) (a .q .0) in
+    mark-index (a .image .now) (a .g) (a .q .0) (s .pre .0) _ (omega arith) (omega arith) (omega arith) (l .inv .1) refl refl refl
 
 pub mark-index-spec : {M : Type 1} → statement M
 mark-index-spec =
@@ -170,38 +170,37 @@ mark-index-spec =
     (tie.spec
     Inv-loop
     μ-loop
-    refused-requires
-    returns
+    cast-at
     mul-at
     mul-pairs
     shared-slice-read-pairs
     cast-pairs
+    refused-requires
+    returns
     refused-requires-2
     returns-2
-    refused-requires-3
-    returns-3
     loop-holds
     mul-sectors
     add-sectors
     add-sectors-2
     mul-sectors-2
     shared-slice-read-sectors
-    mul-start
-    add-start
-    add-start-2
-    mul-start-2
-    shared-slice-read-start
+    mul-t21
+    add-t22
+    add-t24
+    mul-t23
+    shared-slice-read-t26
+    refused-requires-3
+    returns-3
+    mark-pair-requires
     refused-requires-4
     returns-4
-    mark-pair-requires
-    refused-requires-5
-    returns-5
     add-slices
-    add-end
+    add-t26
     add-j
     loop-less
     loop-again
     add-t14
-    mul-t26
+    mul-t31
     shared-slice-read-t16
-    returns-6)
+    returns-5)

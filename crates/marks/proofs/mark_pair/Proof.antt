@@ -1,111 +1,141 @@
 -- `marks::mark_pair` meets its contract: each test is what a pair of whole slices of the unit has. Assumes nothing.
-use Prim.Native.Nat.{_-_}
+use mathlib.Core.Path.{_≡_, sym, ap, _∙_}
+use Prim.Native.Nat.{ℕ, _+_, _-_, _*_, _/_, _≤_}
 use native.Mathlib.Nat.{div-mul-le-self, div-le-self}
 use native.Mathlib.Omega.{arith}
 use borrow.Author.Needs.{needs}
 use borrow.Author.Tests.{not-true, not-false}
+use Rattle.disc.specs.Numbers.{sliceStart}
+use Rattle.disc.proofs.DecideLaws.{refutes, grants}
 use Rattle.kit.proofs.KitLaws.{whole-product}
+use Rattle.marks.specs.Marked.{RunMarking}
 use Rattle.marks.proofs.PairLaws.{refuse-pair, some-count, past-unit, mark-pair}
-use Rattle.marks.proofs.RunLaws.{run-marking}
+use Rattle.marks.proofs.RunLaws.{run-marking, run-from}
 use Rattle.marks.proofs.mark_pair.Statement.{statement}
 use Rattle.marks.proofs.mark_pair.Tie as tie
+
+-- the function's entry, seen from the places where the slice is known and where the slices are marked
+abbrev entry : tie.After-slice-of → tie.Start
+entry c = c .before .before .before .before .before
+
+abbrev found : tie.After-mark-slices → tie.After-slice-of
+found c = c .before .before .before .before .before .before .before .before .before .before
+
+-- the slices before the pair's, by its first sector
+from-is : (c : tie.After-slice-of) → let a = entry c .args in c .slice-of .result .0 - 1 ≡ (a .start .0 - a .g .first .0) / a .g .slice
+from-is c = omega (arith, c .slice-of .ensures)
+
+run : (c : tie.After-mark-slices) → let a = entry (found c) .args in
+    RunMarking (c .mark-slices .result) ((a .start .0 - a .g .first .0) / a .g .slice) (a .sectors / a .g .slice) (a .marks .now) (c .mark-slices .last .0)
+run c = run-from (from-is (found c)) (c .mark-slices .ensures)
 
 returns : tie.Need-returns
 returns c = refuse-pair _ _ _ (λ held marked whole once. omega (arith, whole .low))
 
-cast-offset : tie.Need-cast-offset
-cast-offset c = search needs
+slice-of-requires : tie.Need-slice-of-requires
+slice-of-requires c κs = search needs
 
-cast-slice : tie.Need-cast-slice
-cast-slice c = search needs
-
-div-from : tie.Need-div-from
-div-from c = search needs
-
-mul-if2 : tie.Need-mul-if2
-mul-if2 c = let a = c .before .before .before .before .args in omega (arith, div-mul-le-self (a .start - a .g .first) (a .g .slice))
+starts-at-requires : tie.Need-starts-at-requires
+starts-at-requires c κs = search needs
 
 returns-2 : tie.Need-returns-2
 returns-2 c =
-    let a = c .before .before .before .before .before .args in
-    refuse-pair _ _ _ (λ held marked whole once. c .if2 .taken (whole-product (a .start - a .g .first) (a .g .slice) (whole .aligned)))
+    let k = c .before .before in
+    let a = entry k .args in
+    refuse-pair _ _ _ (λ held marked whole once.
+    let back = ap (λ (n : ℕ). n * a .g .slice) (from-is k) ∙ whole-product (a .start .0 - a .g .first .0) (a .g .slice) (whole .aligned) in
+    let e : a .start .0 ≡ sliceStart (a .g .first .0) (a .g .slice) (k .slice-of .result .0) = omega (arith, back, whole .low) in
+    refutes _ (c .before .starts-at .ensures) (c .if2 .taken) e)
+
+cast-slice : tie.Need-cast-slice
+cast-slice c = search needs
 
 div-count : tie.Need-div-count
 div-count c = search needs
 
 mul-if3 : tie.Need-mul-if3
-mul-if3 c = let a = c .before .before .before .before .before .args in omega (arith, div-mul-le-self (a .sectors) (a .g .slice))
+mul-if3 c = let a = entry (c .before .before .before) .args in omega (arith, div-mul-le-self (a .sectors) (a .g .slice))
 
 returns-3 : tie.Need-returns-3
 returns-3 c =
-    let a = c .before .before .before .before .before .before .args in
+    let a = entry (c .before .before .before .before) .args in
     refuse-pair _ _ _ (λ held marked whole once. c .if3 .taken (whole-product (a .sectors) (a .g .slice) (whole .whole)))
 
 cast-if4 : tie.Need-cast-if4
 cast-if4 c = search needs
 
+sub-if4 : tie.Need-sub-if4
+sub-if4 c = search needs
+
+cast-if4-2 : tie.Need-cast-if4-2
+cast-if4-2 c = search needs
+
 add-if4 : tie.Need-add-if4
 add-if4 c =
-    let a = c .before .before .before .before .before .before .before .args in
-    omega (arith, div-le-self (a .start - a .g .first) (a .g .slice), div-le-self (a .sectors) (a .g .slice))
+    let a = entry (c .before .before .before .before .before .before) .args in
+    omega (arith, div-le-self (a .sectors) (a .g .slice))
 
 returns-4 : tie.Need-returns-4
 returns-4 c =
-    let a = c .before .before .before .before .before .before .before .before .args in
-    refuse-pair _ _ _ (λ held marked. past-unit (a .g) (a .sectors) (a .start) held (c .if4 .taken))
+    let k = c .before .before .before .before .before .before .before in
+    let a = entry k .args in
+    refuse-pair _ _ _ (λ held marked. past-unit (a .g) (a .sectors) (a .start .0) held (omega (arith, from-is k, c .if4 .taken)))
 
 returns-5 : tie.Need-returns-5
 returns-5 c =
-    let a = c .before .before .before .before .before .before .before .before .before .args in
-    refuse-pair _ _ _ (λ held marked whole once. omega (arith, some-count (a .g) (a .sectors) (a .start) whole, c .if5 .taken))
+    let a = entry (c .before .before .before .before .before .before .before .before) .args in
+    refuse-pair _ _ _ (λ held marked whole once. omega (arith, some-count (a .g) (a .sectors) (a .start .0) whole, c .if5 .taken))
 
 cast-mark-slices : tie.Need-cast-mark-slices
 cast-mark-slices c = search needs
-
-cast-mark-slices-2 : tie.Need-cast-mark-slices-2
-cast-mark-slices-2 c = search needs
 
 mark-slices-requires : tie.Need-mark-slices-requires
 mark-slices-requires c κs = search needs
 
 returns-6 : tie.Need-returns-6
 returns-6 c =
-    let e = c .before .before .before .before in
-    let s = e .before .before .before .before .before .before .before .before in
-    let a = s .args in
+    let m = c .before in
+    let s = entry (found m) in
+    let k = found m in
+    let fits = m .before .before .before .if4 .left in
     refuse-pair _ _ _ (λ held marked whole once.
-    run-marking _ _ (omega (arith, s .pre .1, s .pre .0 .slices-high)) (c .before .mark-slices .ensures) (a .g .slices) held (e .if4 .left) marked .not (not-true _ (c .if6 .taken)) tt once)
+    run-marking _ _ (omega (arith, from-is k, fits, s .pre .1, s .pre .0 .slices-high)) (run m) (s .args .g .slices) held (omega (arith, from-is k, fits)) marked .not (not-true _ (c .if6 .taken)) tt once)
 
 cast-result : tie.Need-cast-result
 cast-result c = search needs
 
 returns-7 : tie.Need-returns-7
 returns-7 c =
-    let e = c .before .before .before .before in
-    let s = e .before .before .before .before .before .before .before .before in
-    mark-pair (s .args .g) (s .args .sectors) (s .args .start) (s .pre .0) (s .pre .1) (e .before .before .before .before .before .before .if1 .left)
-    (e .before .before .before .if2 .left) (e .before .before .if3 .left) (e .if4 .left) (not-false _ (c .if6 .left))
-    (run-marking _ _ (omega (arith, s .pre .1, s .pre .0 .slices-high)) (c .before .mark-slices .ensures))
+    let m = c .before in
+    let k = found m in
+    let s = entry k in
+    let a = s .args in
+    let fits : (a .start .0 - a .g .first .0) / a .g .slice + a .sectors / a .g .slice ≤ a .g .slices = omega (arith, from-is k, m .before .before .before .if4 .left) in
+    let at : a .start .0 ≡ sliceStart (a .g .first .0) (a .g .slice) (k .slice-of .result .0) =
+    grants _ (m .before .before .before .before .before .before .before .before .before .starts-at .ensures) (m .before .before .before .before .before .before .before .before .if2 .left) in
+    let back : (a .start .0 - a .g .first .0) / a .g .slice * a .g .slice ≡ a .start .0 - a .g .first .0 = ap (λ (n : ℕ). n * a .g .slice) (sym (from-is k)) ∙ (let e : (k .slice-of .result .0 - 1) * a .g .slice ≡ a .start .0 - a .g .first .0 = omega arith in e) in
+    mark-pair (a .g) (a .sectors) (a .start .0) (s .pre .0) (s .pre .1) (k .before .if1 .left) back (m .before .before .before .before .before .before .if3 .left) fits
+    (not-false _ (c .if6 .left)) (run-marking _ _ (omega (arith, fits, s .pre .1, s .pre .0 .slices-high)) (run m))
 
 pub mark-pair-spec : {M : Type 1} → statement M
 mark-pair-spec =
     tie.close
     (tie.spec
     returns
-    cast-offset
-    cast-slice
-    div-from
-    mul-if2
+    slice-of-requires
+    starts-at-requires
     returns-2
+    cast-slice
     div-count
     mul-if3
     returns-3
     cast-if4
+    sub-if4
+    cast-if4-2
     add-if4
     returns-4
     returns-5
     cast-mark-slices
-    cast-mark-slices-2
     mark-slices-requires
     returns-6
     cast-result

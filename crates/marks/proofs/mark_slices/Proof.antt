@@ -4,6 +4,12 @@ use borrow.Author.Needs.{needs}
 use Rattle.marks.proofs.mark_slices.Statement.{statement}
 use Rattle.marks.proofs.mark_slices.Tie as tie
 
+sub-from : tie.Need-sub-from
+sub-from c = search needs
+
+cast-from : tie.Need-cast-from
+cast-from c = search needs
+
 mark-one-requires : tie.Need-mark-one-requires
 mark-one-requires c κs = search needs
 
@@ -24,4 +30,13 @@ returns-3 c = search needs
 
 pub mark-slices-spec : {M : Type 1} → statement M
 mark-slices-spec =
-    tie.close (tie.spec mark-one-requires returns mark-many-requires returns-2 mark-four-requires returns-3)
+    tie.close
+    (tie.spec
+    sub-from
+    cast-from
+    mark-one-requires
+    returns
+    mark-many-requires
+    returns-2
+    mark-four-requires
+    returns-3)

@@ -54,7 +54,7 @@ file-block-requires c κs = search needs
 more-slices-requires : tie.Need-more-slices-requires
 more-slices-requires c κs =
     let a = c .before .before .before .before .before .before in
-    more-asks (a .area-at .ensures) (a .before .before .before .pre .0) (c .file-block .ensures)
+    more-asks (a .area-at .ensures) (a .before .before .before .pre .0) (c .file-block .ensures .1)
 
 room-word-requires : tie.Need-room-word-requires
 room-word-requires c κs = room-asks (c .before .before .before .before .before .before .before .before .before .before .before .pre .0)
@@ -72,7 +72,7 @@ returns-2 c =
     let block = more .before in
     let wide = block .before .before in
     let a = wide .before .before .before .before in
-    outputs-room (a .area-at .ensures) (end a) (wide .before .before .attributes-of .ensures) (extends wide) (block .file-block .ensures) (more .more-slices .ensures) (room .room-word .ensures) (c .before .if2 .taken) (c .refused-at2 .ensures)
+    outputs-room (a .area-at .ensures) (end a) (wide .before .before .attributes-of .ensures) (extends wide) (block .file-block .ensures .1) (more .more-slices .ensures) (room .room-word .ensures) (c .before .if2 .taken) (c .refused-at2 .ensures)
 
 append-block-requires : tie.Need-append-block-requires
 append-block-requires c κs =
@@ -87,7 +87,7 @@ append-block-requires c κs =
       n = s .pre .0 .n;
       users = areaUsers (s .args .state) (s .args .j);
       f = s .pre .0 .f;
-      can = can-append (a .area-at .ensures) (end a) (wide .before .before .attributes-of .ensures) (extends wide) (block .file-block .ensures) (more .more-slices .ensures) (room .room-word .ensures)
+      can = can-append (a .area-at .ensures) (end a) (wide .before .before .attributes-of .ensures) (extends wide) (block .file-block .ensures .1) (more .more-slices .ensures) (room .room-word .ensures)
           (s .pre .0 .long) (c .before .if2 .left) (s .pre .0 .placed);
     }
 
@@ -103,7 +103,7 @@ add-with-live-2 : tie.Need-add-with-live-2
 add-with-live-2 c =
     let block = c .before .before .before .before .before .before .before .before .before .before in
     let a = block .before .before .before .before .before .before in
-    record { fits = omega (arith, more-asks (a .area-at .ensures) (a .before .before .before .pre .0) (block .file-block .ensures) .2) }
+    record { fits = omega (arith, more-asks (a .area-at .ensures) (a .before .before .before .pre .0) (block .file-block .ensures .1) .2) }
 
 with-live-requires : tie.Need-with-live-requires
 with-live-requires c κs = search needs
@@ -128,7 +128,7 @@ returns-3 c =
     let s = a .before .before .before in
     let area = c .before .before .with-live .ensures ∙ ap (λ (x : Area). withLive x (appended .append-block .result) (a .area-at .result .length + 1)) (c .before .before .before .with-position .ensures) in
     let state = c .before .with-area .ensures ∙ ap (setArea (s .args .state) (s .args .j)) area in
-    outputs-appended (a .area-at .ensures) (end a) (wide .before .before .attributes-of .ensures) (extends wide) (block .file-block .ensures) (more .more-slices .ensures) (room .room-word .ensures)
+    outputs-appended (a .area-at .ensures) (end a) (wide .before .before .attributes-of .ensures) (extends wide) (block .file-block .ensures .1) (more .more-slices .ensures) (room .room-word .ensures)
     (s .pre .0 .long) (appended .before .before .if2 .left) (words (a .before)) (appended .append-block .ensures) (c .reply .ensures ∙ ap (λ (x : State). areaReply x 0 512 (s .args .k .0)) state)
 
 pub append-spec : {M : Type 1} → statement M

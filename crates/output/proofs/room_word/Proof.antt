@@ -14,7 +14,7 @@ low : (c : tie.After-known-told) → 1 ≤ c .before .k .given .0 .0 .0
 low c =
     let a = c .before .before .before .before .before .before .before .args in
     choice-free (chosen (mapBit (a .image .now)) (a .o .slices) (c .before .before .before .before .last-slice .result .0)) _
-    (sym (c .before .before .before .choose-slice .ensures) ∙ c .before .k .given .1) .1
+    (sym (c .before .before .before .choose-slice .ensures .slice) ∙ c .before .k .given .1) .1
 
 returns : tie.Need-returns
 returns c = room-by-none (c .if1 .taken)
@@ -34,7 +34,7 @@ enum-told c = search needs
 returns-2 : tie.Need-returns-2
 returns-2 c =
     let f = c .before .before in
-    room-by-full (f .before .before .if1 .left) (f .before .last-slice .ensures) (f .choose-slice .ensures) (c .enum-told .given .1)
+    room-by-full (f .before .before .if1 .left) (f .before .last-slice .ensures) (f .choose-slice .ensures .slice) (c .enum-told .given .1)
 
 stretches-with-requires : tie.Need-stretches-with-requires
 stretches-with-requires c κs = low c
@@ -44,14 +44,14 @@ returns-3 c =
     let k = c .before .before .before in
     let f = k .before .before in
     let many = c .if2 .taken in
-    room-by-many (f .before .before .if1 .left) (f .before .last-slice .ensures) (f .choose-slice .ensures) (k .k .given .1) (low (c .before .before)) (rw (c .before .stretches-with .ensures) at many)
+    room-by-many (f .before .before .if1 .left) (f .before .last-slice .ensures) (f .choose-slice .ensures .slice) (k .k .given .1) (low (c .before .before)) (rw (c .before .stretches-with .ensures) at many)
 
 returns-4 : tie.Need-returns-4
 returns-4 c =
     let k = c .before .before .before in
     let f = k .before .before in
     let few = c .if2 .left in
-    room-by-done (f .before .before .if1 .left) (f .before .last-slice .ensures) (f .choose-slice .ensures) (k .k .given .1) (low (c .before .before)) (rw (c .before .stretches-with .ensures) at few)
+    room-by-done (f .before .before .if1 .left) (f .before .last-slice .ensures) (f .choose-slice .ensures .slice) (k .k .given .1) (low (c .before .before)) (rw (c .before .stretches-with .ensures) at few)
 
 pub room-word-spec : {M : Type 1} → statement M
 room-word-spec =

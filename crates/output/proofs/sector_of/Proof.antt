@@ -11,7 +11,7 @@ block-sector-requires : tie.Need-block-sector-requires
 block-sector-requires c κs = search needs
 
 returns : tie.Need-returns
-returns c = block-sector-of (c .before .file-block .ensures) (c .block-sector .ensures)
+returns c = block-sector-of (c .before .file-block .ensures .1) (c .block-sector .ensures)
 
 pub sector-of-spec : {M : Type 1} → statement M
 sector-of-spec = tie.close (tie.spec file-block-requires block-sector-requires returns)

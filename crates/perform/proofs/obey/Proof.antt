@@ -1,10 +1,8 @@
 -- `perform::obey` meets its contract: each message's own contract gives what the one call promises. Assumes nothing.
-use mathlib.Core.Path.{_∙_, subst}
-use native.Mathlib.Omega.{arith}
+use mathlib.Core.Path.{_∙_}
 use borrow.Author.Needs.{needs}
 use Rattle.disc.specs.Words.{Words}
-use Rattle.known.specs.Known.{Known}
-use Rattle.perform.proofs.ObeyLaws.{answer-obeys, init-obeyed, set-obeyed, create-obeyed, look-up-obeyed, change-obeyed, remove-obeyed, create-area-obeyed, remove-area-obeyed, area-message-obeyed, describe-obeyed, list-obeyed}
+use Rattle.perform.proofs.ObeyLaws.{can-mean, can-mean-on, answer-obeys, init-obeyed, set-obeyed, create-obeyed, look-up-obeyed, change-obeyed, remove-obeyed, create-area-obeyed, remove-area-obeyed, area-message-obeyed, describe-obeyed, list-obeyed}
 use Rattle.perform.proofs.obey.Statement.{statement}
 use Rattle.perform.proofs.obey.Tie as tie
 
@@ -25,7 +23,7 @@ enum-known-message : tie.Need-enum-known-message
 enum-known-message c = search needs
 
 set-requires : tie.Need-set-requires
-set-requires c κs = search needs
+set-requires c κs = can-mean-on (c .before .before .before .before .before .before .before .pre) (c .before .before .before .message .given .1)
 
 word-alone-requires-2 : tie.Need-word-alone-requires-2
 word-alone-requires-2 c κs = search needs
@@ -34,7 +32,7 @@ enum-known-message-2 : tie.Need-enum-known-message-2
 enum-known-message-2 c = search needs
 
 create-requires : tie.Need-create-requires
-create-requires c κs = search needs
+create-requires c κs = can-mean-on (c .before .before .before .before .before .before .pre) (c .before .before .message2 .given .1)
 
 word-alone-requires-3 : tie.Need-word-alone-requires-3
 word-alone-requires-3 c κs = search needs
@@ -43,7 +41,7 @@ enum-known-message-3 : tie.Need-enum-known-message-3
 enum-known-message-3 c = search needs
 
 look-up-requires : tie.Need-look-up-requires
-look-up-requires c κs = search needs
+look-up-requires c κs = can-mean-on (c .before .before .before .before .before .before .before .pre) (c .before .before .before .message3 .given .1)
 
 word-alone-requires-4 : tie.Need-word-alone-requires-4
 word-alone-requires-4 c κs = search needs
@@ -52,7 +50,7 @@ enum-known-message-4 : tie.Need-enum-known-message-4
 enum-known-message-4 c = search needs
 
 change-requires : tie.Need-change-requires
-change-requires c κs = search needs
+change-requires c κs = can-mean (c .before .before .before .before .before .before .before .pre) (c .before .before .before .message4 .given .1)
 
 word-alone-requires-5 : tie.Need-word-alone-requires-5
 word-alone-requires-5 c κs = search needs
@@ -61,7 +59,7 @@ enum-known-message-5 : tie.Need-enum-known-message-5
 enum-known-message-5 c = search needs
 
 remove-requires : tie.Need-remove-requires
-remove-requires c κs = search needs
+remove-requires c κs = can-mean (c .before .before .before .before .before .before .pre) (c .before .before .message5 .given .1)
 
 word-alone-requires-6 : tie.Need-word-alone-requires-6
 word-alone-requires-6 c κs = search needs
@@ -70,7 +68,7 @@ enum-known-message-6 : tie.Need-enum-known-message-6
 enum-known-message-6 c = search needs
 
 create-area-requires : tie.Need-create-area-requires
-create-area-requires c κs = search needs
+create-area-requires c κs = can-mean (c .before .before .before .before .before .before .pre) (c .before .before .message6 .given .1)
 
 area-done-requires : tie.Need-area-done-requires
 area-done-requires c κs = search needs
@@ -79,7 +77,7 @@ enum-known-message-7 : tie.Need-enum-known-message-7
 enum-known-message-7 c = search needs
 
 remove-area-requires : tie.Need-remove-area-requires
-remove-area-requires c κs = search needs
+remove-area-requires c κs = can-mean (c .before .before .before .before .before .before .pre) (c .before .before .message7 .given .1)
 
 area-done-requires-2 : tie.Need-area-done-requires-2
 area-done-requires-2 c κs = search needs
@@ -88,7 +86,7 @@ enum-known-message-8 : tie.Need-enum-known-message-8
 enum-known-message-8 c = search needs
 
 area-message-requires : tie.Need-area-message-requires
-area-message-requires c κs = search needs
+area-message-requires c κs = can-mean (c .before .before .before .before .before .before .before .pre) (c .before .before .before .message8 .given .1)
 
 area-replied-requires : tie.Need-area-replied-requires
 area-replied-requires c κs = search needs
@@ -97,9 +95,7 @@ enum-known-message-9 : tie.Need-enum-known-message-9
 enum-known-message-9 c = search needs
 
 describe-requires : tie.Need-describe-requires
-describe-requires c κs =
-    let k = subst (Known _) (c .before .before .before .message9 .given .1) (c .before .before .before .before .before .before .before .pre .known) in
-    omega (arith, k .number, k .low)
+describe-requires c κs = can-mean-on (c .before .before .before .before .before .before .before .pre) (c .before .before .before .message9 .given .1)
 
 answered-requires : tie.Need-answered-requires
 answered-requires c κs = search needs
@@ -108,7 +104,7 @@ enum-told-2 : tie.Need-enum-told-2
 enum-told-2 c = search needs
 
 list-requires : tie.Need-list-requires
-list-requires c κs = search needs
+list-requires c κs = record { number = _; meant = can-mean-on (c .before .before .before .before .before .before .pre) (c .before .before .enum-told2 .given .1) }
 
 answered-requires-2 : tie.Need-answered-requires-2
 answered-requires-2 c κs = search needs

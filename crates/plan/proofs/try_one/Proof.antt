@@ -18,7 +18,7 @@ mark-used-requires c κs =
     let start = c .before .before .before .before .before .before .before in
     let can = start .pre .can in
     let i = next-inside {n = 0} can (start .args .last .0) in
-    let e = offered {n = 0} can (start .args .last .0) _ _ (c .before .before .k .given .1) (c .before .before .before .before .choose-slice .ensures) in
+    let e = offered {n = 0} can (start .args .last .0) _ _ (c .before .before .k .given .1) (c .before .before .before .before .choose-slice .ensures .slice) in
     (omega (arith, i .0), omega (arith, i .1, can .most), can .long)
 
 enum-told : tie.Need-enum-told
@@ -33,7 +33,7 @@ returns c =
     let start = k .before .before .before .before .before in
     record {
       all = λ held can.
-          let e = offered {n = 0} can (start .args .last .0) _ _ (k .k .given .1) (k .before .before .choose-slice .ensures) in
+          let e = offered {n = 0} can (start .args .last .0) _ _ (k .k .given .1) (k .before .before .choose-slice .ensures .slice) in
           (e, c .before .before .mark-used .ensures ∙ ap (markedUsed (start .args .scratch .now)) e);
     }
 
@@ -42,7 +42,7 @@ same-length-2 c = search needs
 
 returns-2 : tie.Need-returns-2
 returns-2 c =
-    record { all = λ held can. absurd (never-none {n = 0} can (c .before .before .before .before .before .args .last .0) _ (c .enum-told .given .1) (c .before .before .choose-slice .ensures)) }
+    record { all = λ held can. absurd (never-none {n = 0} can (c .before .before .before .before .before .args .last .0) _ (c .enum-told .given .1) (c .before .before .choose-slice .ensures .slice)) }
 
 pub try-one-spec : {M : Type 1} → statement M
 try-one-spec =

@@ -13,7 +13,7 @@ file-block-requires c κs = search needs
 slice-total-requires : tie.Need-slice-total-requires
 slice-total-requires c κs =
     let read = c .before .before in
-    slices-fit (read .before .before .before .pre .can) (read .entry-word .ensures) (c .file-block .ensures)
+    slices-fit (read .before .before .before .pre .can) (read .entry-word .ensures) (c .file-block .ensures .1)
 
 clear-place-requires : tie.Need-clear-place-requires
 clear-place-requires c κs = drop-room (c .before .before .before .before .before .before .before .pre .can)
@@ -24,7 +24,7 @@ give-back-requires c κs =
     let counted = cleared .before .before in
     let block = counted .before in
     let read = block .before .before in
-    can-give-all (read .before .before .before .pre .can) (read .entry-word .ensures) (block .file-block .ensures) (cleared .clear-place .ensures) (counted .slice-total .ensures)
+    can-give-all (read .before .before .before .pre .can) (read .entry-word .ensures) (block .file-block .ensures .1) (cleared .clear-place .ensures) (counted .slice-total .ensures)
 
 count-free-requires : tie.Need-count-free-requires
 count-free-requires c κs =
@@ -33,7 +33,7 @@ count-free-requires c κs =
     let counted = cleared .before .before in
     let block = counted .before in
     let read = block .before .before in
-    can-count (read .before .before .before .pre .can) (read .entry-word .ensures) (block .file-block .ensures) (cleared .clear-place .ensures) (counted .slice-total .ensures) (given .give-back .ensures)
+    can-count (read .before .before .before .pre .can) (read .entry-word .ensures) (block .file-block .ensures .1) (cleared .clear-place .ensures) (counted .slice-total .ensures) (given .give-back .ensures)
 
 same-length : tie.Need-same-length
 same-length c = search needs
@@ -48,7 +48,7 @@ returns c =
     let read = block .before .before in
     record {
       all = λ p n f can.
-          dropped can (read .entry-word .ensures) (block .file-block .ensures) (cleared .clear-place .ensures) (counted .slice-total .ensures) (given .give-back .ensures) (free .count-free .ensures);
+          dropped can (read .entry-word .ensures) (block .file-block .ensures .1) (cleared .clear-place .ensures) (counted .slice-total .ensures) (given .give-back .ensures) (free .count-free .ensures);
     }
 
 pub drop-file-spec : {M : Type 1} → statement M

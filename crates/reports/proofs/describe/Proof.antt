@@ -1,5 +1,6 @@
 -- `reports::describe` meets its contract. Assumes nothing.
 use borrow.Author.Needs.{needs}
+use Rattle.unit.proofs.MeantLaws.{known-low}
 use Rattle.reports.proofs.DescriptionLaws.{describes-bytes, describes-short, describes-done}
 use Rattle.reports.proofs.describe.Statement.{statement}
 use Rattle.reports.proofs.describe.Tie as tie
@@ -8,16 +9,18 @@ refused-requires : tie.Need-refused-requires
 refused-requires c κs = search needs
 
 returns : tie.Need-returns
-returns c = rw (c .refused .ensures) (describes-bytes _ _ _ _ (c .before .if1 .taken))
+returns c = rw (c .refused .ensures) (describes-bytes _ _ _ _ (c .before .before .before .before .pre) (c .before .if1 .taken))
 
 refused-requires-2 : tie.Need-refused-requires-2
 refused-requires-2 c κs = search needs
 
 returns-2 : tie.Need-returns-2
-returns-2 c = rw (c .refused2 .ensures) (describes-short _ _ _ _ (c .before .before .if1 .left) (c .before .if2 .taken))
+returns-2 c = rw (c .refused2 .ensures) (describes-short _ _ _ _ (c .before .before .before .before .before .pre) (c .before .before .if1 .left) (c .before .if2 .taken))
 
 store-description-requires : tie.Need-store-description-requires
-store-description-requires c κs = search needs
+store-description-requires c κs =
+    let start = c .before .before .before .before .before in
+    (known-low (start .pre .opened .unit) _ (start .pre .meant), c .before .if2 .left)
 
 same-length : tie.Need-same-length
 same-length c = search needs
@@ -26,7 +29,7 @@ returns-3 : tie.Need-returns-3
 returns-3 c =
     let stored = c .before .before in
     let left = stored .before .before in
-    describes-done _ _ _ _ (left .before .if1 .left) (left .if2 .left) (stored .store-description .ensures)
+    describes-done _ _ _ _ (left .before .before .before .before .pre) (left .before .if1 .left) (left .if2 .left) (stored .store-description .ensures)
 
 pub describe-spec : {M : Type 1} → statement M
 describe-spec =

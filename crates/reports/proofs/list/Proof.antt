@@ -12,10 +12,10 @@ cast-blocks-2 : tie.Need-cast-blocks-2
 cast-blocks-2 c = search needs
 
 mul-blocks : tie.Need-mul-blocks
-mul-blocks c = omega (arith, can-read (c .before .before .before .before .pre) .few)
+mul-blocks c = omega (arith, can-read (c .before .before .before .before .pre .meant .opened) .few)
 
 count-entries-requires : tie.Need-count-entries-requires
-count-entries-requires c κs = can-read (c .before .before .before .before .pre)
+count-entries-requires c κs = can-read (c .before .before .before .before .pre .meant .opened)
 
 cast-if1 : tie.Need-cast-if1
 cast-if1 c = search needs
@@ -34,7 +34,7 @@ returns c =
 copy-entries-requires : tie.Need-copy-entries-requires
 copy-entries-requires c κs =
     let count = c .before .before in
-    (can-read (count .before .before .before .before .before .pre), omega (arith, c .before .if1 .left, count .count-entries .ensures .words))
+    (can-read (count .before .before .before .before .before .pre .meant .opened), omega (arith, c .before .if1 .left, count .count-entries .ensures .words))
 
 same-length : tie.Need-same-length
 same-length c = search needs

@@ -1,6 +1,7 @@
 -- `soundness::layers_sound` meets its contract. Assumes nothing.
 use native.Mathlib.Omega.{arith}
 use borrow.Author.Needs.{needs}
+use borrow.Author.Tests.{not-false}
 use Rattle.disc.proofs.DecideLaws.{fails, refutes, grants}
 use Rattle.entries.proofs.SysLaws.{sys-small}
 use Rattle.files.proofs.SysLaws.{known-sys}
@@ -35,10 +36,13 @@ files-sound-requires c κs =
     (known, names-known known (grants _ (names .names-sound .ensures) (else1 .if1 .left)))
 
 returns-3 : tie.Need-returns-3
-returns-3 c = files-refused (c .before .files-sound .ensures) (c .if3 .taken)
+returns-3 c = files-refused (c .before .files-sound .ensures .1) (c .if3 .taken)
 
 map-agrees-requires : tie.Need-map-agrees-requires
-map-agrees-requires c κs = search needs
+map-agrees-requires c κs =
+    let files = c .before .before in
+    let y = files .files-sound .ensures .1 .yes (not-false _ (c .before .if3 .left)) in
+    (files .before .before .before .before .before .before .before .before .pre .unit, record { slices = _; marked = record { is = y .2; once = y .1 } })
 
 returns-4 : tie.Need-returns-4
 returns-4 c =
@@ -47,7 +51,7 @@ returns-4 c =
     let else2 = files .before .before in
     let areas = else2 .before in
     let else1 = areas .before .before in
-    map-decides (files .files-sound .ensures) (else3 .if3 .left) (grants _ (else1 .before .names-sound .ensures) (else1 .if1 .left))
+    map-decides (files .files-sound .ensures .1) (else3 .if3 .left) (grants _ (else1 .before .names-sound .ensures) (else1 .if1 .left))
     (grants _ (areas .areas-entered .ensures) (else2 .if2 .left)) (c .map-agrees .ensures)
 
 pub layers-sound-spec : {M : Type 1} → statement M

@@ -6,6 +6,7 @@ use native.Mathlib.Omega.{arith}
 use lib.ListN.{drop}
 use Rattle.types.specs.State.{pastArea}
 use Rattle.state.specs.Areas.{packed, isNamed, areaNamed, firstFrom}
+use Rattle.state.proofs.AnswerLaws.{area-found}
 use Rattle.state.proofs.SearchLaws.{first-hit, first-miss, first-end}
 use Rattle.state.proofs.ShapeLaws.{areas-length}
 use Rattle.state.proofs.find_area.Statement.{statement}
@@ -34,7 +35,7 @@ returns c =
     let turn = c .before .before .before in
     let start = turn .before .before in
     let eight = areas-length (start .args .t1) _ (start .good .0) in
-    sym (turn .before .loop .inv .1 ∙ first-hit (isNamed (packed (start .args .name))) _ 8 _ pastArea eight (turn .loop-test .taken) (sym (c .before .is-named .ensures) ∙ c .if1 .taken))
+    area-found (sym (turn .before .loop .inv .1 ∙ first-hit (isNamed (packed (start .args .name))) _ 8 _ pastArea eight (turn .loop-test .taken) (sym (c .before .is-named .ensures) ∙ c .if1 .taken)))
 
 add-j : tie.Need-add-j Inv-loop μ-loop
 add-j c = omega arith
@@ -53,7 +54,7 @@ returns-2 : tie.Need-returns-2 Inv-loop μ-loop
 returns-2 c =
     let start = c .before .before in
     let eight = areas-length (start .args .t1) _ (start .good .0) in
-    sym (c .before .loop .inv .1 ∙ first-end (isNamed (packed (start .args .name))) _ 8 _ pastArea eight (c .loop-test .left))
+    area-found (sym (c .before .loop .inv .1 ∙ first-end (isNamed (packed (start .args .name))) _ 8 _ pastArea eight (c .loop-test .left)))
 
 pub find-area-spec : {M : Type 1} → statement M
 find-area-spec = tie.close (tie.spec Inv-loop μ-loop loop-holds mul-area element-copy-out-area is-named-requires returns add-j loop-less loop-again returns-2)

@@ -7,6 +7,7 @@ use lib.ListN.{drop}
 use borrow.Author.Tests.{eq-eqb, ne-eqb}
 use Rattle.types.specs.State.{vacantUser}
 use Rattle.state.specs.Areas.{hasId, entryOf, firstFrom}
+use Rattle.state.proofs.AnswerLaws.{user-found}
 use Rattle.state.proofs.SearchLaws.{first-hit, first-miss, first-end}
 use Rattle.state.proofs.ShapeLaws.{users-length}
 use Rattle.state.proofs.find_user.Statement.{statement}
@@ -32,7 +33,7 @@ returns c =
     let turn = c .before .before .before in
     let start = turn .before .before in
     let three = users-length (start .args .t1) _ (start .good .0) in
-    sym (turn .before .loop .inv .1 ∙ first-hit (hasId (start .args .sender)) _ 3 _ vacantUser three (turn .loop-test .taken) (eq-eqb _ _ (c .if1 .taken)))
+    user-found (sym (turn .before .loop .inv .1 ∙ first-hit (hasId (start .args .sender)) _ 3 _ vacantUser three (turn .loop-test .taken) (eq-eqb _ _ (c .if1 .taken))))
 
 add-u : tie.Need-add-u Inv-loop μ-loop
 add-u c = omega arith
@@ -51,7 +52,7 @@ returns-2 : tie.Need-returns-2 Inv-loop μ-loop
 returns-2 c =
     let start = c .before .before in
     let three = users-length (start .args .t1) _ (start .good .0) in
-    sym (c .before .loop .inv .1 ∙ first-end (hasId (start .args .sender)) _ 3 _ vacantUser three (c .loop-test .left))
+    user-found (sym (c .before .loop .inv .1 ∙ first-end (hasId (start .args .sender)) _ 3 _ vacantUser three (c .loop-test .left)))
 
 pub find-user-spec : {M : Type 1} → statement M
 find-user-spec = tie.close (tie.spec Inv-loop μ-loop loop-holds mul-user element-copy-out-user returns add-u loop-less loop-again returns-2)

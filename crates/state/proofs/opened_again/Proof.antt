@@ -10,7 +10,7 @@ add-t6 : tie.Need-add-t6
 add-t6 c = search needs
 
 returns : tie.Need-returns
-returns c = rw (c .before .before .raised-role .ensures)
+returns c = rw (c .before .before .raised-role .ensures .is)
 
 pub opened-again-spec : {M : Type 1} → statement M
 opened-again-spec = tie.close (tie.spec raised-role-requires add-t6 returns)

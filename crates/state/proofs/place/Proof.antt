@@ -9,7 +9,7 @@ use Rattle.state.proofs.place.Tie as tie
 
 -- where the sender's own entry stands
 own-at : (c : tie.After-known-told) → entryOf (c .before .before .before .before .args .sender) (c .before .before .before .before .args .area) ≡ At (c .before .u .given .0 .0)
-own-at c = sym (c .before .before .before .find-user .ensures) ∙ c .before .u .given .1
+own-at c = sym (c .before .before .before .find-user .ensures .first) ∙ c .before .u .given .1
 
 find-user-requires : tie.Need-find-user-requires
 find-user-requires c κs = search needs
@@ -50,8 +50,8 @@ answer-requires-3 c κs = search needs
 returns : tie.Need-returns
 returns c =
     let none = c .before .before .before .before in
-    let absent = sym (none .before .before .find-user .ensures) ∙ none .enum-told .given .1 in
-    let full = sym (c .before .before .before .find-user2 .ensures) ∙ c .before .enum-told2 .given .1 in
+    let absent = sym (none .before .before .find-user .ensures .first) ∙ none .enum-told .given .1 in
+    let full = sym (c .before .before .before .find-user2 .ensures .first) ∙ c .before .enum-told2 .given .1 in
     simp (c .answer3 .ensures, absent, full)
 
 inserted-user-requires : tie.Need-inserted-user-requires
@@ -81,8 +81,8 @@ returns-4 : tie.Need-returns-4
 returns-4 c =
     let vacant = c .before .before .before .before in
     let none = vacant .before .before .before in
-    let absent = sym (none .before .before .find-user .ensures) ∙ none .enum-told .given .1 in
-    let found = sym (vacant .before .before .find-user2 .ensures) ∙ vacant .v .given .1 in
+    let absent = sym (none .before .before .find-user .ensures .first) ∙ none .enum-told .given .1 in
+    let found = sym (vacant .before .before .find-user2 .ensures .first) ∙ vacant .v .given .1 in
     simp (c .answer4 .ensures, c .before .with-user2 .ensures, c .before .before .inserted-user .ensures, absent, found)
 
 pub place-spec : {M : Type 1} → statement M

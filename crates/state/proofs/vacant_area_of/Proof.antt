@@ -6,6 +6,7 @@ use native.Mathlib.Omega.{arith}
 use lib.ListN.{drop}
 use Rattle.types.specs.State.{pastArea}
 use Rattle.state.specs.Areas.{isVacant, vacantAreaOf, firstFrom}
+use Rattle.state.proofs.AnswerLaws.{vacant-found}
 use Rattle.state.proofs.SearchLaws.{first-hit, first-miss, first-end}
 use Rattle.state.proofs.ShapeLaws.{areas-length}
 use Rattle.state.proofs.vacant_area_of.Statement.{statement}
@@ -31,7 +32,7 @@ returns c =
     let turn = c .before .before .before in
     let start = turn .before .before in
     let eight = areas-length (start .args .t1) _ (start .good .0) in
-    sym (turn .before .loop .inv .1 ∙ first-hit (isVacant) _ 8 _ pastArea eight (turn .loop-test .taken) (c .if1 .taken))
+    vacant-found (sym (turn .before .loop .inv .1 ∙ first-hit (isVacant) _ 8 _ pastArea eight (turn .loop-test .taken) (c .if1 .taken)))
 
 add-j : tie.Need-add-j Inv-loop μ-loop
 add-j c = omega arith
@@ -50,7 +51,7 @@ returns-2 : tie.Need-returns-2 Inv-loop μ-loop
 returns-2 c =
     let start = c .before .before in
     let eight = areas-length (start .args .t1) _ (start .good .0) in
-    sym (c .before .loop .inv .1 ∙ first-end (isVacant) _ 8 _ pastArea eight (c .loop-test .left))
+    vacant-found (sym (c .before .loop .inv .1 ∙ first-end (isVacant) _ 8 _ pastArea eight (c .loop-test .left)))
 
 pub vacant-area-of-spec : {M : Type 1} → statement M
 vacant-area-of-spec = tie.close (tie.spec Inv-loop μ-loop loop-holds mul-area element-copy-out-area returns add-j loop-less loop-again returns-2)

@@ -28,7 +28,7 @@ module _ (c : tie.After-known-told) where
 
   picked : {held slices : List ℕ} (can : CanTakeFrom (c .before .before .before .before .before .before .before .args .image .now) (c .before .before .before .before .before .before .before .args .block .words) (c .before .before .before .before .before .before .before .args .first .0) (c .before .before .before .before .before .before .before .args .s) (c .before .before .before .before .before .before .before .args .slices) 1 held slices)
       → k .0 ≡ next {n = 0} can
-  picked can = free-inj (sym (c .before .k .given .1) ∙ c .before .before .before .choose-slice .ensures ∙ choice-is {n = 0} can _ (c .before .before .before .before .before .last-slice .ensures))
+  picked can = free-inj (sym (c .before .k .given .1) ∙ c .before .before .before .choose-slice .ensures .slice ∙ choice-is {n = 0} can _ (c .before .before .before .before .before .last-slice .ensures))
 
 mark-used-requires : tie.Need-mark-used-requires
 mark-used-requires c κs =
@@ -60,7 +60,7 @@ same-length-2 : tie.Need-same-length-2
 same-length-2 c = search needs
 
 returns-2 : tie.Need-returns-2
-returns-2 c = record { all = λ held slices can. absurd (free≢none (sym (choice-is {n = 0} can _ (c .before .before .before .before .last-slice .ensures)) ∙ sym (c .before .before .choose-slice .ensures) ∙ c .enum-told .given .1)) }
+returns-2 c = record { all = λ held slices can. absurd (free≢none (sym (choice-is {n = 0} can _ (c .before .before .before .before .last-slice .ensures)) ∙ sym (c .before .before .choose-slice .ensures .slice) ∙ c .enum-told .given .1)) }
 
 pub take-one-spec : {M : Type 1} → statement M
 take-one-spec =

@@ -1,6 +1,7 @@
 -- `unit::file_block` meets its contract. Assumes nothing.
+use mathlib.Core.Path.{_∙_}
 use borrow.Author.Needs.{needs}
-use Rattle.unit.proofs.FileLaws.{block-none, block-some}
+use Rattle.unit.proofs.FileLaws.{block-none, block-some, own-none, own-some}
 use Rattle.unit.proofs.file_block.Statement.{statement}
 use Rattle.unit.proofs.file_block.Tie as tie
 
@@ -8,13 +9,17 @@ empty-block-requires : tie.Need-empty-block-requires
 empty-block-requires c κs = search needs
 
 returns : tie.Need-returns
-returns c = block-none _ _ (c .before .if1 .taken) (c .empty-block .ensures)
+returns c =
+    let zero = c .before .if1 .taken in
+    (c .empty-block .ensures ∙ own-none _ _ zero, block-none _ _ zero (c .empty-block .ensures))
 
 read-block-requires : tie.Need-read-block-requires
 read-block-requires c κs = search needs
 
 returns-2 : tie.Need-returns-2
-returns-2 c = block-some _ _ (c .before .if1 .left) (c .read-block .ensures)
+returns-2 c =
+    let some = c .before .if1 .left in
+    (c .read-block .ensures ∙ own-some _ _ some, block-some _ _ some (c .read-block .ensures))
 
 pub file-block-spec : {M : Type 1} → statement M
 file-block-spec = tie.close (tie.spec empty-block-requires returns read-block-requires returns-2)

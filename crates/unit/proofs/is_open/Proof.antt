@@ -15,10 +15,10 @@ enum-told-2 : tie.Need-enum-told-2
 enum-told-2 c = search needs
 
 returns : tie.Need-returns
-returns c = sym (ap isFound (sym (c .before .before .find-area .ensures) ∙ c .enum-told .given .1))
+returns c = sym (ap isFound (sym (c .before .before .find-area .ensures .first) ∙ c .enum-told .given .1))
 
 returns-2 : tie.Need-returns-2
-returns-2 c = sym (ap isFound (sym (c .before .before .find-area .ensures) ∙ c .enum-told2 .given .1))
+returns-2 c = sym (ap isFound (sym (c .before .before .find-area .ensures .first) ∙ c .enum-told2 .given .1))
 
 pub is-open-spec : {M : Type 1} → statement M
 is-open-spec = tie.close (tie.spec find-area-requires enum-told enum-told-2 returns returns-2)

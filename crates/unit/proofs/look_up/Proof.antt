@@ -11,7 +11,7 @@ fold-requires : tie.Need-fold-requires
 fold-requires c κs = search needs
 
 find-name-requires : tie.Need-find-name-requires
-find-name-requires c κs = searchable (c .before .before .before .pre)
+find-name-requires c κs = searchable (c .before .before .before .pre .opened)
 
 enum-known-place : tie.Need-enum-known-place
 enum-known-place c = search needs
@@ -22,19 +22,19 @@ enum-told c = search needs
 returns : tie.Need-returns
 returns c =
     let f = c .before .before in
-    looks-none _ _ (f .before .fold .ensures .packed) (f .find-name .ensures) (c .enum-told .given .1)
+    looks-none _ _ (f .before .before .before .before .pre) (f .before .fold .ensures .packed) (f .find-name .ensures) (c .enum-told .given .1)
 
 returns-2 : tie.Need-returns-2
 returns-2 c =
     let place = c .before .before in
     let f = place .before .before in
-    looks-short _ _ (f .before .fold .ensures .packed) (f .find-name .ensures) (place .place .given .1) (c .if1 .taken)
+    looks-short _ _ (f .before .before .before .before .pre) (f .before .fold .ensures .packed) (f .find-name .ensures) (place .place .given .1) (c .if1 .taken)
 
 read-entry-requires : tie.Need-read-entry-requires
 read-entry-requires c κs =
     let place = c .before .before .before in
     let f = place .before .before in
-    (omega (arith, c .before .if1 .left), name-room (searchable (f .before .before .before .before .pre)) (f .find-name .ensures) (place .place .given .1))
+    (omega (arith, c .before .if1 .left), name-room (searchable (f .before .before .before .before .pre .opened)) (f .find-name .ensures) (place .place .given .1))
 
 same-length : tie.Need-same-length
 same-length c = search needs
@@ -44,7 +44,7 @@ returns-3 c =
     let e = c .before .before in
     let place = e .before .before .before .before in
     let f = place .before .before in
-    looks-done _ _ (f .before .fold .ensures .packed) (f .find-name .ensures) (place .place .given .1) (e .before .before .if1 .left) (e .read-entry .ensures)
+    looks-done _ _ (f .before .before .before .before .pre) (f .before .fold .ensures .packed) (f .find-name .ensures) (place .place .given .1) (e .before .before .if1 .left) (e .read-entry .ensures)
 
 pub look-up-spec : {M : Type 1} → statement M
 look-up-spec =

@@ -30,10 +30,10 @@ enum-told : tie.Need-enum-told
 enum-told c = search needs
 
 returns : tie.Need-returns
-returns c = found-none _ _ _ (c .before .before .find-area .ensures) (c .enum-told .given .1)
+returns c = found-none _ _ _ (c .before .before .find-area .ensures .first) (c .enum-told .given .1)
 
 returns-2 : tie.Need-returns-2
-returns-2 c = found-at _ _ _ _ (c .before .before .before .find-area .ensures) (c .before .k .given .1)
+returns-2 c = found-at _ _ _ _ (c .before .before .before .find-area .ensures .first) (c .before .k .given .1)
 
 pub is-first-spec : {M : Type 1} → statement M
 is-first-spec = tie.close (tie.spec find-area-requires enum-known-k enum-told returns returns-2)

@@ -6,7 +6,8 @@
 //!   [`fill_vacant`] fills what is vacant in its state, and [`unit()`] does some of all this.
 //! * [`shaped`] writes a unit of a given shape, for measurements; [`add_file`] adds a file with
 //!   given slices.
-//! * [`Caller`] makes calls, most of them accepted.
+//! * [`Caller`] makes calls, most of them accepted; [`raw()`] makes a call the words that a C
+//!   program sends, their number at times no call's.
 //! * [`format_call`] makes calls of Format, [`damage()`] breaks an image or a state.
 //!
 //! ```
@@ -28,6 +29,7 @@ mod damage;
 mod formats;
 mod names;
 mod past;
+pub(crate) mod raw;
 mod records;
 mod shapes;
 mod words;
@@ -38,6 +40,7 @@ pub use damage::damage;
 pub use formats::{format_call, FormatCall};
 pub use names::{name, names};
 pub use past::{aged, crowded};
+pub use raw::{raw, RawCall};
 pub use records::{formatted, fresh, large_record, record, unformatted};
 pub use shapes::{add_file, shaped, Shape};
 

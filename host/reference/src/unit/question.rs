@@ -71,6 +71,9 @@ pub enum Question {
     FormatRoom,
     /// Format: unit known, no area process, limits met, free, top, image length.
     FormatLegal,
+    /// A C program's message: its number is a call's, 0 to 10. Document 01 has neither the
+    /// question nor its word.
+    CallNumbered,
 }
 
 impl Question {
@@ -111,6 +114,7 @@ impl Question {
             Question::AppendStretches => 0x0808,
             Question::FormatRoom => 0x1080,
             Question::FormatLegal => 0x1200,
+            Question::CallNumbered => 0xFFFF,
         }
     }
 }

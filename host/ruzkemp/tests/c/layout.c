@@ -73,6 +73,7 @@ static void show_results(void)
     NUMBER(USERS_OR_INDEX_FULL);
     NUMBER(BLOCK_SIZE);
     NUMBER(WRITE_PROTECTED_FILE);
+    NUMBER(NO_SUCH_CALL);
 }
 
 static void show_numbers(void)

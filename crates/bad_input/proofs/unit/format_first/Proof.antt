@@ -5,6 +5,9 @@ use borrow.Author.Needs.{needs}
 use Rattle.bad_input.proofs.unit.format_first.Statement.{statement}
 use Rattle.bad_input.proofs.unit.format_first.Tie as tie
 
+wrapping-sub-u16-requires : tie.Need-wrapping-sub-u16-requires
+wrapping-sub-u16-requires c κs = search needs
+
 returns : tie.Need-returns
 returns c = search needs
 
@@ -33,6 +36,7 @@ pub format-first-spec : {M : Type 1} → statement M
 format-first-spec =
     tie.close
     (tie.spec
+    wrapping-sub-u16-requires
     returns
     slice-relend-prefix-format
     slice-aggregate-format

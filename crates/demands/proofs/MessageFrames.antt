@@ -1,0 +1,182 @@
+-- The sectors that each message leaves alone, by the unit afterwards.
+use mathlib.Core.Path.{_≡_, refl, sym, ap, _∙_}
+use mathlib.Core.List.{List, [], _++_}
+use mathlib.Core.Logic.{_≢_}
+use mathlib.Core.Option.{some}
+use Prim.Native.Nat.{ℕ, suc, _+_, _-_, _*_, _/_, _%_, _≤_, _<_}
+use native.Mathlib.Omega.{arith}
+use lib.ListN.{length, length-append, List·getD-append}
+use Rattle.disc.specs.Numbers.{sliceStart}
+use Rattle.disc.specs.Slices.{occurrences}
+use Rattle.disc.specs.Stretches.{sectorIn, blockSector, stretchCount, sysFrom, fileFrom}
+use Rattle.disc.specs.Kit.{sysIndexSector, kitSector, mapSector}
+use Rattle.disc.specs.Entries.{placeCount, indexSector}
+use Rattle.disc.proofs.SliceLaws.{occurrences-append}
+use Rattle.disc.proofs.EntryLaws.{length-entry}
+use Rattle.words.specs.Store.{zeroWords}
+use Rattle.words.proofs.StoreLaws.{length-store, length-zeroWords}
+use Rattle.map.proofs.MarkLaws.{InMap}
+use Rattle.plain.specs.Table.{Table, tableFind, tablePut, tableRemove}
+use Rattle.plain.specs.Unit.{Plain, File, AreaUser, withFiles, withTables, fileEntry}
+use Rattle.plain.specs.Areas.{bookLive}
+use Rattle.plain.specs.Good.{Good}
+use Rattle.plain.proofs.TableLaws.{find-put}
+use Rattle.refine.specs.Writes.{placeSector, takenImage, emptyPlace, removedImage, grownImage, createdImage, resizedImage, changedImage, renamedImage, bookedImage, replacedImage, appendedImage}
+use Rattle.refine.proofs.Sectors.{Same, same-trans}
+use Rattle.refine.proofs.Ground.{ground, part-sys, part-file, place-in}
+use Rattle.steps.proofs.WriteLaws.{part-in-map, counted-keep}
+use Rattle.steps.proofs.ResizeLaws.{Resizes, resliced}
+use Rattle.demands.proofs.Frames.{in-map-part, marks-keep, place-keep, block-keep, taking-keep, reslicing-keep, finish-keep, rename-keep, append-keep}
+
+-- Sector q is none of the map, the kit, the sectors of SYS's places and the blocks of file f, as joined sectors.
+pub record Off (p : Plain) (f : File) (q : ℕ) : Type 0 where
+  pub map : q ≢ mapSector
+  pub kit : q ≢ kitSector
+  pub place : (t : ℕ) → t < placeCount (p .H) (p .layers) → q ≢ placeSector p t
+  pub joined : (x : ℕ) → 1 ≤ x → x < length (f .sectors) + 1 → q ≢ sectorIn (p .F) (p .s) (f .slices) x
+
+-- Sector q is not the index block of file f.
+abbrev pub OffIndex : Plain → File → ℕ → Type 0
+OffIndex p f q = 0 < length (f .slices) → q ≢ sectorIn (p .F) (p .s) (f .slices) 0
+
+-- ---- a file of a good unit
+
+module _ {p : Plain} (g : Good p) (n : ℕ) (f : File) (found : tableFind n (p .files) ≡ some f) where
+  pub file-in-map : InMap (f .slices)
+  file-in-map = part-in-map p (ground p g) (f .slices) (part-file p (ground p g) n f found)
+
+  pub file-entry : (m : ℕ) → length (fileEntry (p .F) (p .s) m f) ≡ 16
+  file-entry m =
+      let fg = g .files n f found in
+      length-entry m (f .optional) (f .attributes) (f .booked) (indexSector (p .F) (p .s) (f .bookedSlices) (f .slices)) (p .s * f .bookedSlices) (f .tail) (fg .optional .count) (fg .tail .count)
+
+-- ---- Remove and Remove area: file f, whose entry stands in place t
+
+module _ (p : Plain) (g : Good p) (n : ℕ) (f : File) (found : tableFind n (p .files) ≡ some f) (i : List ℕ) (far : 2560 ≤ length i) (t q : ℕ) (place : q ≢ placeSector p t) where
+  pub removed-keep : q ≢ mapSector → q ≢ kitSector → Same i (removedImage p i t f) q
+  unfolding removedImage
+  removed-keep map kit =
+      let size = length-store i (placeSector p t * 256 + t % 16 * 16) (zeroWords 16) in
+      same-trans (place-keep q p i t (zeroWords 16) (length-zeroWords 16) place)
+      (same-trans (marks-keep q 1 (emptyPlace p i t) (f .slices) (omega arith) (file-in-map g n f found) (omega (arith, far)) map) (counted-keep _ (p .s) q kit))
+
+  pub booked-keep : Same i (bookedImage p i t n f) q
+  unfolding bookedImage
+  booked-keep =
+      let fg = g .files n f found in
+      place-keep q p i t (fileEntry (p .F) (p .s) n (bookLive f))
+      (length-entry n (f .optional) (f .attributes) (length (f .sectors)) (indexSector (p .F) (p .s) (length (f .slices)) (f .slices)) (p .s * length (f .slices)) (f .tail) (fg .optional .count) (fg .tail .count)) place
+
+-- ---- SYS grows by the slices `new`; the unit afterwards has these files
+
+module _ (p : Plain) (g : Good p) (new : List ℕ) (files : Table File) (areas : Table (Table AreaUser)) (g′ : Good (withTables p (suc (p .layers)) (p .sys ++ new) files areas)) where
+  abbrev grown : Plain
+  grown = withTables p (suc (p .layers)) (p .sys ++ new) files areas
+
+  new-in-map : InMap new
+  new-in-map = part-in-map grown (ground grown g′) new (λ k. omega (arith, part-sys grown (ground grown g′) k, occurrences-append k (p .sys) new))
+
+  -- the old places stand where they stood
+  old-sector : (t : ℕ) → t < placeCount (p .H) (p .layers) → placeSector grown t ≡ placeSector p t
+  old-sector t inside =
+      ap (λ (k : ℕ). sliceStart (p .F) (p .s) k + (t / 16 + sysFrom) % p .s) (List·getD-append (p .sys) new 0 ((t / 16 + sysFrom) / p .s) (place-in p (ground p g) t inside))
+
+  module _ (i : List ℕ) (far : 2560 ≤ length i) (t : ℕ) (inside : t < placeCount (p .H) (p .layers)) (q : ℕ) (kit : q ≢ kitSector)
+      (blocks : (b : ℕ) → b < p .H * suc (p .layers) → q ≢ sectorIn (p .F) (p .s) (p .sys ++ new) b) where
+    abbrev longer : List ℕ
+    longer = takenImage i sysIndexSector (p .F) (p .s) (p .sys) new
+
+    -- after the index block
+    pub layer-keep : Same longer (grownImage p i t new) q
+    unfolding grownImage
+    layer-keep =
+        finish-keep q p longer (p .sys ++ new) (p .H * p .layers + sysFrom) (p .H) t _ refl kit (λ e. blocks (t / 16 + sysFrom) (omega arith) (e ∙ sym (old-sector t inside)))
+        (λ x lo hi. blocks x (omega arith))
+
+    pub grown-keep : q ≢ mapSector → q ≢ sysIndexSector → Same i (grownImage p i t new) q
+    grown-keep map six = same-trans (taking-keep q i sysIndexSector (p .F) (p .s) (p .sys) new (g′ .sysFew) new-in-map far map (λ _. six)) layer-keep
+
+-- ---- Create and Set: the file f is entered under name n
+
+module _ (p : Plain) (n : ℕ) (f : File) (g′ : Good (withFiles p (tablePut n f (p .files)))) (i : List ℕ) (far : 2560 ≤ length i) (t : ℕ) (inside : t < placeCount (p .H) (p .layers)) (q : ℕ) where
+  here : tableFind n (tablePut n f (p .files)) ≡ some f
+  here = find-put n f (p .files)
+
+  abbrev described : List ℕ
+  described = takenImage i (sectorIn (p .F) (p .s) (f .slices) 0) (p .F) (p .s) [] (f .slices)
+
+  module _ (off : Off (withFiles p (tablePut n f (p .files))) f q) where
+    -- after the index block
+    pub entered-keep : Same described (createdImage p i t n f) q
+    unfolding createdImage
+    entered-keep =
+        finish-keep q p described (f .slices) fileFrom (length (f .sectors)) t _ (file-entry g′ n f here n) (off .kit) (off .place t inside)
+        (λ x lo hi. off .joined x (omega arith) (omega arith))
+
+    pub created-keep : OffIndex p f q → Same i (createdImage p i t n f) q
+    created-keep own =
+        same-trans (taking-keep q i _ (p .F) (p .s) [] (f .slices) (g′ .files n f here .few) (file-in-map g′ n f here) far (off .map) own) entered-keep
+
+-- ---- Change: the file f of name n becomes f′ of name m
+
+module _ (p : Plain) (n m : ℕ) (f f′ : File) (old : InMap (f .slices)) (re : Resizes (f .slices) (f′ .slices)) (g′ : Good (withFiles p (tablePut m f′ (tableRemove n (p .files)))))
+    (i : List ℕ) (far : 2560 ≤ length i) (t : ℕ) (inside : t < placeCount (p .H) (p .layers)) (q : ℕ) (off : Off (withFiles p (tablePut m f′ (tableRemove n (p .files)))) f′ q) where
+  now : tableFind m (tablePut m f′ (tableRemove n (p .files))) ≡ some f′
+  now = find-put m f′ (tableRemove n (p .files))
+
+  abbrev sliced : List ℕ
+  sliced = resliced i (sectorIn (p .F) (p .s) (f′ .slices) 0) (p .F) (p .s) (f .slices) (f′ .slices)
+
+  sliced-keep : OffIndex p f′ q → Same i sliced q
+  sliced-keep own = reslicing-keep q i _ (p .F) (p .s) re (g′ .files m f′ now .few) old (file-in-map g′ m f′ now) far (off .map) own
+
+  off-new : (x : ℕ) → length (f .sectors) + fileFrom ≤ x → x < length (f .sectors) + fileFrom + (length (f′ .sectors) - length (f .sectors)) → q ≢ sectorIn (p .F) (p .s) (f′ .slices) x
+  off-new x lo hi = off .joined x (omega arith) (omega arith)
+
+  -- after the index block
+  pub rewritten-keep : Same sliced (changedImage p i t m f f′) q
+  unfolding changedImage resizedImage
+  rewritten-keep = finish-keep q p sliced (f′ .slices) _ _ t _ (file-entry g′ m f′ now m) (off .kit) (off .place t inside) off-new
+
+  pub moved-keep : (u : ℕ) → u < placeCount (p .H) (p .layers) → Same sliced (renamedImage p i t u m f f′) q
+  unfolding renamedImage resizedImage
+  moved-keep u there = rename-keep q p sliced (f′ .slices) _ _ t u _ (file-entry g′ m f′ now m) (off .kit) (off .place t inside) (off .place u there) off-new
+
+  pub changed-keep : OffIndex p f′ q → Same i (changedImage p i t m f f′) q
+  changed-keep own = same-trans (sliced-keep own) rewritten-keep
+
+  pub renamed-keep : OffIndex p f′ q → (u : ℕ) → u < placeCount (p .H) (p .layers) → Same i (renamedImage p i t u m f f′) q
+  renamed-keep own u there = same-trans (sliced-keep own) (moved-keep u there)
+
+-- ---- Output: the file f of name n has other slices or sectors
+
+module _ (p : Plain) (n : ℕ) (f f′ : File) (areas : Table (Table AreaUser)) (i : List ℕ) (far : 2560 ≤ length i) (words : List ℕ) (short : length words ≤ 256) (q : ℕ)
+    (off : Off (withTables p (p .layers) (p .sys) (tablePut n f′ (p .files)) areas) f′ q) where
+  then-file : tableFind n (tablePut n f′ (p .files)) ≡ some f′
+  then-file = find-put n f′ (p .files)
+
+  off-block : (l : List ℕ) → f′ .slices ≡ l → (b : ℕ) → b < length (f′ .sectors) → q ≢ blockSector (p .F) (p .s) l fileFrom b
+  off-block l e b low d = off .joined (b + fileFrom) (omega arith) (omega arith) (d ∙ ap (λ (k : List ℕ). blockSector (p .F) (p .s) k fileFrom b) (sym e))
+
+  pub replaced-keep : (b : ℕ) → b < length (f′ .sectors) → f′ .slices ≡ f .slices → Same i (replacedImage p i f b words) q
+  unfolding replacedImage
+  replaced-keep b low e = block-keep q i _ words short (off-block (f .slices) e b low)
+
+  module _ (g′ : Good (withTables p (p .layers) (p .sys) (tablePut n f′ (p .files)) areas)) (new : List ℕ) (more : length (f .sectors) < length (f′ .sectors)) (e : f′ .slices ≡ f .slices ++ new) where
+    abbrev extended : List ℕ
+    extended = takenImage i (sectorIn (p .F) (p .s) (f .slices ++ new) 0) (p .F) (p .s) (f .slices) new
+
+    -- after the index block
+    pub stored-keep : Same extended (appendedImage p i f new words) q
+    unfolding appendedImage
+    stored-keep = append-keep q extended (p .s) _ words short (off .kit) (off-block (f .slices ++ new) e (length (f .sectors)) more)
+
+    pub appended-keep : OffIndex p f′ q → Same i (appendedImage p i f new words) q
+    appended-keep own =
+        let all = file-in-map g′ n f′ then-file in
+        let few : stretchCount (f .slices ++ new) ≤ 127 = rw e at (g′ .files n f′ then-file .few) in
+        same-trans
+        (taking-keep q i _ (p .F) (p .s) (f .slices) new few
+        (in-map-part (f′ .slices) new all (λ x. omega (arith, ap (occurrences x) e, occurrences-append x (f .slices) new))) far (off .map)
+        (λ h d. own (omega (arith, ap length e, length-append (f .slices) new)) (d ∙ ap (λ (l : List ℕ). sectorIn (p .F) (p .s) l 0) (sym e))))
+        stored-keep

@@ -1,0 +1,11 @@
+pub mod Begin
+pub mod Ends
+pub mod Chains
+pub mod Files
+pub mod Change
+pub mod Areas
+pub mod Transput
+pub mod AreaMessages
+pub mod Formats
+pub mod Total
+pub mod Witness

@@ -1,0 +1,95 @@
+-- A run of the one call from what Format and Init leave on a disc of 20 sectors, with its answers.
+use mathlib.Core.Path.{_≡_, refl, sym, ap, ap₂, _∙_}
+use mathlib.Core.List.{List, [], _∷_}
+use Prim.Native.Nat.{ℕ, _*_, _<_}
+use native.Mathlib.Omega.{arith}
+use lib.ListN.{length, replicate}
+use Rattle.types.specs.declared.Answer.{Answer}
+use Rattle.types.specs.declared.State.{State}
+use Rattle.types.specs.declared.Message.the-variants.{Init}
+use Rattle.types.specs.State.{freshState}
+use Rattle.disc.specs.Words.{Words}
+use Rattle.disc.proofs.WordLaws.{words-none, words-replicate}
+use Rattle.words.specs.Store.{zeroWords}
+use Rattle.words.proofs.StoreLaws.{length-zeroWords, words-zeroWords}
+use Rattle.plain.specs.Unit.{Plain, entry}
+use Rattle.plain.specs.Questions.{asks, given, either}
+use Rattle.plain.specs.Catalog.{newFile}
+use Rattle.plain.specs.Areas.{stepReserve, stepRelease, positioned}
+use Rattle.plain.specs.Transput.{input, append, output, stepTransput}
+use Rattle.plain.specs.Step.{Call, Reply, answers, userStep, operationStep}
+use Rattle.plain.specs.Claims.{LentWords}
+use Rattle.plain.specs.Cases.{callsOf, answersIn, Shows}
+use Rattle.plain.specs.Paper.{paperUnit}
+use Rattle.sound.specs.Sound.{SoundUnit}
+use Rattle.refine.specs.Demands.{Contract, Run, empty, then, SameReplies}
+use Rattle.refine.specs.Demands as replies
+use Rattle.known.specs.Known.{Known}
+use Rattle.format.specs.Format.{FormatAnswer}
+use Rattle.perform.specs.Perform.{Performs}
+use Rattle.demands.specs.FormatContract.{FormatContract}
+use Rattle.demands.specs.Demands.{Later, here, call, format}
+use Rattle.demands.proofs.Demands.{the-demands}
+use Rattle.witness.specs.Witness.{witnessCases, Witness, Met}
+use Rattle.witness.proofs.Begin.{closed, record-words, begun, begun-unit}
+use Rattle.witness.proofs.Total.{no-unit, not-sound, total}
+
+-- ---- on the plain unit, by computation
+
+shows : Shows paperUnit witnessCases
+unfolding entry asks given either newFile stepReserve stepRelease positioned input append output stepTransput userStep operationStep
+shows = refl
+
+-- ---- the list
+
+lent-words : LentWords (callsOf witnessCases)
+lent-words =
+    (words-none, (words-none, (words-none, (sector 1 (omega arith), (sector 2 (omega arith), (sector 3 (omega arith), (words-none, (words-none, (words-none, (words-none, tt))))))))))
+  where
+    sector : (w : ℕ) → w < 65536 → Words (replicate 256 w)
+    sector w h = words-replicate 256 w h
+
+same-answers : {calls : List Call} {a b : List Reply} → SameReplies calls a b → answersIn a ≡ answersIn b
+same-answers replies.empty = refl
+same-answers (replies.then s rest) = ap₂ (λ (x : Answer) (l : List Answer). x ∷ l) (s .answer) (same-answers rest)
+
+run-later : {C : Contract} {F : FormatContract} {image end : List ℕ} {state stop : State} {calls : List Call} {replies : List Reply} → LentWords calls → Run C image state calls replies end stop
+    → Later C F image state end stop
+run-later w empty = here
+run-later w (then c rest) = call (w .0) c (run-later (w .1) rest)
+
+-- ---- a disc
+
+module _ (disc : List ℕ) (words : Words disc) (size : length disc ≡ 5120) where
+  witness : Witness Performs FormatAnswer disc
+  witness =
+      let b = begun disc words size in
+      let u = begun-unit disc words size in
+      let r = total .list (b .init .image) (b .init .state) (callsOf witnessCases) (b .sound) lent-words in
+      let d = the-demands .after-init .holds (b .inits) (b .init-done) lent-words (r .run) in
+      record {
+        begun = b;
+        words = lent-words;
+        ran = r;
+        answered = same-answers (d .same) ∙ ap (λ (p : Plain). answersIn (answers p (callsOf witnessCases))) (sym (d .only paperUnit (u .0) (u .1))) ∙ shows;
+        later = format record-words (b .formats) (call words-none (b .inits) (run-later lent-words (r .run)));
+      }
+
+-- ---- the first two questions answered no
+
+another-unit : Known (freshState 0) (Init 1) → ⊥
+another-unit k = omega (arith, k .number)
+
+no-words : SoundUnit [] (freshState 0) → ⊥
+no-words s = omega (arith, s .rules .size, s .rules .limits .some-data)
+
+pub met : Met Performs FormatAnswer
+unfolding no-unit not-sound
+met = record {
+  discs = witness;
+  zeros = witness (zeroWords (256 * 20)) (words-zeroWords (256 * 20)) (length-zeroWords (256 * 20));
+  another = no-unit [] (freshState 0) (Init 1) [] another-unit;
+  another-word = refl;
+  unsound = not-sound [] (freshState 0) (Init 0) [] (record { number = refl; low = omega arith; ready = closed }) no-words;
+  unsound-word = refl;
+}
