@@ -5,7 +5,7 @@ use mathlib.Core.Bool.{Bool, true, false}
 use mathlib.Core.List.{List, _++_}
 use mathlib.Core.Logic.{_≢_}
 use Prim.Native.Nat.{ℕ, suc, _+_, _-_, _*_, _≤_, _<_}
-use native.Mathlib.Nat.{add-zero, mul-le-mul-left}
+use native.Mathlib.Nat.{add-zero}
 use native.Mathlib.Numerals.{add-one}
 use native.Mathlib.Omega.{arith}
 use lib.ListN.{length, getD, take, drop}
@@ -80,10 +80,6 @@ module _ (test : ℕ → Bool) (i : ℕ) where
       sym e ∙ sym s ∙ inv
 
 -- ---- the layers of a key
-
--- the number of a key's block is a word
-pub block-fits : (H L k l : ℕ) → k < H → l < L → H * L ≤ 65536 → H * l + k < 65536
-block-fits H L k l low layer fits = let y : suc l ≤ L = omega arith in omega (arith, mul-le-mul-left H y)
 
 module _ (test : ℕ → ℕ → Bool) (sectors : ℕ → ℕ) (n l : ℕ) where
   pub place-here : {f : Found} (q i : ℕ) → placeFrom test sectors (n - l) l ≡ f → l < n → q ≡ sectors l → i ≡ firstSlot (test q) → i < 16 → At (placeAt q i) ≡ f

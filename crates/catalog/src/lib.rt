@@ -2,7 +2,7 @@
 
 ghost use mathlib.Core.Path.{_≡_};
 ghost use mathlib.Core.List.{_++_};
-ghost use Prim.Native.Nat.{_+_, _*_, _≤_, _<_};
+ghost use Prim.Native.Nat.{_+_, _≤_};
 ghost use lib.ListN.{length, take, drop};
 ghost use Rattle.disc.specs.Names.{pack};
 ghost use Rattle.words.specs.Store.{store, zeroWords};
@@ -32,11 +32,10 @@ pub enum Found {
 
 // The sector of a key's block of a layer.
 fn key_sector(image: &[u16], c: Catalog, key: u16, layer: u16) -> Sector
-    requires { ⌜ c .keys * layer + key < 65536 ⌝ }
     ensures { λ r. ⌜ r .0 ≡ keySector (now (image .entry)) c key layer ⌝ }
 {
-    let block = numbers::key_block(c.keys, key, layer);
-    index::block_sector_at(image, c.index, c.from, block)
+    let joined = numbers::key_joined(c.from, c.keys, key, layer);
+    index::sector_at(image, c.index, joined)
 }
 
 // Whether the name stands in a slot of sector q.
@@ -95,7 +94,7 @@ pub fn unused_slot(image: &[u16], q: Sector) -> u16
 
 // The place of a name, which is in capitals.
 pub fn find(image: &[u16], c: Catalog, name: Name) -> Found
-    requires { ⌜ (1 ≤ c .keys) × (c .keys * c .layers ≤ 65536) ⌝ }
+    requires { ⌜ 1 ≤ c .keys ⌝ }
     ensures { λ r. ⌜ NamePlace (now (image .entry)) c (pack (name .0) (name .1) (name .2)) r ⌝ }
 {
     let key = numbers::key(name, c.keys);
@@ -116,7 +115,6 @@ pub fn find(image: &[u16], c: Catalog, name: Name) -> Found
 
 // The first unused place of a key.
 pub fn first_unused(image: &[u16], c: Catalog, key: u16) -> Found
-    requires { ⌜ (key < c .keys) × (c .keys * c .layers ≤ 65536) ⌝ }
     ensures { λ r. ⌜ UnusedPlace (now (image .entry)) c key r ⌝ }
 {
     let mut layer: u16 = 0;

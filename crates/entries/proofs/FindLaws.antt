@@ -7,12 +7,14 @@ use native.Mathlib.Nat.{div-add-mod', mul-le-mul-right, mod-le, mod-mod, add-mod
 use Rattle.disc.specs.Names.{keyOf}
 use Rattle.disc.specs.Entries.{nameAt}
 use Rattle.disc.specs.Stretches.{sectorIn}
+use Rattle.disc.specs.Decide.{Decides}
 use Rattle.disc.proofs.Compare.{Tri, less, same, more, tri, below-or}
+use Rattle.disc.proofs.DecideLaws.{holds, fails}
 use Rattle.sound.specs.Sound.{sysPlaces}
 use Rattle.entries.specs.declared.Found.{Found}
 use Rattle.entries.specs.declared.Found.the-variants.{At, Nothing}
 use Rattle.entries.specs.Legal.{sectorPlaces}
-use Rattle.entries.specs.Found.{Stands, FirstAt, NoneAt, FoundIs, SlotIs}
+use Rattle.entries.specs.Found.{Stands, FirstAt, NoneAt, FoundIs, wordOf, SomeAt, NameSought, SlotIs}
 use Rattle.entries.proofs.PlaceLaws.{name-moved}
 use Rattle.entries.proofs.BlockLaws.{in-block}
 
@@ -81,6 +83,15 @@ module _ {P : ℕ → ℕ → ℕ} {H n : ℕ} where
 
   pub searched-done : {b blocks : ℕ} → Searched P H n b → blocks ≤ b → NoneAt P H n (16 * blocks)
   searched-done so h = record { none = λ u l. so .before u (omega arith) }
+
+  -- what the search promises of a place and of none
+  pub sought-at : {count t : ℕ} → FirstAt P H n count t → NameSought P H n count (At t)
+  sought-at {t = t} f =
+      let some : SomeAt P H n _ = record { place = t; inside = f .inside; here = f .here } in
+      record { place = f; sound = holds some; areaSound = holds some }
+
+  pub sought-none : {count : ℕ} → NoneAt P H n count → NameSought P H n count Nothing
+  sought-none f = record { place = f; sound = fails (λ s. f .none (s .place) (s .inside) (s .here)); areaSound = fails (λ s. f .none (s .place) (s .inside) (s .here)) }
 
   pub found-at : {count t : ℕ} {r : Found} → r ≡ At t → FoundIs P H n count r → FirstAt P H n count t
   found-at {count} e f = subst (λ (x : Found). FoundIs P H n count x) e f

@@ -12,7 +12,7 @@ ghost use Rattle.disc.specs.Entries.{systemEntry};
 ghost use Rattle.names.specs.Classes.{ClassesOf};
 ghost use Rattle.sound.specs.Places.{Unused};
 ghost use Rattle.entries.specs.Legal.{sectorPlaces, NameIn, HoldsEntry, ownEntry, SystemLegal, PlaceLegal, PlacesLegal};
-ghost use Rattle.entries.specs.Found.{FoundIs, SlotIs};
+ghost use Rattle.entries.specs.Found.{NameSought, SlotIs};
 ghost use Rattle.entries.specs.Names.{NamesLegal, LayersOf};
 ghost use Rattle.entries.specs.Sys.{sysSlices, placesIn, SysOf};
 use kit::Geometry;
@@ -273,7 +273,7 @@ fn find_in(image: &[u16], q: Sector, name: Name) -> usize
 // The first place of the name in the sectors of its key, among the first `blocks` sectors of SYS.
 pub fn find(image: &[u16], g: Geometry, name: Name, blocks: u16) -> Found
     requires { ⌜ SysOf (now image) g × (blocks ≤ g .slice * length (sysSlices (now image) g)) ⌝ }
-    ensures { λ r. ⌜ FoundIs (placesIn (now (image .entry)) g) (g .keys) (pack (name .0) (name .1) (name .2)) (16 * blocks) r ⌝ }
+    ensures { λ r. ⌜ NameSought (placesIn (now (image .entry)) g) (g .keys) (pack (name .0) (name .1) (name .2)) (16 * blocks) r ⌝ }
 {
     let keys = g.keys;
     let mut b = Block(numbers::key(name, keys));

@@ -60,10 +60,13 @@ setWord word true = cond (eqb word 0) 1 word
 setWord word false = 0
 
 -- Any number from 2 on stands for an exclusive user.
+abbrev pub lowestNumber : Role → ℕ
+lowestNumber Sharing = 0
+lowestNumber ExclusiveWriter = 1
+lowestNumber ExclusiveUser = 2
+
 abbrev pub roleNumber : ℕ → Role → ℕ
-roleNumber number Sharing = 0
-roleNumber number ExclusiveWriter = 1
-roleNumber number ExclusiveUser = cond (ltb number 2) 2 number
+roleNumber number role = cond (ltb (lowestNumber role) 2) (lowestNumber role) (cond (ltb number 2) 2 number)
 
 -- The mirror that is left of the one before and the new state: its user entries, its descriptors, all of it.
 abbrev pub remirroredUser : UserState → User → UserState

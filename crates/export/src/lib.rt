@@ -3,7 +3,7 @@
 ghost use mathlib.Core.Path.{_≡_};
 ghost use Rattle.disc.specs.Decide.{Decides};
 ghost use Rattle.sound.specs.Sound.{SoundUnit};
-ghost use Rattle.export.specs.Mirror.{isSet, roleOf, userOf, areaOf, stateOf, setWord, roleNumber, remirroredUser, remirroredArea, remirrored};
+ghost use Rattle.export.specs.Mirror.{isSet, roleOf, userOf, areaOf, stateOf, setWord, lowestNumber, roleNumber, remirroredUser, remirroredArea, remirrored};
 ghost use Rattle.export.specs.Calls.{operationOf, askedOf, answerOf, unitPerformed, UnitPerforms, unitFormatted, UnitFormats};
 use types::Answer;
 use types::Area;
@@ -162,15 +162,26 @@ fn set_word(word: u16, set: bool) -> u16
     if word == 0 { 1 } else { word }
 }
 
-// The number of a role: one that stands for it already is kept.
-fn role_number(number: u16, role: Role) -> u16
-    ensures { λ r. ⌜ r ≡ roleNumber number role ⌝ }
+// The lowest number that stands for a role.
+fn lowest_number(role: Role) -> u16
+    ensures { λ r. ⌜ r ≡ lowestNumber role ⌝ }
 {
     match role {
         Role::Sharing => 0,
         Role::ExclusiveWriter => 1,
-        Role::ExclusiveUser => { if number < 2 { 2 } else { number } }
+        Role::ExclusiveUser => 2,
     }
+}
+
+// The number of a role: one that stands for it already is kept. By numbers, which needs no branch for each of the 24 entries.
+fn role_number(number: u16, role: Role) -> u16
+    ensures { λ r. ⌜ r ≡ roleNumber number role ⌝ }
+{
+    let lowest = lowest_number(role);
+    if lowest < 2 {
+        return lowest;
+    }
+    if number < 2 { 2 } else { number }
 }
 
 fn remirror_user(before: UserState, user: User) -> UserState

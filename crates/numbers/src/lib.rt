@@ -172,12 +172,12 @@ pub fn joined_of(from: u16, b: Block) -> u32
     b.0 as u32 + from as u32
 }
 
-// The block of a key in a layer: key k lives in blocks k, k + h, k + 2h and so on.
-pub fn key_block(h: u16, key: u16, layer: u16) -> Block
-    requires { ⌜ h * layer + key < 65536 ⌝ }
-    ensures { λ r. ⌜ r .0 ≡ h * layer + key ⌝ }
+// A key's sector of a layer, as a sector of the joined stretches, where the catalog begins with joined sector `from`: key k lives
+// in the catalog's sectors k, k + h, k + 2h and so on.
+pub fn key_joined(from: u16, h: u16, key: u16, layer: u16) -> u32
+    ensures { λ r. ⌜ r ≡ h * layer + key + from ⌝ }
 {
-    Block(h * layer + key)
+    h as u32 * layer as u32 + key as u32 + from as u32
 }
 
 // The key of a name: the sum of its three words, carry out of 16 bits dropped, modulo h.

@@ -22,8 +22,7 @@ use Rattle.sound.specs.Places.{Unused}
 use Rattle.refine.specs.Represents.{PlaceOf}
 use Rattle.refine.specs.Writes.{placeSector}
 use Rattle.refine.proofs.CatalogLaws.{at, name-zero}
-use Rattle.refine.proofs.Ground.{positive, part-sys, sys-data, sys-slices, place-in}
-use Rattle.steps.proofs.WriteLaws.{part-sectors}
+use Rattle.refine.proofs.Ground.{positive, sys-data, sys-slices, place-in}
 use Rattle.unit.specs.declared.Opened.{Opened}
 use Rattle.unit.specs.Opened.{NumbersOf, CatalogOn, Searchable, unitPlaces, sysCatalog}
 use Rattle.unit.specs.Find.{PlaceIs, NameAt, enteredWord, NameFound, FindsName}
@@ -33,13 +32,6 @@ use Rattle.unit.proofs.AskLaws.{asks-yes, asks-no}
 -- a unit has a key
 pub some-key : {image : List ℕ} {o : Opened} → Searchable image o → 1 ≤ o .keys
 some-key h = omega (arith, h .on .good .limits .keys-low, h .numbers .keys)
-
--- the numbers of SYS's blocks are words
-pub few-blocks : {image : List ℕ} {o : Opened} → Searchable image o → o .keys * o .layers ≤ 65536
-few-blocks h =
-    let p = h .unit in
-    let gr = unit-ground (h .on) in
-    rw (h .numbers .keys, h .numbers .layers) (omega (arith, gr .sysCover, mul-comm (p .s) (length (p .sys)), part-sectors p gr (p .sys) (part-sys p gr)))
 
 -- where a place of SYS begins
 pub place-start : {p : Plain} {t : ℕ} {place : Place} → PlaceIs p t place → placeStart place ≡ placeSector p t * 256 + t % 16 * 16

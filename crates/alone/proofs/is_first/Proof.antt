@@ -28,12 +28,12 @@ enum-told c = search needs
 returns : tie.Need-returns
 returns c =
     let pre = c .before .before .before .before .before .pre in
-    fails (λ _. found-none (c .enum-told .given .1) (c .before .before .find .ensures) .none _ (omega (arith, pre .2)) (pre .3))
+    fails (λ _. found-none (c .enum-told .given .1) (c .before .before .find .ensures .place) .none _ (omega (arith, pre .2)) (pre .3))
 
 -- the place that was found
 found : (c : tie.After-struct-known2) → let a = c .before .before .before .before .before .before .before .args in
     FirstAt (placesIn (a .image .now) (a .g)) (a .g .keys) (pack (a .name .0) (a .name .1) (a .name .2)) (16 * (a .b .0 + 1)) (c .before .before .t .given .0 .0)
-found c = let t = c .before .before in found-at (t .t .given .1) (t .before .before .find .ensures)
+found c = let t = c .before .before in found-at (t .t .given .1) (t .before .before .find .ensures .place)
 
 cast-if1 : tie.Need-cast-if1
 cast-if1 c = search needs

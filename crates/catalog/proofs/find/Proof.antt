@@ -1,12 +1,12 @@
 -- `catalog::find` meets its contract: what is sought is the first place from a layer on. Assumes nothing.
 use mathlib.Core.Path.{_≡_, ap}
-use Prim.Native.Nat.{ℕ, _-_, _<_}
-use native.Mathlib.Nat.{sub-zero, mod-lt}
+use Prim.Native.Nat.{ℕ, _-_}
+use native.Mathlib.Nat.{sub-zero}
 use borrow.Author.Needs.{needs}
 use Rattle.disc.specs.Names.{pack}
 use Rattle.catalog.specs.Catalog.{keySector, slotNamed, placeFrom, placeNamed}
 use Rattle.catalog.proofs.AnswerLaws.{name-place}
-use Rattle.catalog.proofs.WalkLaws.{block-fits, place-here, place-next, place-none}
+use Rattle.catalog.proofs.WalkLaws.{place-here, place-next, place-none}
 use Rattle.catalog.proofs.find.Statement.{statement}
 use Rattle.catalog.proofs.find.Tie as tie
 
@@ -19,7 +19,7 @@ abbrev μ-loop : tie.MeasureT-loop
 μ-loop image c name key layer₀ layer = c .layers - layer
 
 key-requires : tie.Need-key-requires Inv-loop μ-loop
-key-requires c κs = c .before .pre .0
+key-requires c κs = c .before .pre
 
 loop-holds : tie.Need-loop-holds Inv-loop μ-loop
 loop-holds c =
@@ -28,11 +28,7 @@ loop-holds c =
     rw sub-zero (ap (λ (k : ℕ). placeFrom (slotNamed (a .image .now) n) (keySector (a .image .now) (a .c) k) (a .c .layers) 0) (c .key .ensures))
 
 key-sector-requires : tie.Need-key-sector-requires Inv-loop μ-loop
-key-sector-requires c κs =
-    let l = c .before .before in
-    let start = l .before .before .before in
-    let low : l .before .key .result < start .args .c .keys = rw (l .before .key .ensures) (mod-lt _ (start .pre .0)) in
-    block-fits (start .args .c .keys) (start .args .c .layers) _ (l .loop .layer) low (c .if1 .taken) (start .pre .1)
+key-sector-requires c κs = tt
 
 slot-named-requires : tie.Need-slot-named-requires Inv-loop μ-loop
 slot-named-requires c κs = tt

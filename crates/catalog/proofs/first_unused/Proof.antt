@@ -5,7 +5,7 @@ use native.Mathlib.Nat.{sub-zero}
 use borrow.Author.Needs.{needs}
 use Rattle.catalog.specs.Catalog.{keySector, slotUnused, placeFrom, placeUnused}
 use Rattle.catalog.proofs.AnswerLaws.{unused-place}
-use Rattle.catalog.proofs.WalkLaws.{block-fits, place-here, place-next, place-none}
+use Rattle.catalog.proofs.WalkLaws.{place-here, place-next, place-none}
 use Rattle.catalog.proofs.first_unused.Statement.{statement}
 use Rattle.catalog.proofs.first_unused.Tie as tie
 
@@ -19,10 +19,7 @@ loop-holds : tie.Need-loop-holds Inv-loop μ-loop
 loop-holds c = rw sub-zero refl
 
 key-sector-requires : tie.Need-key-sector-requires Inv-loop μ-loop
-key-sector-requires c κs =
-    let l = c .before .before in
-    let start = l .before .before in
-    block-fits (start .args .c .keys) (start .args .c .layers) (start .args .key) (l .loop .layer) (start .pre .0) (c .if1 .taken) (start .pre .1)
+key-sector-requires c κs = tt
 
 unused-slot-requires : tie.Need-unused-slot-requires Inv-loop μ-loop
 unused-slot-requires c κs = tt

@@ -5,7 +5,7 @@ use borrow.Author.Needs.{needs}
 use Rattle.disc.specs.Names.{pack}
 use Rattle.entries.specs.Sys.{sysSlices, placesIn}
 use Rattle.entries.proofs.SysLaws.{sys-inside, sys-small}
-use Rattle.entries.proofs.FindLaws.{BlockSlot, Searched, slot-block, searched-none, searched-more, searched-found, searched-done}
+use Rattle.entries.proofs.FindLaws.{BlockSlot, Searched, slot-block, searched-none, searched-more, searched-found, searched-done, sought-at, sought-none}
 use Rattle.entries.proofs.find.Statement.{statement}
 use Rattle.entries.proofs.find.Tie as tie
 
@@ -51,7 +51,7 @@ add-t14 c = search needs
 returns : tie.Need-returns Inv-loop μ-loop
 returns c =
     let f = c .before .before in
-    searched-found (f .before .before .before .before .loop .inv) (slot-of f) (f .before .before .if1 .taken) (c .before .if2 .taken)
+    sought-at (searched-found (f .before .before .before .before .loop .inv) (slot-of f) (f .before .before .if1 .taken) (c .before .if2 .taken))
 
 add-t15 : tie.Need-add-t15 Inv-loop μ-loop
 add-t15 c =
@@ -67,7 +67,7 @@ loop-again c =
     searched-more (f .before .before .before .before .loop .inv) (slot-of f) (c .before .if2 .left)
 
 returns-2 : tie.Need-returns-2 Inv-loop μ-loop
-returns-2 c = searched-done (c .before .before .loop .inv) (c .if1 .left)
+returns-2 c = sought-none (searched-done (c .before .before .loop .inv) (c .if1 .left))
 
 pub find-spec : {M : Type 1} → statement M
 find-spec =

@@ -20,7 +20,7 @@ first-of : (c : tie.After-t) → let f = c .before .before in let a = f .before 
     FirstAt (placesIn (a .image .now) (a .g)) (a .g .keys) SYS (16 * (f .before .before .sys-sectors .result / a .g .keys * a .g .keys)) (c .t .given .0 .0)
 first-of c =
     let f = c .before .before in
-    first-as (f .before .sys-name .ensures .packed) (found-at (c .t .given .1) (f .find .ensures))
+    first-as (f .before .sys-name .ensures .packed) (found-at (c .t .given .1) (f .find .ensures .place))
 
 inside : (c : tie.After-known-told) → let sectors = c .before .before .before .before .before in
     c .before .t .given .0 .0 / 16 < sectors .sys-sectors .result / sectors .before .before .args .g .keys * sectors .before .before .args .g .keys
@@ -90,7 +90,7 @@ returns c =
     let sectors = f .before .before in
     let sys = sectors .before .before .pre in
     layers-none _ _ _ _ _ _ (sys .unit .limits .keys-low) (omega (arith, sys .unit .limits .slice-low)) (sectors .sys-sectors .ensures) refl
-    (none-as (f .before .sys-name .ensures .packed) (found-none (c .enum-told .given .1) (f .find .ensures)))
+    (none-as (f .before .sys-name .ensures .packed) (found-none (c .enum-told .given .1) (f .find .ensures .place)))
 
 cast-t11 : tie.Need-cast-t11
 cast-t11 c =

@@ -22,7 +22,7 @@ enum-told-2 c = search needs
 returns : tie.Need-returns
 returns c =
     let f = c .before .before in
-    fails (λ n. not-met (f .before .sys-name .ensures .packed) (lit< tt) (n .places) (found-none (c .enum-told2 .given .1) (f .find .ensures)) (n .sysMet))
+    fails (λ n. not-met (f .before .sys-name .ensures .packed) (lit< tt) (n .places) (found-none (c .enum-told2 .given .1) (f .find .ensures .place)) (n .sysMet))
 
 map-name-requires : tie.Need-map-name-requires
 map-name-requires c κs = search needs
@@ -39,7 +39,7 @@ enum-told-4 c = search needs
 returns-2 : tie.Need-returns-2
 returns-2 c =
     let f = c .before .before in
-    fails (λ n. not-met (f .before .map-name .ensures .packed) (lit< tt) (n .places) (found-none (c .enum-told4 .given .1) (f .find2 .ensures)) (n .mapMet))
+    fails (λ n. not-met (f .before .map-name .ensures .packed) (lit< tt) (n .places) (found-none (c .enum-told4 .given .1) (f .find2 .ensures .place)) (n .mapMet))
 
 returns-3 : tie.Need-returns-3
 returns-3 c =
@@ -48,8 +48,8 @@ returns-3 c =
     let sys = told .before .before in
     holds (record {
       places = sys .before .before .before .pre .2;
-      sysMet = met (sys .before .sys-name .ensures .packed) (found-at (told .enum-told .given .1) (sys .find .ensures));
-      mapMet = met (map .before .map-name .ensures .packed) (found-at (c .enum-told3 .given .1) (map .find2 .ensures));
+      sysMet = met (sys .before .sys-name .ensures .packed) (found-at (told .enum-told .given .1) (sys .find .ensures .place));
+      mapMet = met (map .before .map-name .ensures .packed) (found-at (c .enum-told3 .given .1) (map .find2 .ensures .place));
     })
 
 pub system-entered-spec : {M : Type 1} → statement M

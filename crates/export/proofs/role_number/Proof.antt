@@ -4,27 +4,17 @@ use borrow.Author.Tests.{lt-ltb, le-ltb}
 use Rattle.export.proofs.role_number.Statement.{statement}
 use Rattle.export.proofs.role_number.Tie as tie
 
-enum-told : tie.Need-enum-told
-enum-told c = search needs
-
-enum-told-2 : tie.Need-enum-told-2
-enum-told-2 c = search needs
-
-enum-told-3 : tie.Need-enum-told-3
-enum-told-3 c = search needs
+lowest-number-requires : tie.Need-lowest-number-requires
+lowest-number-requires c κs = search needs
 
 returns : tie.Need-returns
-returns c = search needs
+returns c = rw (← c .before .lowest-number .ensures) (simp (lt-ltb _ 2 (c .if1 .taken)))
 
 returns-2 : tie.Need-returns-2
-returns-2 c = search needs
+returns-2 c = rw (← c .before .before .lowest-number .ensures) (simp (le-ltb _ 2 (c .before .if1 .left), lt-ltb _ 2 (c .if2 .taken)))
 
 returns-3 : tie.Need-returns-3
-returns-3 c = simp (c .before .enum-told3 .given .1, lt-ltb _ 2 (c .if1 .taken))
-
-returns-4 : tie.Need-returns-4
-returns-4 c = simp (c .before .enum-told3 .given .1, le-ltb _ 2 (c .if1 .left))
+returns-3 c = rw (← c .before .before .lowest-number .ensures) (simp (le-ltb _ 2 (c .before .if1 .left), le-ltb _ 2 (c .if2 .left)))
 
 pub role-number-spec : {M : Type 1} → statement M
-role-number-spec =
-    tie.close (tie.spec enum-told enum-told-2 enum-told-3 returns returns-2 returns-3 returns-4)
+role-number-spec = tie.close (tie.spec lowest-number-requires returns returns-2 returns-3)

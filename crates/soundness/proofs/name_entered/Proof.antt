@@ -34,14 +34,14 @@ returns-3 : tie.Need-returns-3
 returns-3 c =
     let f = c .before .before in
     let start = f .before .before .before .before .before .before in
-    fails (entered-found (start .pre) _ (found-none (c .enum-told2 .given .1) (f .find .ensures)))
+    fails (entered-found (start .pre) _ (found-none (c .enum-told2 .given .1) (f .find .ensures .place)))
 
 returns-4 : tie.Need-returns-4
 returns-4 c =
     let f = c .before .before in
     let tests = f .before in
     let start = tests .before .before .before .before .before in
-    holds (found-entered (start .pre) _ _ (omega (arith, tests .before .before .if1 .left)) (T-not (sym (tests .before .is-system .ensures) ∙ tests .if2 .left)) (found-at (c .enum-told .given .1) (f .find .ensures)))
+    holds (found-entered (start .pre) _ _ (omega (arith, tests .before .before .if1 .left)) (T-not (sym (tests .before .is-system .ensures) ∙ tests .if2 .left)) (found-at (c .enum-told .given .1) (f .find .ensures .place)))
 
 pub name-entered-spec : {M : Type 1} → statement M
 name-entered-spec =

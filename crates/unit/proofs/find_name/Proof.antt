@@ -4,7 +4,7 @@ use borrow.Author.Needs.{needs}
 use Rattle.catalog.specs.Catalog.{placeNamed}
 use Rattle.disc.specs.Names.{pack}
 use Rattle.unit.specs.Opened.{sysCatalog}
-use Rattle.unit.proofs.FindLaws.{some-key, few-blocks, name-found, zero-found}
+use Rattle.unit.proofs.FindLaws.{some-key, name-found, zero-found}
 use Rattle.unit.proofs.find_name.Statement.{statement}
 use Rattle.unit.proofs.find_name.Tie as tie
 
@@ -18,9 +18,7 @@ sys-catalog-requires : tie.Need-sys-catalog-requires
 sys-catalog-requires c κs = search needs
 
 find-requires : tie.Need-find-requires
-find-requires c κs =
-    let pre = c .before .before .before .before .pre in
-    rw (c .sys-catalog .ensures) (some-key pre, few-blocks pre)
+find-requires c κs = rw (c .sys-catalog .ensures) (some-key (c .before .before .before .before .pre))
 
 returns-2 : tie.Need-returns-2
 returns-2 c =

@@ -3,7 +3,6 @@ use mathlib.Core.Path.{_≡_}
 use borrow.Author.Needs.{needs}
 use Rattle.catalog.specs.Catalog.{placeUnused}
 use Rattle.unit.specs.Opened.{sysCatalog}
-use Rattle.unit.proofs.FindLaws.{few-blocks}
 use Rattle.unit.proofs.UnusedLaws.{unused-found}
 use Rattle.unit.proofs.find_unused.Statement.{statement}
 use Rattle.unit.proofs.find_unused.Tie as tie
@@ -12,9 +11,7 @@ sys-catalog-requires : tie.Need-sys-catalog-requires
 sys-catalog-requires c κs = search needs
 
 first-unused-requires : tie.Need-first-unused-requires
-first-unused-requires c κs =
-    let pre = c .before .before .pre in
-    rw (c .sys-catalog .ensures) (pre .1, few-blocks (pre .0))
+first-unused-requires c κs = search needs
 
 returns : tie.Need-returns
 returns c =
