@@ -11,32 +11,12 @@ use types::Name;
 use types::Sector;
 use types::Slice;
 
-// The words 1b0 to 1b15.
-const BIT_WORDS: [u16; 16] = [
-    0x8000,
-    0x4000,
-    0x2000,
-    0x1000,
-    0x0800,
-    0x0400,
-    0x0200,
-    0x0100,
-    0x0080,
-    0x0040,
-    0x0020,
-    0x0010,
-    0x0008,
-    0x0004,
-    0x0002,
-    0x0001,
-];
-
-// The word that has bit n alone.
+// The word that has bit n alone: 2 to the power 15 - n.
 pub fn bit_word(n: usize) -> u16
     requires { ⌜ n < 16 ⌝ }
     ensures { λ r. ⌜ r ≡ bitWord n ⌝ }
 {
-    BIT_WORDS[n]
+    1u16 << (15 - n)
 }
 
 // Whether bit n of a word is set; bit 0 is the highest.

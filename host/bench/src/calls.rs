@@ -8,6 +8,7 @@ use reference::generate::{self, shaped, Shape};
 use reference::random::Random;
 use ruzkemp::{Entry, Name, NameWords, Role, Unit};
 
+use crate::compare::Timed;
 use crate::shapes::{FEW, MANY, MIDDLE};
 use crate::timing::{needed, read, verdict, Fastest};
 
@@ -189,7 +190,7 @@ fn new_name(random: &mut Random, unit: &Unit<Vec<u16>>) -> NameWords {
 
 /// A row of the table: calls on a unit, and the fastest times of reading, of the second
 /// implementation and of the proved library.
-struct Row {
+pub struct Row {
     unit: &'static str,
     calls: Calls,
     pair: Pair,
@@ -211,11 +212,16 @@ impl Row {
                 black_box(pair.send_second(black_box(message), &mut calls.lent));
             }
         });
+        self.measure_proved();
+    }
+
+    fn measure_proved(&mut self) -> f64 {
+        let (pair, calls) = (&mut self.pair, &mut self.calls);
         self.proved.measure(|| {
             for message in &calls.messages {
                 black_box(pair.send_proved(black_box(message), &mut calls.lent));
             }
-        });
+        })
     }
 
     fn print(&self) {
@@ -231,8 +237,18 @@ impl Row {
     }
 }
 
+impl Timed for Row {
+    fn title(&self) -> String {
+        format!("{}, {}", self.calls.title, self.unit)
+    }
+
+    fn time(&mut self) -> f64 {
+        self.measure_proved() / self.calls.calls as f64
+    }
+}
+
 /// The rows of a unit: every kind of call on a copy of it, after both have been seen to agree.
-fn rows(random: &mut Random, unit: &'static str, shape: &Shape) -> Vec<Row> {
+fn rows_of(random: &mut Random, unit: &'static str, shape: &Shape) -> Vec<Row> {
     let mut pair = Pair::new(random, shape);
     let parts = needed(pair.proved.image(), shape);
     let entries = pair.proved.list().expect("a sound unit");
@@ -267,18 +283,24 @@ fn rows(random: &mut Random, unit: &'static str, shape: &Shape) -> Vec<Row> {
     kinds.map(row).into_iter().collect()
 }
 
-/// Measures and prints the table.
-pub fn run() {
+/// The rows of the table, not measured yet.
+pub fn rows() -> Vec<Row> {
     let random = &mut Random::new(5);
     let mut rows: Vec<Row> = UNITS
         .iter()
-        .flat_map(|(unit, shape)| rows(random, unit, shape))
+        .flat_map(|(unit, shape)| rows_of(random, unit, shape))
         .collect();
+    rows.sort_by_key(|row| row.calls.title);
+    rows
+}
+
+/// Measures and prints the table.
+pub fn run() {
+    let mut rows = rows();
     for _ in 0..ROUNDS {
         rows.iter_mut().for_each(Row::measure);
     }
     println!("| call | unit | second implementation, calls per second | proved, calls per second | time proved / second | time proved / reading | target |");
     println!("|---|---|--:|--:|--:|--:|---|");
-    rows.sort_by_key(|row| row.calls.title);
     rows.iter().for_each(Row::print);
 }

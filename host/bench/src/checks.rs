@@ -5,11 +5,12 @@ use std::hint::black_box;
 use std::ops::Range;
 
 use reference::generate::{shaped, Shape, Unit};
-use reference::layout::{Kit, BITS, ENTRY, KIT, MAP_SECTOR, PLACES, SECTOR, SYS_INDEX};
+use reference::layout::{bit_word, Kit, ENTRY, KIT, MAP_SECTOR, PLACES, SECTOR, SYS_INDEX};
 use reference::random::Random;
 use reference::{is_sound, perform, Message};
 use ruzkemp::{Entry, State};
 
+use crate::compare::Timed;
 use crate::shapes::{FEW, MANY, MIDDLE};
 use crate::timing::{is_file, needed, read, verdict, Fastest};
 
@@ -106,7 +107,7 @@ fn damaged(image: &[u16]) -> Vec<(&'static str, Vec<u16>)> {
     let mut twice = image.to_vec();
     twice.copy_within(one..one + 3, other);
     let mut freed = changed(KIT * SECTOR + 3, (kit.free + kit.s) as u16);
-    freed[MAP_SECTOR * SECTOR] |= BITS[0];
+    freed[MAP_SECTOR * SECTOR] |= bit_word(0);
     vec![
         ("N one more", changed(KIT * SECTOR + 2, kit.n as u16 + 1)),
         ("a name entered twice", twice),
@@ -147,7 +148,7 @@ fn open(unit: &mut Unit, number: usize) -> State {
 
 /// A row of the table: its unit, and the fastest times of reading, of the check in Rust and of
 /// the proved one.
-struct Row {
+pub struct Row {
     measured: &'static Measured,
     unit: Unit,
     state: State,
@@ -183,9 +184,14 @@ impl Row {
         self.rust.measure(|| {
             black_box(is_sound(black_box(image), black_box(state)));
         });
+        self.measure_proved();
+    }
+
+    fn measure_proved(&mut self) -> f64 {
+        let image = &self.unit.image;
         self.proved.measure(|| {
             black_box(ruzkemp::is_sound(black_box(image), black_box(&self.state)));
-        });
+        })
     }
 
     fn print(&self) {
@@ -198,6 +204,16 @@ impl Row {
     }
 }
 
+impl Timed for Row {
+    fn title(&self) -> String {
+        format!("Check, {}", self.measured.title)
+    }
+
+    fn time(&mut self) -> f64 {
+        self.measure_proved()
+    }
+}
+
 /// A target, and whether it is met.
 fn target(ratio: f64, most: Option<f64>) -> String {
     most.map_or(String::new(), |most| {
@@ -205,10 +221,15 @@ fn target(ratio: f64, most: Option<f64>) -> String {
     })
 }
 
+/// The rows of the table, not measured yet.
+pub fn rows() -> Vec<Row> {
+    let random = &mut Random::new(4);
+    ROWS.iter().map(|row| Row::new(random, row)).collect()
+}
+
 /// Measures and prints the table.
 pub fn run() {
-    let random = &mut Random::new(4);
-    let mut rows: Vec<Row> = ROWS.iter().map(|row| Row::new(random, row)).collect();
+    let mut rows = rows();
     for _ in 0..ROUNDS {
         rows.iter_mut().for_each(Row::measure);
     }

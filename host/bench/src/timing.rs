@@ -17,12 +17,15 @@ impl Fastest {
     /// Nothing timed yet.
     pub const NONE: Fastest = Fastest(f64::INFINITY);
 
-    /// Times a function, twice in a row, so that the second time is warm.
-    pub fn measure(&mut self, mut function: impl FnMut()) {
+    /// Times a function, twice in a row, so that the second time is warm; answers the faster one.
+    pub fn measure(&mut self, mut function: impl FnMut()) -> f64 {
+        let mut faster = f64::INFINITY;
         for _ in 0..2 {
             let repeats = (MICROSECONDS / self.0).clamp(1.0, 1_000.0) as usize;
-            self.0 = self.0.min(timed(&mut function, repeats));
+            faster = faster.min(timed(&mut function, repeats));
+            self.0 = self.0.min(faster);
         }
+        faster
     }
 }
 

@@ -37,12 +37,6 @@ pub const EXTENDABLE: u16 = 0x0001;
 /// Bit 0 of a word: the word is negative.
 pub const NEGATIVE: u16 = 0x8000;
 
-/// The sixteen words with one bit, bit 0 the highest.
-pub const BITS: [u16; 16] = [
-    0x8000, 0x4000, 0x2000, 0x1000, 0x0800, 0x0400, 0x0200, 0x0100, 0x0080, 0x0040, 0x0020, 0x0010,
-    0x0008, 0x0004, 0x0002, 0x0001,
-];
-
 /// The kit's six words.
 #[derive(Clone, Copy, PartialEq, Eq, Debug)]
 pub struct Kit {
@@ -221,9 +215,14 @@ pub fn legal_attributes(attributes: u16, slices: usize) -> bool {
         && (attributes & ENTRY_ONLY == 0 || slices == 0)
 }
 
+/// The word 1bN, which has bit N alone, bit 0 being the highest: 2 to the power 15 - N.
+pub fn bit_word(number: usize) -> u16 {
+    1 << (15 - number)
+}
+
 /// Whether the map marks a slice free: bit b of word w is slice 16 times w + b + 1.
 pub fn marked_free(image: &[u16], slice: usize) -> bool {
-    image[MAP_SECTOR * SECTOR + (slice - 1) / 16] & BITS[(slice - 1) % 16] != 0
+    image[MAP_SECTOR * SECTOR + (slice - 1) / 16] & bit_word((slice - 1) % 16) != 0
 }
 
 /// The ones in the map.

@@ -1,6 +1,6 @@
 //! Words of an image: where entries and indexes stand, and how a word is changed.
 
-use crate::layout::{stretches, Kit, BITS, ENTRY, SECTOR};
+use crate::layout::{bit_word, stretches, Kit, ENTRY, SECTOR};
 use crate::random::Random;
 use crate::sound::Entry;
 
@@ -9,7 +9,7 @@ pub(super) fn alter(random: &mut Random, word: u16) -> u16 {
     match random.below(8) {
         0 => word.wrapping_add(1),
         1 => word.wrapping_sub(1),
-        2 => word ^ random.pick(&BITS),
+        2 => word ^ bit_word(random.below(16)),
         3 => 0,
         4 => 0xFFFF,
         5 => random.below(130) as u16,

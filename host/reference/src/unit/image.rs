@@ -8,7 +8,7 @@ pub(super) fn zero_sector(image: &mut [u16], sector: usize) {
 
 pub(crate) fn mark(image: &mut [u16], slice: usize, free: bool) {
     let word = &mut image[MAP_SECTOR * SECTOR + (slice - 1) / 16];
-    let bit = BITS[(slice - 1) % 16];
+    let bit = bit_word((slice - 1) % 16);
     if free {
         *word |= bit;
     } else {

@@ -3,7 +3,7 @@
 use super::{names_in, Caller, Mix, Sizes};
 use crate::generate::builder::attributes;
 use crate::generate::names::in_message;
-use crate::layout::{Kit, BITS, KIT, MAP, SECTOR, SYS};
+use crate::layout::{bit_word, Kit, KIT, MAP, SECTOR, SYS};
 use crate::random::Random;
 use crate::sound::survey;
 use crate::types::{Name, State};
@@ -111,7 +111,7 @@ pub(super) fn any_attributes(random: &mut Random) -> u16 {
         0 => 0x0004,
         1 => 0x0005,
         2 => random.word(),
-        3 => random.pick(&BITS),
+        3 => bit_word(random.below(16)),
         _ => attributes(random),
     }
 }
