@@ -139,7 +139,7 @@ enum {
     RUZKEMP_CALL_REMOVE_AREA = 7,
     RUZKEMP_CALL_AREA_MESSAGE = 8,
     RUZKEMP_CALL_UNIT_DESCRIPTION = 9,
-    RUZKEMP_CALL_LISTING = 10
+    RUZKEMP_CALL_LISTING = 10 /* the entries come by name: see ruzkemp_list */
 };
 
 /* What an area message asks for; any other number is RUZKEMP_OPERATION_OTHER too, which is always refused. */
@@ -520,7 +520,8 @@ static inline ruzkemp_answer ruzkemp_describe(ruzkemp_unit *unit, uint16_t descr
     return ruzkemp_send(unit, message, description, RUZKEMP_DESCRIPTION_WORDS);
 }
 
-/* Listing: fills 16 words for each entry, in no stated order. As many words as the image has are always enough. */
+/* Listing: fills 16 words for each entry, SYS's and MAP's among them, by name: the entries' first words increase as unsigned numbers; where
+   two are equal, the second words do, and then the third. As many words as the image has are always enough. */
 static inline ruzkemp_answer ruzkemp_list(ruzkemp_unit *unit, uint16_t *entries, size_t entries_words)
 {
     ruzkemp_message message = ruzkemp_empty_message(RUZKEMP_CALL_LISTING);

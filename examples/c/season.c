@@ -49,24 +49,12 @@ static void show_free(ruzkemp_unit *unit)
     printf("  %u of %u sectors free\n", words[RUZKEMP_DESCRIPTION_FREE], words[RUZKEMP_DESCRIPTION_SECTORS]);
 }
 
-/* By name, first word first. */
-static int by_name(const void *one, const void *other)
-{
-    const uint16_t *a = (const uint16_t *)one;
-    const uint16_t *b = (const uint16_t *)other;
-    size_t i = 0;
-    while (i < 2 && a[i] == b[i])
-        i++;
-    return (a[i] > b[i]) - (a[i] < b[i]);
-}
-
-/* The listing's order is left open, so it is sorted here. */
+/* The listing comes by name, SYS and MAP in their places. */
 static void show_all(ruzkemp_unit *unit)
 {
     ruzkemp_answer answer = ruzkemp_list(unit, listing, sizeof listing / sizeof *listing);
     uint32_t i;
     expect("Listing", answer.result, RUZKEMP_OK);
-    qsort(listing, answer.entries, RUZKEMP_ENTRY_WORDS * sizeof *listing, by_name);
     for (i = 0; i < answer.entries; i++)
         show_entry(listing + i * RUZKEMP_ENTRY_WORDS);
 }

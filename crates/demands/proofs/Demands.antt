@@ -12,6 +12,7 @@ use Rattle.disc.specs.Words.{Words}
 use Rattle.disc.proofs.Compare.{same-or}
 use Rattle.plain.specs.Unit.{Plain}
 use Rattle.plain.specs.Questions.{Outcome}
+use Rattle.plain.specs.Step.{Reply, reply}
 use Rattle.plain.proofs.Keeps.{step-keeps}
 use Rattle.sound.specs.State.{Shaped}
 use Rattle.sound.specs.Sound.{SoundUnit}
@@ -32,6 +33,7 @@ use Rattle.demands.proofs.Determined.{determined, format-same}
 use Rattle.demands.proofs.Reserved.{reserved-sectors}
 use Rattle.demands.proofs.Slack.{slack-kept}
 use Rattle.demands.proofs.Whole.{written-whole}
+use Rattle.demands.proofs.Listing.{listed-by-name}
 
 -- ---- demand 1
 
@@ -70,7 +72,7 @@ module _ {image : List ℕ} {state : State} {unit : ℕ} {lent : List ℕ} where
   init-exactly (obeyed _ s all) k = (
     λ z. s,
     λ _. let x = sound-represents .reads image state s in
-        ap (λ (a : Answer). a .result) (all (x .0) (x .1) (x .2) .same .answer ∙ ap (λ (o : Outcome). o .answer) (init-done (x .1) (x .2) lent k)),
+        ap (λ (a : Reply). a .answer .result) (all (x .0) (x .1) (x .2) .same ∙ ap reply (init-done (x .1) (x .2) lent k)),
   )
 
   init-only : {r : Performed} → Performs image state (Init unit) lent r → r .answer .result ≡ 0 → Known state (Init unit)
@@ -152,4 +154,4 @@ after-init = record {
 }
 
 pub the-demands : TheDemands
-the-demands = record { first = demand-1; second = demand-2; third = demand-3; after-init = after-init; reserved = reserved-sectors; slack = slack-kept; whole = written-whole }
+the-demands = record { first = demand-1; second = demand-2; third = demand-3; after-init = after-init; reserved = reserved-sectors; slack = slack-kept; whole = written-whole; listing = listed-by-name }

@@ -3,9 +3,8 @@ use mathlib.Core.Path.{_≡_, sym, ap, ap₂, _∙_, subst}
 use mathlib.Core.List.{List, []}
 use mathlib.Core.Logic.{_≢_}
 use mathlib.Core.Option.{none, some}
-use Prim.Native.Nat.{ℕ, _+_, _*_, _<_}
+use Prim.Native.Nat.{ℕ, _<_}
 use native.Mathlib.Omega.{arith}
-use lib.ListN.{getD}
 use Rattle.types.specs.declared.Name.{Name}
 use Rattle.types.specs.declared.Answer.{Answer}
 use Rattle.types.specs.declared.State.{State}
@@ -16,9 +15,9 @@ use Rattle.disc.specs.Entries.{placeCount, nameAt}
 use Rattle.disc.proofs.Compare.{same-or, below-or}
 use Rattle.plain.specs.Table.{tableFind}
 use Rattle.plain.specs.Unit.{Plain, File}
-use Rattle.plain.specs.Questions.{Outcome}
+use Rattle.plain.specs.Questions.{Outcome, answer}
 use Rattle.plain.specs.Catalog.{stepChange}
-use Rattle.plain.specs.Step.{step}
+use Rattle.plain.specs.Step.{Reply}
 use Rattle.plain.specs.Good.{Good}
 use Rattle.plain.proofs.TableLaws.{some-inj, some≢none, find-put, find-remove, find-above}
 use Rattle.refine.specs.Represents.{Represents}
@@ -26,7 +25,7 @@ use Rattle.refine.specs.OnDisc.{OnDisc}
 use Rattle.refine.specs.Writes.{bookedImage, removedImage, createdImage, renamedImage}
 use Rattle.refine.specs.Replies.{Replies, refused, written}
 use Rattle.steps.proofs.Whole.{on-disc}
-use Rattle.refine.specs.Demands.{Performed, SameWords}
+use Rattle.refine.specs.Demands.{Performed}
 use Rattle.refine.proofs.StateLaws.{same-absent}
 use Rattle.refine.proofs.SoundRepresents.{sound-represents}
 use Rattle.names.specs.NameIs.{NameIs}
@@ -44,9 +43,7 @@ use Rattle.areas.specs.Areas.{AreaMade, AreaCreated, dummyCreate, made, AreaBoo
 use Rattle.change.specs.Change as change
 use Rattle.change.proofs.ChangeUnit.{change-grown}
 use Rattle.format.specs.declared.Formatted.{Formatted}
-use Rattle.perform.specs.Perform.{Wrote, Untouched, Performs, unknown, unsound, obeyed}
-use Rattle.perform.proofs.ObeyLaws.{words-equal}
-use Rattle.demands.specs.Demands.{SameResult}
+use Rattle.perform.specs.Perform.{performed, Wrote, Untouched, Performs, unknown, unsound, obeyed}
 
 -- ---- places
 
@@ -184,50 +181,17 @@ module _ {image : List ℕ} {state : State} {p : Plain} (g : Good p) (r : Repres
   wrote-same (UnitDescription unit bytes) lent x y e a b = (a .0 ∙ sym (b .0), a .1 ∙ sym (b .1))
   wrote-same (Listing unit) lent x y e a b = (a .0 ∙ sym (b .0), a .1 ∙ sym (b .1))
 
--- ---- the lent words
-
-pub words-join : (message : Message) (count : ℕ) (a b c : List ℕ) → SameWords message count a c → SameWords message count b c → SameWords message count a b
-words-join (Init unit) count a b c e f = e ∙ sym f
-words-join (Set name) count a b c e f = e ∙ sym f
-words-join (Create name size attributes) count a b c e f = e ∙ sym f
-words-join (LookUp name) count a b c e f = e ∙ sym f
-words-join (Change name) count a b c e f = e ∙ sym f
-words-join (Remove name) count a b c e f = e ∙ sym f
-words-join (CreateArea name) count a b c e f = e ∙ sym f
-words-join (RemoveArea name) count a b c e f = e ∙ sym f
-words-join (AreaMessage name sender operation) count a b c e f = e ∙ sym f
-words-join (UnitDescription unit bytes) count a b c e f = e ∙ sym f
-words-join (Listing unit) count a b c x y = record {
-  size = x .size ∙ sym (y .size);
-  to = λ t. y .back (x .to t);
-  back = λ t. x .back (y .to t);
-  to-inside = λ t h. y .back-inside (x .to t) (x .to-inside t h);
-  back-inside = λ t h. x .back-inside (y .to t) (y .to-inside t h);
-  to-back = λ t h. ap (y .back) (x .to-back (y .to t) (y .to-inside t h)) ∙ y .back-to t h;
-  back-to = λ t h. ap (x .back) (y .to-back (x .to t) (x .to-inside t h)) ∙ x .back-to t h;
-  same = λ t w h l.
-      x .same t w h l
-      ∙ ap (λ (k : ℕ). getD c (16 * k + w) 0) (sym (y .to-back (x .to t) (x .to-inside t h)))
-      ∙ sym (y .same (y .back (x .to t)) w (y .back-inside (x .to t) (x .to-inside t h)) l);
-  rest = λ k h. x .rest k h ∙ sym (y .rest k h);
-}
-
 -- ---- every call
 
-untouched-same : (message : Message) {word : ℕ} {image : List ℕ} {state : State} {lent : List ℕ} {x y : Performed} → Untouched word image state lent x → Untouched word image state lent y → SameResult message x y
-untouched-same message {lent = lent} {x} {y} a b = record {
-  image = a .same-image ∙ sym (b .same-image);
-  state = a .same-state ∙ sym (b .same-state);
-  answer = a .answered ∙ sym (b .answered);
-  words = words-equal message (x .answer .entries) (x .lent) (y .lent) (a .same-lent ∙ sym (b .same-lent));
-}
+untouched-is : {word : ℕ} {image : List ℕ} {state : State} {lent : List ℕ} {x : Performed} → Untouched word image state lent x → x ≡ performed image state (answer word 0 0 0) lent
+untouched-is u = λ i. record { image = u .same-image i; state = u .same-state i; answer = u .answered i; lent = u .same-lent i }
 
-pub determined : {image : List ℕ} {state : State} {message : Message} {lent : List ℕ} {x y : Performed} → Performs image state message lent x → Performs image state message lent y → SameResult message x y
-determined {message = message} (unknown _ a) (unknown _ b) = untouched-same message a b
+pub determined : {image : List ℕ} {state : State} {message : Message} {lent : List ℕ} {x y : Performed} → Performs image state message lent x → Performs image state message lent y → x ≡ y
+determined (unknown _ a) (unknown _ b) = untouched-is a ∙ sym (untouched-is b)
 determined (unknown n a) (unsound k _ b) = absurd (n k)
 determined (unknown n a) (obeyed k _ b) = absurd (n k)
 determined (unsound k _ a) (unknown n b) = absurd (n k)
-determined {message = message} (unsound _ _ a) (unsound _ _ b) = untouched-same message a b
+determined (unsound _ _ a) (unsound _ _ b) = untouched-is a ∙ sym (untouched-is b)
 determined (unsound _ n a) (obeyed _ s b) = absurd (n s)
 determined (obeyed k _ a) (unknown n b) = absurd (n k)
 determined (obeyed _ s a) (unsound _ n b) = absurd (n s)
@@ -235,15 +199,9 @@ determined {image} {state} {message} {lent} {x} {y} (obeyed k s a) (obeyed _ _ b
     let read = sound-represents .reads image state s in
     let oa = a (read .0) (read .1) (read .2) in
     let ob = b (read .0) (read .1) (read .2) in
-    let e = oa .same .answer ∙ sym (ob .same .answer) in
-    let w = wrote-same (read .1) (read .2) message lent x y e (oa .wrote) (ob .wrote) in
-    let count : step (read .0) message lent .answer .entries ≡ x .answer .entries = ap (λ (c : Answer). c .entries) (sym (oa .same .answer)) in
-    record {
-      image = w .0;
-      state = w .1;
-      answer = e;
-      words = subst (λ (n : ℕ). SameWords message n (x .lent) (y .lent)) count (words-join message _ (x .lent) (y .lent) _ (oa .same .words) (ob .same .words));
-    }
+    let e = oa .same ∙ sym (ob .same) in
+    let w = wrote-same (read .1) (read .2) message lent x y (ap (λ (r : Reply). r .answer) e) (oa .wrote) (ob .wrote) in
+    λ i. record { image = w .0 i; state = w .1 i; answer = e i .answer; lent = e i .lent }
 
 -- ---- two results of Format
 

@@ -15,6 +15,7 @@ pub mod LeftAlone
 pub mod Slack
 pub mod WholeBlocks
 pub mod Whole
+pub mod Listing
 pub mod Demands
 pub mod MapWords
 pub mod Paper

@@ -1,11 +1,10 @@
 -- The cases worked on paper, on the image: Format and Init accept, and from there on every list of calls is that of `paperUnit`.
-use mathlib.Core.Path.{_≡_, refl, sym, ap, ap₂, _∙_, subst}
+use mathlib.Core.Path.{_≡_, refl, sym, ap, _∙_, subst}
 use mathlib.Core.List.{List, [], _∷_}
 use mathlib.Core.Option.{Option, none, some}
 use Prim.Native.Nat.{ℕ}
 use native.Mathlib.Omega.{arith}
 use lib.ListN.{length, getD}
-use Rattle.types.specs.declared.Answer.{Answer}
 use Rattle.types.specs.declared.State.{State}
 use Rattle.types.specs.declared.Message.the-variants.{Init}
 use Rattle.disc.specs.Words.{word, Holds}
@@ -27,7 +26,6 @@ use Rattle.plain.specs.Cases.{callsOf, answersIn}
 use Rattle.plain.specs.Paper.{paperUnit, pass, slicesIn, passSlices, lookedUp, sixCalls, sevenCalls, eightCalls, sixth, seventh}
 use Rattle.plain.proofs.Paper.{paper}
 use Rattle.refine.specs.Represents.{Represents}
-use Rattle.refine.specs.Demands.{SameReplies, empty, then}
 use Rattle.refine.proofs.Format.{format-paper}
 use Rattle.known.specs.Known.{Known}
 use Rattle.format.specs.Format.{Formattable, Written, FormatAnswer, notLent, notAllowed, written}
@@ -101,12 +99,8 @@ module _ {calls : List Call} {replies : List Reply} {fresh end : List ℕ} {stop
           subst (λ (q : Plain). Represents (b .accepted .image) (b .accepted .state) q)
           (ap (λ (y : Outcome). y .unit) (init-done (fresh-unit .0) (fresh-unit .1) (b .lent) k)) (o .represents)
 
-  ends : LentWords calls → SameReplies calls replies (answers paperUnit calls) × Standing end stop (after paperUnit calls)
+  ends : LentWords calls → (replies ≡ answers paperUnit calls) × Standing end stop (after paperUnit calls)
   ends words = every-list begins words (b .run)
-
-same-answers : {calls : List Call} {a b : List Reply} → SameReplies calls a b → answersIn a ≡ answersIn b
-same-answers empty = refl
-same-answers (then one rest) = ap₂ (λ (x : Answer) (l : List Answer). x ∷ l) (one .answer) (same-answers rest)
 
 -- ---- words of the image
 
@@ -125,8 +119,8 @@ module _ {image : List ℕ} {state : State} {p : Plain} (s : Standing image stat
 
   looks-up : LookUpGives image state (lookedUp p 7) (lookedUp p 9)
   looks-up r c =
-      let e = one-call s (words-replicate 16 0xFFFF (omega arith)) c .0 .words in
-      (ap (λ (l : List ℕ). getD l 7 0) e, ap (λ (l : List ℕ). getD l 9 0) e)
+      let e = one-call s (words-replicate 16 0xFFFF (omega arith)) c .0 in
+      (ap (λ (x : Reply). getD (x .lent) 7 0) e, ap (λ (x : Reply). getD (x .lent) 9 0) e)
 
 -- ---- the lists
 
@@ -161,7 +155,7 @@ pub paper-on-image : PaperOnImage
 paper-on-image = record {
   accepted = λ b. (wrote b .word, init-zero b);
   formatted = λ b. fresh-unit b .1;
-  answered = λ cases shows words b. same-answers (ends b words .0) ∙ shows;
+  answered = λ cases shows words b. ap answersIn (ends b words .0) ∙ shows;
   unit = λ b words. let e = ends b words in (e .0, e .1 .represents);
   p5 = λ b. rw (wrote b .whole) (format-paper (b .image) (b .k6) (b .k7) (b .size));
   p6 = six;

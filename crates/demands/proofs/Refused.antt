@@ -5,41 +5,25 @@ use mathlib.Core.List.{List}
 use mathlib.Core.Logic.{_≢_}
 use Prim.Native.Nat.{ℕ}
 use native.Mathlib.Omega.{arith}
-use lib.Seq.{ext-getD}
 use Rattle.types.specs.declared.Answer.{Answer}
 use Rattle.types.specs.declared.State.{State}
 use Rattle.types.specs.declared.Message.{Message}
 use Rattle.types.specs.declared.Message.the-variants.{Init, Set, Create, LookUp, Change, Remove, CreateArea, RemoveArea, AreaMessage, UnitDescription, Listing}
 use Rattle.plain.specs.Unit.{Plain}
 use Rattle.plain.specs.Questions.{Outcome}
-use Rattle.plain.specs.Step.{step}
+use Rattle.plain.specs.Step.{Reply, step, reply}
 use Rattle.plain.specs.Good.{Good}
 use Rattle.plain.specs.Claims.{Left, everything}
 use Rattle.plain.proofs.PlainClaims.{plain-claims}
 use Rattle.refine.specs.Represents.{Represents}
 use Rattle.refine.specs.Replies.{Replies, refused, written}
-use Rattle.refine.specs.Demands.{Performed, SameWords}
+use Rattle.refine.specs.Demands.{Performed}
 use Rattle.known.specs.Known.{Known}
 use Rattle.perform.specs.Perform.{Obeyed}
 use Rattle.perform.proofs.ObeyLaws.{known-yes, init-done}
 use Rattle.demands.specs.Demands.{StateLeft, RefusedLater}
 use Rattle.demands.specs.Demands as demands
 use Rattle.demands.proofs.AreaRefused.{refused-image, refused-state}
-
--- ---- the lent words: where no entry is listed, those of a listing are equal
-
-words-same : (message : Message) (count : ℕ) (a b : List ℕ) → count ≡ 0 → SameWords message count a b → a ≡ b
-words-same (Init unit) count a b z e = e
-words-same (Set name) count a b z e = e
-words-same (Create name size attributes) count a b z e = e
-words-same (LookUp name) count a b z e = e
-words-same (Change name) count a b z e = e
-words-same (Remove name) count a b z e = e
-words-same (CreateArea name) count a b z e = e
-words-same (RemoveArea name) count a b z e = e
-words-same (AreaMessage name sender operation) count a b z e = e
-words-same (UnitDescription unit bytes) count a b z e = e
-words-same (Listing unit) count a b z e = ext-getD 0 a b (e .size) (λ k h. e .rest k (omega arith))
 
 -- ---- image and state
 
@@ -50,7 +34,7 @@ same nz (written z q e w) = absurd (nz z)
 module _ {image : List ℕ} {state : State} {p : Plain} (g : Good p) (rep : Represents image state p) {lent : List ℕ} {r : Performed} where
   left : (message : Message) → Known state message → Obeyed p image state message lent r → r .answer .result ≢ 0 → (q : Plain) → step p message lent .unit ≡ q → Left p message q
       → (r .image ≡ image) × StateLeft p q state (r .state) message
-  left (Init unit) k o nz q e l = absurd (nz (ap (λ (a : Answer). a .result) (o .same .answer ∙ ap (λ (x : Outcome). x .answer) (init-done g rep lent k))))
+  left (Init unit) k o nz q e l = absurd (nz (ap (λ (x : Reply). x .answer .result) (o .same ∙ ap reply (init-done g rep lent k))))
   left (Set name) k o nz q e everything = (same nz (o .wrote .0 .step), demands.everything refl (o .wrote .1))
   left (Create name size attributes) k o nz q e everything = (same nz (o .wrote .0 .step lent), demands.everything refl (o .wrote .1))
   left (LookUp name) k o nz q e everything = (o .wrote .0, demands.everything refl (o .wrote .1))
@@ -71,7 +55,7 @@ module _ {image : List ℕ} {state : State} {p : Plain} (g : Good p) (rep : Repr
 
   pub refused-later : (message : Message) → Known state message → Obeyed p image state message lent r → r .answer .result ≢ 0 → RefusedLater p image state message lent r
   refused-later message k o nz =
-      let e = o .same .answer in
+      let e = ap (λ (x : Reply). x .answer) (o .same) in
       let c = plain-claims .refuses p message lent (λ z. nz (ap (λ (a : Answer). a .result) e ∙ z)) in
       let s = left message k o nz _ refl (c .unit) in
       record {
@@ -79,6 +63,6 @@ module _ {image : List ℕ} {state : State} {p : Plain} (g : Good p) (rep : Repr
         bytes = ap (λ (a : Answer). a .bytes) e ∙ c .bytes;
         entries = ap (λ (a : Answer). a .entries) e ∙ c .entries;
         same-image = s .0;
-        same-lent = words-same message _ (r .lent) _ (c .entries) (o .same .words) ∙ c .words;
+        same-lent = ap (λ (x : Reply). x .lent) (o .same) ∙ c .words;
         same-state = s .1;
       }

@@ -4,17 +4,16 @@ use mathlib.Core.List.{List}
 use Prim.Native.Nat.{ℕ, _≤_}
 use native.Mathlib.Omega.{arith}
 use lib.ListN.{length, getD}
-use Rattle.types.specs.declared.Answer.{Answer}
 use Rattle.types.specs.declared.State.{State}
 use Rattle.types.specs.declared.Message.{Message}
 use Rattle.types.specs.declared.Message.the-variants.{Init, Set, Create, LookUp, Change, Remove, CreateArea, RemoveArea, AreaMessage, UnitDescription, Listing}
 use Rattle.disc.specs.Words.{Words}
 use Rattle.plain.specs.Unit.{Plain, File}
-use Rattle.plain.specs.Step.{step}
+use Rattle.plain.specs.Step.{Reply}
 use Rattle.plain.specs.Good.{Good}
 use Rattle.sound.specs.Sound.{SoundUnit}
 use Rattle.refine.specs.Represents.{Represents}
-use Rattle.refine.specs.Demands.{Performed, SameWords}
+use Rattle.refine.specs.Demands.{Performed}
 use Rattle.refine.proofs.SoundRepresents.{sound-represents}
 use Rattle.steps.specs.Units.{grownUnit}
 use Rattle.grow.specs.Grow.{GrownFrom}
@@ -25,10 +24,9 @@ use Rattle.areas.specs.Areas.{AreaRemoved, dummyRemove, books}
 use Rattle.format.specs.declared.Formatted.{Formatted}
 use Rattle.format.specs.Format.{lentKeys, lentSlice, lentFirst, lentSectors, formattedBy, Formattable, FormatAnswer, notLent, notAllowed}
 use Rattle.format.specs.Format as format
-use Rattle.perform.proofs.ObeyLaws.{words-equal}
 use Rattle.perform.specs.Perform.{Wrote, Untouched, Obeyed, Performs, unknown, unsound, obeyed}
 use Rattle.demands.specs.Reserved.{SameReserved, SameOthers, SameButReserved, ReservedSectors}
-use Rattle.demands.proofs.Determined.{wrote-same, words-join, format-same}
+use Rattle.demands.proofs.Determined.{wrote-same, format-same}
 use Rattle.demands.proofs.ReplyLaws.{replies-cases}
 use Rattle.demands.proofs.Overlaid.{overlaid, overlaid-is, overlaid-others, Beyond, beyond-kept}
 use Rattle.demands.proofs.OverlaidWrites.{beyond-removed, beyond-grown, beyond-created, beyond-changed, beyond-renamed, beyond-booked, beyond-message, beyond-formatted}
@@ -104,13 +102,12 @@ sound-same : {a b : List ℕ} {state : State} → SameOthers a b → Words b →
 sound-same {a} {b} {state} s w u = subst (λ (i : List ℕ). SoundUnit i state) (overlaid-is a b s) (sound-overlaid b w u)
 
 -- two calls that the first or the second question refuses
-untouched-alike : (message : Message) {word : ℕ} {a b : List ℕ} {state : State} {lent : List ℕ} {r q : Performed} → SameOthers a b → Untouched word a state lent r → Untouched word b state lent q
-    → SameButReserved message r q
-untouched-alike message {r = r} {q = q} same x y = record {
+untouched-alike : {word : ℕ} {a b : List ℕ} {state : State} {lent : List ℕ} {r q : Performed} → SameOthers a b → Untouched word a state lent r → Untouched word b state lent q → SameButReserved r q
+untouched-alike same x y = record {
   image = rw (x .same-image, y .same-image) same;
   state = x .same-state ∙ sym (y .same-state);
   answer = x .answered ∙ sym (y .answered);
-  words = words-equal message (r .answer .entries) (r .lent) (q .lent) (x .same-lent ∙ sym (y .same-lent));
+  words = x .same-lent ∙ sym (y .same-lent);
 }
 
 -- two that are obeyed: what is written on a, with the words of b in sectors 0 to 5, is what is written on b
@@ -118,27 +115,27 @@ module _ {a b : List ℕ} {state : State} {p : Plain} (same : SameOthers a b) (w
   represents-same : Represents b state p
   represents-same = subst (λ (i : List ℕ). Represents i state p) (overlaid-is a b same) (represents-overlaid b words g rep)
 
-  obeyed-alike : (message : Message) (lent : List ℕ) (r q : Performed) → Obeyed p a state message lent r → Obeyed p b state message lent q → SameButReserved message r q
+  obeyed-alike : (message : Message) (lent : List ℕ) (r q : Performed) → Obeyed p a state message lent r → Obeyed p b state message lent q → SameButReserved r q
   obeyed-alike message lent r q x y =
-      let e = x .same .answer ∙ sym (y .same .answer) in
+      let s = x .same ∙ sym (y .same) in
+      let e = ap (λ (c : Reply). c .answer) s in
       let moved : Wrote p b state message lent (elsewhere b r) = subst (λ (i : List ℕ). Wrote p i state message lent (elsewhere b r)) (overlaid-is a b same)
       (wrote-overlaid b p (data-low g) a state message lent r words (x .wrote)) in
       let w = wrote-same g represents-same message lent (elsewhere b r) q e moved (y .wrote) in
-      let count : step p message lent .answer .entries ≡ r .answer .entries = ap (λ (c : Answer). c .entries) (sym (x .same .answer)) in
       record {
         image = subst (SameOthers (r .image)) (w .0) (overlaid-others b (r .image));
         state = w .1;
         answer = e;
-        words = subst (λ (n : ℕ). SameWords message n (r .lent) (q .lent)) count (words-join message _ (r .lent) (q .lent) _ (x .same .words) (y .same .words));
+        words = ap (λ (c : Reply). c .lent) s;
       }
 
 call-alike : {a b : List ℕ} {state : State} {message : Message} {lent : List ℕ} {r q : Performed} → SameOthers a b → Words a → Words b → Performs a state message lent r → Performs b state message lent q
-    → SameButReserved message r q
-call-alike {message = message} s wa wb (unknown _ x) (unknown _ y) = untouched-alike message s x y
+    → SameButReserved r q
+call-alike s wa wb (unknown _ x) (unknown _ y) = untouched-alike s x y
 call-alike s wa wb (unknown n x) (unsound k _ y) = absurd (n k)
 call-alike s wa wb (unknown n x) (obeyed k _ y) = absurd (n k)
 call-alike s wa wb (unsound k _ x) (unknown n y) = absurd (n k)
-call-alike {message = message} s wa wb (unsound _ _ x) (unsound _ _ y) = untouched-alike message s x y
+call-alike s wa wb (unsound _ _ x) (unsound _ _ y) = untouched-alike s x y
 call-alike s wa wb (unsound _ n x) (obeyed _ t y) = absurd (n (sound-same (others-back s) wa t))
 call-alike s wa wb (obeyed k _ x) (unknown n y) = absurd (n k)
 call-alike s wa wb (obeyed _ t x) (unsound _ n y) = absurd (n (sound-same s wb t))

@@ -20,13 +20,14 @@ use Rattle.plain.specs.Claims.{LentWords, Moves, OnlyMoved}
 use Rattle.sound.specs.State.{Shaped}
 use Rattle.sound.specs.Sound.{SoundUnit}
 use Rattle.refine.specs.Represents.{Represents}
-use Rattle.refine.specs.Demands.{Performed, Contract, Run, SameWords, AcceptedState, Demand3After, Demand3}
+use Rattle.refine.specs.Demands.{Performed, Contract, Run, AcceptedState, Demand3After, Demand3}
 use Rattle.sharing.specs.Sharing.{atPosition}
 use Rattle.known.specs.Known.{unknownWord, unsoundWord, Known}
 use Rattle.format.specs.declared.Formatted.{Formatted}
 use Rattle.format.specs.Format.{FormatAnswer}
 use Rattle.perform.specs.Perform.{Untouched, Obeyed, Performs}
 use Rattle.demands.specs.FormatContract.{FormatContract}
+use Rattle.demands.specs.Listing.{ListedByName}
 use Rattle.demands.specs.Reserved.{ReservedSectors}
 use Rattle.demands.specs.Slack.{SlackKept}
 use Rattle.demands.specs.Whole.{WrittenWhole}
@@ -74,20 +75,13 @@ pub data Answered (image : List ℕ) (state : State) (message : Message) (lent :
   done : Known state message → SoundUnit image state → (p : Plain) → ReadFrom image state p → r .answer .result ≡ 0 → Obeyed p image state message lent r
       → Answered image state message lent r
 
--- Two results of one call are the same, but for a listing's order.
-pub record SameResult (message : Message) (r q : Performed) : Type 0 where
-  pub image : r .image ≡ q .image
-  pub state : r .state ≡ q .state
-  pub answer : r .answer ≡ q .answer
-  pub words : SameWords message (r .answer .entries) (r .lent) (q .lent)
-
 -- "Every call ends with a result word", whatever image, state, message and lent words are; Format's questions and what it writes are
 -- those of `FormatAnswer`.
 pub record Demand1 (C : Contract) (F : FormatContract) : Type 0 where
   pub call : {image : List ℕ} {state : State} {message : Message} {lent : List ℕ} {r : Performed} → C image state message lent r → Answered image state message lent r
   pub format : {image : List ℕ} {state : State} {bytes : ℕ} {lent after : List ℕ} {r : Formatted} → F image state bytes lent after r → FormatAnswer image state bytes lent after r
-  -- every word of answer, image, state and lent words is determined: "only the listing's order is free"
-  pub determined : {image : List ℕ} {state : State} {message : Message} {lent : List ℕ} {r q : Performed} → C image state message lent r → C image state message lent q → SameResult message r q
+  -- every word of answer, image, state and lent words is determined; a listing's order too, by document 02, R-1
+  pub determined : {image : List ℕ} {state : State} {message : Message} {lent : List ℕ} {r q : Performed} → C image state message lent r → C image state message lent q → r ≡ q
   pub format-determined : {image : List ℕ} {state : State} {bytes : ℕ} {lent a b : List ℕ} {r q : Formatted} → F image state bytes lent a r → F image state bytes lent b q → (a ≡ b) × (r ≡ q)
 
 -- ---- demand 2
@@ -127,7 +121,7 @@ pub record AfterInit (C : Contract) : Type 0 where
       → C image state (Init unit) words r → r .answer .result ≡ 0 → LentWords calls → Run C (r .image) (r .state) calls replies end stop
       → Demand3After (r .image) (r .state) calls replies end stop
 
--- ---- the three demands, and what document 01 says of every call beside them
+-- ---- the three demands, and what documents 01 and 02 say of the calls beside them
 
 pub record Demands (C : Contract) (F : FormatContract) : Type 0 where
   pub first : Demand1 C F
@@ -140,6 +134,8 @@ pub record Demands (C : Contract) (F : FormatContract) : Type 0 where
   pub slack : SlackKept C
   -- "In the image an emptied place is zeroed and an index block is written whole when its file's slices change."
   pub whole : WrittenWhole C
+  -- Document 02, R-1: "The listing shall come by name".
+  pub listing : ListedByName C
 
 -- The same of the very contracts of `perform::perform` and `format::format`.
 abbrev pub TheDemands : Type 0

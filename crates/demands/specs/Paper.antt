@@ -16,7 +16,7 @@ use Rattle.plain.specs.Cases.{Case, callsOf, expected, answersIn, Shows}
 use Rattle.plain.specs.Paper.{paperUnit, pass, sixCalls, sevenCalls, eightCalls}
 use Rattle.sound.specs.State.{Shaped}
 use Rattle.refine.specs.Represents.{Represents}
-use Rattle.refine.specs.Demands.{Performed, Run, SameReplies}
+use Rattle.refine.specs.Demands.{Performed, Run}
 use Rattle.format.specs.declared.Formatted.{Formatted}
 use Rattle.format.specs.Format.{FormatAnswer}
 use Rattle.perform.specs.Perform.{Performs}
@@ -59,7 +59,7 @@ pub record PaperOnImage : Type 0 where
       → Represents fresh (b .formatted .state) paperUnit
   -- after Init every list of calls is answered as from that unit, and leaves what it has become
   pub unit : {calls : List Call} {replies : List Reply} {fresh end : List ℕ} {stop : State} → FromFormat calls replies fresh end stop → LentWords calls
-      → SameReplies calls replies (answers paperUnit calls) × Represents end stop (after paperUnit calls)
+      → (replies ≡ answers paperUnit calls) × Represents end stop (after paperUnit calls)
   -- so the cases of `Paper` that begin with `paperUnit` hold of these calls: P6 to P8 accepted, "size 8 on the fresh unit, 1100h; size 7, accepted"
   pub answered : (cases : List Case) {replies : List Reply} {fresh end : List ℕ} {stop : State} → Shows paperUnit cases → LentWords (callsOf cases)
       → FromFormat (callsOf cases) replies fresh end stop → answersIn replies ≡ expected cases

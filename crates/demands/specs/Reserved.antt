@@ -9,7 +9,7 @@ use Rattle.types.specs.declared.Message.{Message}
 use Rattle.disc.specs.Words.{Words}
 use Rattle.disc.specs.Kit.{sysIndexSector}
 use Rattle.sound.specs.Sound.{SoundUnit}
-use Rattle.refine.specs.Demands.{Performed, Contract, SameWords}
+use Rattle.refine.specs.Demands.{Performed, Contract}
 use Rattle.format.specs.declared.Formatted.{Formatted}
 use Rattle.demands.specs.FormatContract.{FormatContract}
 
@@ -27,13 +27,12 @@ pub record SameOthers (a b : List ℕ) : Type 0 where
   pub size : length a ≡ length b
   pub words : (k : ℕ) → reservedWords ≤ k → getD a k 0 ≡ getD b k 0
 
--- Two results of one call: the same answer, state and lent words, but for a listing's order, and images that may differ in sectors 0 to
--- 5 alone.
-pub record SameButReserved (message : Message) (r q : Performed) : Type 0 where
+-- Two results of one call: the same answer, state and lent words, and images that may differ in sectors 0 to 5 alone.
+pub record SameButReserved (r q : Performed) : Type 0 where
   pub image : SameOthers (r .image) (q .image)
   pub state : r .state ≡ q .state
   pub answer : r .answer ≡ q .answer
-  pub words : SameWords message (r .answer .entries) (r .lent) (q .lent)
+  pub words : r .lent ≡ q .lent
 
 -- "Sectors 0 to 5 are never read or written", whatever image, state, message and lent words are.
 pub record ReservedSectors (C : Contract) (F : FormatContract) : Type 0 where
@@ -42,7 +41,7 @@ pub record ReservedSectors (C : Contract) (F : FormatContract) : Type 0 where
   -- never read: whatever words they hold, the unit is sound or is not, and a call does the same
   pub sound : {a b : List ℕ} {state : State} → SameOthers a b → Words a → Words b → SoundUnit a state ↔ SoundUnit b state
   pub read : {a b : List ℕ} {state : State} {message : Message} {lent : List ℕ} {r q : Performed} → SameOthers a b → Words a → Words b → C a state message lent r
-      → C b state message lent q → SameButReserved message r q
+      → C b state message lent q → SameButReserved r q
   -- Format
   pub format-written : {image : List ℕ} {state : State} {bytes : ℕ} {lent after : List ℕ} {r : Formatted} → F image state bytes lent after r → SameReserved image after
   pub format-read : {a b : List ℕ} {state : State} {bytes : ℕ} {lent afterA afterB : List ℕ} {r q : Formatted} → SameOthers a b → F a state bytes lent afterA r

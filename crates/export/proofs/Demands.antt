@@ -14,7 +14,7 @@ use Rattle.state.specs.Areas.{hasId}
 use Rattle.state.proofs.SearchLaws.{first-at}
 use Rattle.plain.specs.Unit.{Plain}
 use Rattle.sound.specs.Sound.{SoundUnit}
-use Rattle.refine.specs.Demands.{AcceptedState}
+use Rattle.refine.specs.Demands.{Performed, AcceptedState}
 use Rattle.refine.proofs.StateLaws.{named-inside}
 use Rattle.known.specs.Known.{Known}
 use Rattle.format.specs.declared.Formatted.{Formatted}
@@ -29,10 +29,10 @@ use Rattle.export.specs.declared.UnitAnswer.{UnitAnswer}
 use Rattle.export.specs.declared.UnitMessage.{UnitMessage}
 use Rattle.export.specs.declared.UnitState.{UnitState}
 use Rattle.export.specs.Mirror.{Arrays, stateOf, remirrored}
-use Rattle.export.specs.Calls.{askedOf, answerOf, UnitPerformed, UnitCalled, performedOf, UnitPerforms, call, noSuchCall, UnitFormatted, formattedOf, UnitFormats}
+use Rattle.export.specs.Calls.{askedOf, answerOf, UnitPerformed, unitPerformed, UnitCalled, performedOf, noSuchAnswer, NotCalled, UnitPerforms, call, noSuchCall, UnitFormatted, formattedOf, UnitFormats}
 use Rattle.export.specs.Runs.{UnitCall, UnitReply, UnitRun, empty, then, UnitLater, here}
 use Rattle.export.specs.Runs as runs
-use Rattle.export.specs.Demands.{MirrorLeft, UnitRefused, UnitAnswered, UnitSameWords, UnitSameResult, UnitDemand1, UnitDemand2, UnitDemand3After, UnitDemand3, TheUnitDemands}
+use Rattle.export.specs.Demands.{MirrorLeft, UnitRefused, UnitAnswered, UnitDemand1, UnitDemand2, UnitDemand3After, UnitDemand3, TheUnitDemands}
 use Rattle.export.specs.Demands as unit
 use Rattle.export.proofs.MirrorLaws.{state-shaped, same-state, mirror-positioned}
 use Rattle.export.proofs.CallLaws.{above, no-number}
@@ -107,24 +107,18 @@ format-refused {image} {state} {bytes} {lent} {r} f nz = go (f .formats)
 answer-same : (a b : UnitAnswer) → answerOf a ≡ answerOf b → a ≡ b
 answer-same a b e = λ i. record { result = e i .result; bytes = e i .bytes; block = e i .block .0; entries = e i .entries }
 
-unit-determined : {image : List ℕ} {state : UnitState} {message : UnitMessage} {lent : List ℕ} {r q : UnitPerformed} → UnitPerforms image state message lent r → UnitPerforms image state message lent q
-    → UnitSameResult message r q
-unit-determined {image} {state} {message} {lent} {r} {q} (call m e c) d =
+not-called-is : {image : List ℕ} {state : UnitState} {lent : List ℕ} {r : UnitPerformed} → NotCalled image state lent r → r ≡ unitPerformed image state noSuchAnswer lent
+not-called-is c = λ i. record { image = c .same-image i; state = c .same-mirror i; answer = c .answered i; lent = c .same-lent i }
+
+unit-determined : {image : List ℕ} {state : UnitState} {message : UnitMessage} {lent : List ℕ} {r q : UnitPerformed} → UnitPerforms image state message lent r → UnitPerforms image state message lent q → r ≡ q
+unit-determined {state} {r} {q} (call m e c) d =
     let x = called-as d e in
     let s = demand-1 .determined (c .performs) (x .performs) in
-    record {
-      image = s .image;
-      mirror = c .mirror ∙ ap (remirrored state) (s .state) ∙ sym (x .mirror);
-      answer = answer-same (r .answer) (q .answer) (s .answer);
-      words = subst (λ (a : Asked). UnitSameWords a (r .answer .entries) (r .lent) (q .lent)) (sym e) (s .words);
-    }
+    let mirror : r .state ≡ q .state = c .mirror ∙ ap (λ (y : Performed). remirrored state (y .state)) s ∙ sym (x .mirror) in
+    let same = answer-same (r .answer) (q .answer) (ap (λ (y : Performed). y .answer) s) in
+    λ i. record { image = s i .image; state = mirror i; answer = same i; lent = s i .lent }
 unit-determined (noSuchCall e c) (call m f d) = no-call f e
-unit-determined {r} {q} (noSuchCall e c) (noSuchCall _ d) = record {
-  image = c .same-image ∙ sym (d .same-image);
-  mirror = c .same-mirror ∙ sym (d .same-mirror);
-  answer = c .answered ∙ sym (d .answered);
-  words = subst (λ (a : Asked). UnitSameWords a (r .answer .entries) (r .lent) (q .lent)) (sym e) (c .same-lent ∙ sym (d .same-lent));
-}
+unit-determined (noSuchCall e c) (noSuchCall _ d) = not-called-is c ∙ sym (not-called-is d)
 
 format-determined : {image : List ℕ} {state : UnitState} {bytes : ℕ} {lent : List ℕ} {r q : UnitFormatted} → UnitFormats image state bytes lent r → UnitFormats image state bytes lent q → r ≡ q
 format-determined {state} {r} {q} f g =

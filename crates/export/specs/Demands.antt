@@ -16,7 +16,7 @@ use Rattle.state.specs.Areas.{areaNamed, entryOf}
 use Rattle.plain.specs.Step.{Call, Reply}
 use Rattle.plain.specs.Claims.{Moves}
 use Rattle.sound.specs.Sound.{SoundUnit}
-use Rattle.refine.specs.Demands.{SameWords, AcceptedState, Demand3After}
+use Rattle.refine.specs.Demands.{AcceptedState, Demand3After}
 use Rattle.known.specs.Known.{Known}
 use Rattle.format.specs.Format.{FormatAnswer}
 use Rattle.demands.specs.Demands.{Answered}
@@ -51,17 +51,6 @@ pub data UnitAnswered (image : List ℕ) (state : UnitState) (message : UnitMess
       → UnitAnswered image state message lent r
   noSuchCall : askedOf message ≡ asked.NoSuchCall → NotCalled image state lent r → UnitAnswered image state message lent r
 
--- Two results of one call are the same, but for a listing's order.
-abbrev pub UnitSameWords : Asked → ℕ → List ℕ → List ℕ → Type 0
-UnitSameWords (asked.Call m) count a b = SameWords m count a b
-UnitSameWords asked.NoSuchCall count a b = a ≡ b
-
-pub record UnitSameResult (message : UnitMessage) (r q : UnitPerformed) : Type 0 where
-  pub image : r .image ≡ q .image
-  pub mirror : r .state ≡ q .state
-  pub answer : r .answer ≡ q .answer
-  pub words : UnitSameWords (askedOf message) (r .answer .entries) (r .lent) (q .lent)
-
 pub record UnitDemand1 (C : UnitContract) (F : UnitFormatContract) : Type 0 where
   -- the numbers of the calls are 0 to 10
   pub numbers : (message : UnitMessage) → (10 < message .call) ↔ (askedOf message ≡ asked.NoSuchCall)
@@ -76,9 +65,8 @@ pub record UnitDemand1 (C : UnitContract) (F : UnitFormatContract) : Type 0 wher
       → FormatAnswer image (stateOf state) bytes lent (r .image) (formattedOf r) × (r .state ≡ remirrored state (stateOf (r .state)))
   pub format-refused : {image : List ℕ} {state : UnitState} {bytes : ℕ} {lent : List ℕ} {r : UnitFormatted} → F image state bytes lent r → r .result ≢ 0
       → (r .image ≡ image) × (r .state ≡ state)
-  -- every word is determined: "only the listing's order is free"
-  pub determined : {image : List ℕ} {state : UnitState} {message : UnitMessage} {lent : List ℕ} {r q : UnitPerformed} → C image state message lent r → C image state message lent q
-      → UnitSameResult message r q
+  -- every word of answer, image, mirror and lent words is determined; a listing's order too, by document 02, R-1
+  pub determined : {image : List ℕ} {state : UnitState} {message : UnitMessage} {lent : List ℕ} {r q : UnitPerformed} → C image state message lent r → C image state message lent q → r ≡ q
   pub format-determined : {image : List ℕ} {state : UnitState} {bytes : ℕ} {lent : List ℕ} {r q : UnitFormatted} → F image state bytes lent r → F image state bytes lent q → r ≡ q
 
 -- ---- demand 2: as `Demand2`, of the states that the mirrors stand for

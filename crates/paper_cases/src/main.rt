@@ -1,7 +1,10 @@
 // Document 01's section 'Worked on paper', run: H = 1, s = 2, N = 20, F = 10. A line for each call has the result word, the byte
 // count and the block handed back, and words 0, 7 and 9 of the words lent; a line for the image has map word 0, the free sectors and
 // the first three words of sector 12, where the index block of the first file stands. The expected lines are derived from document 01.
+// Then the listing by name (document 02, R-1): a line for the call has the result word and the number of entries, and a line for each
+// entry its name and its words 7 to 9. The expected lines are derived from document 02.
 
+ghost use Prim.Native.Nat.{_+_, _≤_};
 use types::Message;
 use types::Name;
 use types::Operation;
@@ -149,7 +152,7 @@ fn release(sender: u16) -> Message {
 }
 
 // P8: the area removed once it has no user.
-fn closing(image: &mut Disc, state: State) {
+fn closing(image: &mut Disc, state: State) -> State {
     let one = call(image, state, release(1), 0, b"release 1:");
     let two = call(image, one, release(2), 0, b"release 2:");
     let three = call(image, two, release(3), 0, b"release 3:");
@@ -160,7 +163,7 @@ fn closing(image: &mut Disc, state: State) {
         0,
         b"remove area:",
     );
-    call(
+    let seen = call(
         image,
         closed,
         Message::LookUp { name: pass() },
@@ -168,6 +171,77 @@ fn closing(image: &mut Disc, state: State) {
         b"look-up:",
     );
     show(image);
+    seen
+}
+
+// A file of no sectors.
+fn empty(image: &mut Disc, state: State, name: Name) -> State {
+    let message = Message::Create {
+        name: name,
+        size: 0,
+        attributes: 0,
+    };
+    call(image, state, message, 0, b"size 0:")
+}
+
+// Files whose places are in another order than their names: two that differ in the third word only, one after SYS, one before MAP.
+fn entered(image: &mut Disc, state: State) -> State {
+    let one = empty(image, state, Name(0x5A5A, 0x5A5A, 0x5A00));
+    let two = empty(image, one, Name(0x5041, 0x5353, 0x4200));
+    let three = empty(image, two, Name(0x5041, 0x5353, 0x4100));
+    empty(image, three, Name(0x4100, 0, 0))
+}
+
+// A listing into the words lent; its line.
+fn list(image: &mut Disc, state: State, words: &mut [u16], text: &[u8]) -> State {
+    let done = lent::drive(state, image, words, Message::Listing { unit: 0 });
+    let answer = done.answer;
+    io::write_all(1, text);
+    number(answer.result);
+    io::write_all(1, b" ");
+    io::print_hex(1, answer.entries as u64, 4);
+    io::write_all(1, b"\n");
+    let next = done.state;
+    next
+}
+
+// The line of the entry from word `at` on.
+fn entry(words: &[u16; 113], at: usize)
+    requires { ⌜ at + 16 ≤ 113 ⌝ }
+{
+    io::write_all(1, b"entry:");
+    number(words[at]);
+    number(words[at + 1]);
+    number(words[at + 2]);
+    number(words[at + 7]);
+    number(words[at + 8]);
+    number(words[at + 9]);
+    io::write_all(1, b"\n");
+}
+
+// The listing of seven entries into one word more than they need, which keeps its word; into one word too few, and into none.
+fn listing(image: &mut Disc, state: State) {
+    let made = entered(image, state);
+    let mut words = [9u16; 113];
+    let listed = list(image, made, &mut words, b"listing, 113 words:");
+    entry(&words, 0);
+    entry(&words, 16);
+    entry(&words, 32);
+    entry(&words, 48);
+    entry(&words, 64);
+    entry(&words, 80);
+    entry(&words, 96);
+    io::write_all(1, b"word 112:");
+    number(words[112]);
+    io::write_all(1, b"\n");
+    let mut few = [9u16; 111];
+    let short = list(image, listed, &mut few, b"listing, 111 words:");
+    io::write_all(1, b"words 0 and 110:");
+    number(few[0]);
+    number(few[110]);
+    io::write_all(1, b"\n");
+    let mut none = [9u16; 0];
+    list(image, short, &mut none, b"listing, no words:");
 }
 
 fn main() {
@@ -175,5 +249,6 @@ fn main() {
     let made = sizes(&mut image);
     let written = outputs(&mut image, made);
     let shared = users(&mut image, written);
-    closing(&mut image, shared);
+    let closed = closing(&mut image, shared);
+    listing(&mut image, closed);
 }

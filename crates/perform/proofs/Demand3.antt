@@ -1,7 +1,7 @@
 -- Demand 3: one claim over every list of calls, by induction over the list.
-use mathlib.Core.Path.{_≡_, refl, sym, ap, _∙_}
+use mathlib.Core.Path.{_≡_, refl, sym, ap, ap₂, _∙_}
 use mathlib.Core.Bool.{Bool, true, false, not}
-use mathlib.Core.List.{List}
+use mathlib.Core.List.{List, _∷_}
 use mathlib.Core.Logic.{_≢_}
 use Prim.Native.Nat.{ℕ, _≤_, _<_}
 use native.Mathlib.Omega.{arith}
@@ -14,7 +14,7 @@ use Rattle.types.specs.State.{areaAt}
 use Rattle.disc.proofs.Compare.{same-or}
 use Rattle.disc.specs.Words.{Words}
 use Rattle.plain.specs.Unit.{Plain, M, held}
-use Rattle.plain.specs.Questions.{Outcome, replies, known}
+use Rattle.plain.specs.Questions.{replies, known}
 use Rattle.plain.specs.Reports.{stepListing, stepDescription}
 use Rattle.plain.specs.Step.{Call, Reply, step, reply, after, answers}
 use Rattle.plain.specs.Good.{Good}
@@ -24,14 +24,14 @@ use Rattle.plain.proofs.Refuses.{never-shrinks}
 use Rattle.state.specs.Areas.{anyOpen}
 use Rattle.users.proofs.AreaLaws.{none-open}
 use Rattle.refine.specs.Represents.{Represents}
-use Rattle.refine.specs.Demands.{empty, then, Performed, Run, SameReply, SameReplies, Demand3}
+use Rattle.refine.specs.Demands.{empty, then, Performed, Run, Demand3}
 use Rattle.refine.proofs.SoundRepresents.{sound-represents}
 use Rattle.refine.proofs.SysStays.{sys-never-shrinks}
 use Rattle.map.proofs.CountLaws.{ones-free}
 use Rattle.refine.proofs.StateLaws.{same-any}
 use Rattle.steps.proofs.AskLaws.{asks-yes, asks-no}
 use Rattle.known.specs.Known.{unknownWord, Known}
-use Rattle.perform.proofs.ObeyLaws.{words-equal, known-no, known-yes}
+use Rattle.perform.proofs.ObeyLaws.{known-no, known-yes}
 use Rattle.perform.specs.Perform.{Performs, unknown, unsound, obeyed}
 
 -- ---- a refused first question in the plain unit
@@ -84,15 +84,10 @@ module _ {image : List ℕ} {state : State} {p : Plain} (s : Standing image stat
 -- ---- one call
 
 pub one-call : {image : List ℕ} {state : State} {p : Plain} {message : Message} {lent : List ℕ} {r : Performed} → Standing image state p → Words lent → Performs image state message lent r
-    → SameReply message (record { answer = r .answer; lent = r .lent }) (reply (step p message lent)) × Standing (r .image) (r .state) (step p message lent .unit)
+    → (record { answer = r .answer; lent = r .lent } ≡ reply (step p message lent)) × Standing (r .image) (r .state) (step p message lent .unit)
 one-call {image} {state} {p} {message} {lent} {r} s w (unknown unmet u) =
-    let e = unknown-step s message lent unmet in (
-      record {
-        answer = u .answered ∙ sym (ap (λ (o : Outcome). o .answer) e);
-        words = words-equal message _ (r .lent) _ (u .same-lent ∙ sym (ap (λ (o : Outcome). o .lent) e));
-      },
-      rw (u .same-image, u .same-state, e) s,
-    )
+    let e = unknown-step s message lent unmet in
+    (rw (u .answered, u .same-lent) (sym (ap reply e)), rw (u .same-image, u .same-state, e) s)
 one-call {image} {state} {p} {message} {lent} {r} s w (unsound known unmet u) = absurd (unmet (sound-represents .sound image state p (s .good) (s .represents)))
 one-call {image} {state} {p} {message} {lent} {r} s w (obeyed known sound f) =
     let o = f p (s .good) (s .represents) in (
@@ -108,12 +103,12 @@ one-call {image} {state} {p} {message} {lent} {r} s w (obeyed known sound f) =
 -- ---- every list
 
 pub every-list : {image end : List ℕ} {state stop : State} {p : Plain} {calls : List Call} {replies : List Reply} → Standing image state p → LentWords calls
-    → Run Performs image state calls replies end stop → SameReplies calls replies (answers p calls) × Standing end stop (after p calls)
-every-list s w empty = (empty, s)
+    → Run Performs image state calls replies end stop → (replies ≡ answers p calls) × Standing end stop (after p calls)
+every-list s w empty = (refl, s)
 every-list s w (then c rest) =
     let one = one-call s (w .0) c in
     let more = every-list (one .1) (w .1) rest in
-    (then (one .0) (more .0), more .1)
+    (ap₂ (λ (r : Reply) (l : List Reply). r ∷ l) (one .0) (more .0), more .1)
 
 pub demand-3 : Demand3 Performs
 demand-3 = record {

@@ -18,14 +18,13 @@ use Rattle.types.specs.State.{areaAt}
 use Rattle.disc.specs.Words.{Words}
 use Rattle.plain.specs.Unit.{Plain}
 use Rattle.plain.specs.Questions.{Outcome, answer, replies, known, done}
-use Rattle.plain.specs.Step.{step}
+use Rattle.plain.specs.Step.{step, reply}
 use Rattle.plain.specs.Good.{Good}
 use Rattle.plain.proofs.Keeps.{step-keeps}
 use Rattle.state.specs.Areas.{anyOpen}
 use Rattle.users.proofs.AreaLaws.{none-open}
 use Rattle.refine.specs.Represents.{Represents}
 use Rattle.refine.specs.Replies.{Replies, refused, written}
-use Rattle.refine.specs.Demands.{SameWords, InSomeOrder}
 use Rattle.refine.proofs.StateLaws.{same-any}
 use Rattle.steps.proofs.AskLaws.{asks-yes}
 use Rattle.steps.proofs.Whole.{on-disc}
@@ -51,30 +50,6 @@ use Rattle.perform.proofs.StateKept.{Kept, state-kept}
 use Rattle.known.specs.Known.{unitMeant, Known}
 use Rattle.perform.specs.Perform.{performed, Wrote, Obeyed, CanObey, Obeys}
 
--- equal words are the same words
-pub words-equal : (message : Message) (count : ℕ) (a b : List ℕ) → a ≡ b → SameWords message count a b
-words-equal (Init unit) count a b e = e
-words-equal (Set name) count a b e = e
-words-equal (Create name size attributes) count a b e = e
-words-equal (LookUp name) count a b e = e
-words-equal (Change name) count a b e = e
-words-equal (Remove name) count a b e = e
-words-equal (CreateArea name) count a b e = e
-words-equal (RemoveArea name) count a b e = e
-words-equal (AreaMessage name sender operation) count a b e = e
-words-equal (UnitDescription unit bytes) count a b e = e
-words-equal (Listing unit) count a b e = subst (InSomeOrder count a) e (record {
-  size = refl;
-  to = λ t. t;
-  back = λ t. t;
-  to-inside = λ t h. h;
-  back-inside = λ t h. h;
-  to-back = λ t h. refl;
-  back-to = λ t h. refl;
-  same = λ t w h l. refl;
-  rest = λ k h. refl;
-})
-
 -- "Unit known": the number meant is the state's or not
 pub known-no : (p : Plain) (unit : ℕ) → unit ≢ p .unit → known p unit ≡ false
 known-no p unit d = ap (λ (b : Bool). b && leb unit 3) (ne-eqb unit (p .unit) d)
@@ -94,12 +69,9 @@ module _ {image : List ℕ} {state : State} {p : Plain} (g : Good p) (r : Repres
   -- the unit stays
   pub stays : (message : Message) (lent : List ℕ) {a : Answer} {after : List ℕ} → state .initialized ≡ true → step p message lent ≡ record { unit = p; answer = a; lent = after }
       → Wrote p image state message lent (performed image state a after) → Obeyed p image state message lent (record { image = image; state = state; answer = a; lent = after })
-  stays message lent {a} {after} i e w = record {
+  stays message lent i e w = record {
     wrote = w;
-    same = record {
-      answer = sym (ap (λ (o : Outcome). o .answer) e);
-      words = words-equal message _ after _ (sym (ap (λ (o : Outcome). o .lent) e));
-    };
+    same = sym (ap reply e);
     represents = subst (Represents image state) (sym (ap (λ (o : Outcome). o .unit) e)) r;
     number = refl;
     initialized = i;
@@ -110,10 +82,7 @@ module _ {image : List ℕ} {state : State} {p : Plain} (g : Good p) (r : Repres
       → Wrote p image state message lent (performed after next (answer result 0 0 0) lent) → Stepped (step p message lent) lent result after next → Obeyed p image state message lent (record { image = after; state = next; answer = answer result 0 0 0; lent = lent })
   steps message lent u i w s = record {
     wrote = w;
-    same = record {
-      answer = sym (ap (λ (o : Outcome). o .answer) (s .answer));
-      words = words-equal message _ lent _ (sym (ap (λ (o : Outcome). o .lent) (s .answer)));
-    };
+    same = sym (ap reply (s .answer));
     represents = s .represents;
     number = u;
     initialized = i;
@@ -133,9 +102,7 @@ module _ {image : List ℕ} {state : State} {p : Plain} (g : Good p) (r : Repres
 
   pub list-obeyed : {o : Opened} {unit : ℕ} {lent after : List ℕ} {a : Answer} → NumbersOf o p → Known state (Listing unit) → Lists image o lent a after
       → Obeyed p image state (Listing unit) lent (record { image = image; state = state; answer = a; lent = after })
-  list-obeyed {unit = unit} n k c =
-      let l = c .all p (on-disc g r) n unit (meant k) in
-      record { wrote = (refl, refl); same = l .same; represents = subst (Represents image state) (sym (l .stays)) r; number = refl; initialized = k .ready }
+  list-obeyed {unit = unit} {lent = lent} n k c = stays (Listing unit) lent (k .ready) (c .all p (on-disc g r) n unit (meant k)) (refl, refl)
 
   -- each message by its step on the unit p, and by its contract
 
@@ -214,7 +181,7 @@ module _ {image : List ℕ} {state : State} {p : Plain} (g : Good p) (r : Repres
       let e : Kept state (d .state) = subst (Kept state) (sym (a .reached)) (state-kept p state sender operation (d .answer) _ _) in
       record {
         wrote = a;
-        same = record { answer = sym (ap (λ (o : Outcome). o .answer) (a .leaves .answered)); words = sym (ap (λ (o : Outcome). o .lent) (a .leaves .answered)) };
+        same = sym (ap reply (a .leaves .answered));
         represents = a .leaves .represents;
         number = e .unit;
         initialized = e .initialized ∙ k .ready;
@@ -239,7 +206,7 @@ module _ {image : List ℕ} {state : State} {p : Plain} (g : Good p) (r : Repres
       let e = init-done lent k in
       record {
         wrote = (refl, refl);
-        same = record { answer = sym (ap (λ (o : Outcome). o .answer) e); words = sym (ap (λ (o : Outcome). o .lent) e) };
+        same = sym (ap reply e);
         represents = subst (Represents image (initialized state)) (sym (ap (λ (o : Outcome). o .unit) e)) ready;
         number = refl;
         initialized = refl;

@@ -13,7 +13,7 @@ use Rattle.plain.specs.Questions.{answer}
 use Rattle.plain.specs.Step.{step, reply}
 use Rattle.sound.specs.Sound.{SoundUnit}
 use Rattle.refine.specs.Represents.{Represents}
-use Rattle.refine.specs.Demands.{Performed, SameReply}
+use Rattle.refine.specs.Demands.{Performed}
 use Rattle.init.specs.Init.{initialized}
 use Rattle.unit.specs.declared.Opened.{Opened}
 use Rattle.unit.specs.Opened.{NumbersOf, Represented}
@@ -55,7 +55,7 @@ Wrote p image state (Listing unit) lent r = (r .image ≡ image) × (r .state �
 -- the call.
 pub record Obeyed (p : Plain) (image : List ℕ) (state : State) (message : Message) (lent : List ℕ) (r : Performed) : Type 0 where
   pub wrote : Wrote p image state message lent r
-  pub same : SameReply message (record { answer = r .answer; lent = r .lent }) (reply (step p message lent))
+  pub same : record { answer = r .answer; lent = r .lent } ≡ reply (step p message lent)
   pub represents : Represents (r .image) (r .state) (step p message lent .unit)
   pub number : r .state .unit ≡ state .unit
   pub initialized : r .state .initialized ≡ true

@@ -13,7 +13,10 @@ joined [] = []
 joined (r ∷ t) = r .val ++ joined t
 
 -- "Listing writes each entry's 16 booked words once and hands back the number of entries, 0 if refused. Fewer than 16
--- times the entries in words lent: 1200h." The plain unit lists by name; the claim leaves the order open.
+-- times the entries in words lent: 1200h." Document 02, R-1: "The listing shall come by name, first word first, words as
+-- unsigned numbers. SYS and MAP take their place in it like any file." It does because `entries p` is a table: its rows,
+-- SYS's and MAP's among them, stand in increasing order of their keys (`SortedFrom`), and the key is the packed name
+-- (`pack`), the first word highest.
 unfoldable pub stepListing : Plain → ℕ → List ℕ → Outcome
 stepListing p unit lent =
     let count : ℕ = length (entries p) in

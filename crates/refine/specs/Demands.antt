@@ -3,11 +3,10 @@ use mathlib.Core.Path.{_≡_}
 use mathlib.Core.Bool.{true, false}
 use mathlib.Core.List.{List, [], _∷_, _++_}
 use Prim.Native.Nat.{ℕ, _+_, _*_, _≤_, _<_}
-use lib.ListN.{length, getD}
+use lib.ListN.{length}
 use Rattle.types.specs.declared.Answer.{Answer}
 use Rattle.types.specs.declared.State.{State}
 use Rattle.types.specs.declared.Message.{Message}
-use Rattle.types.specs.declared.Message.the-variants.{Init, Set, Create, LookUp, Change, Remove, CreateArea, RemoveArea, AreaMessage, UnitDescription, Listing}
 use Rattle.types.specs.State.{areaAt}
 use Rattle.disc.specs.Words.{word}
 use Rattle.disc.specs.Slices.{InRangeOnce}
@@ -39,43 +38,6 @@ pub data Run (C : Contract) : List ℕ → State → List Call → List Reply �
   then : {image end : List ℕ} {state stop : State} {call : Call} {calls : List Call} {replies : List Reply} {r : Performed}
       → C image state (call .message) (call .lent) r → Run C (r .image) (r .state) calls replies end stop
       → Run C image state (call ∷ calls) (record { answer = r .answer; lent = r .lent } ∷ replies) end stop
-
--- "Save the listing's order where it is left open": the first `count` groups of 16 words are the same in some order, each
--- once (`to` and `back` are inverse to each other), and the words after them are the same.
-pub record InSomeOrder (count : ℕ) (a b : List ℕ) : Type 0 where
-  pub size : length a ≡ length b
-  pub to : ℕ → ℕ
-  pub back : ℕ → ℕ
-  pub to-inside : (t : ℕ) → t < count → to t < count
-  pub back-inside : (t : ℕ) → t < count → back t < count
-  pub to-back : (t : ℕ) → t < count → to (back t) ≡ t
-  pub back-to : (t : ℕ) → t < count → back (to t) ≡ t
-  pub same : (t w : ℕ) → t < count → w < 16 → getD a (16 * t + w) 0 ≡ getD b (16 * to t + w) 0
-  pub rest : (k : ℕ) → 16 * count ≤ k → getD a k 0 ≡ getD b k 0
-
--- The lent words after a call: equal, but for a listing's order.
-abbrev pub SameWords : Message → ℕ → List ℕ → List ℕ → Type 0
-SameWords (Init unit) count a b = a ≡ b
-SameWords (Set name) count a b = a ≡ b
-SameWords (Create name size attributes) count a b = a ≡ b
-SameWords (LookUp name) count a b = a ≡ b
-SameWords (Change name) count a b = a ≡ b
-SameWords (Remove name) count a b = a ≡ b
-SameWords (CreateArea name) count a b = a ≡ b
-SameWords (RemoveArea name) count a b = a ≡ b
-SameWords (AreaMessage name sender operation) count a b = a ≡ b
-SameWords (UnitDescription unit bytes) count a b = a ≡ b
-SameWords (Listing unit) count a b = InSomeOrder count a b
-
--- One reply and the plain unit's.
-pub record SameReply (message : Message) (a b : Reply) : Type 0 where
-  pub answer : a .answer ≡ b .answer
-  pub words : SameWords message (b .answer .entries) (a .lent) (b .lent)
-
--- The replies to a list of calls and the plain unit's.
-pub data SameReplies : List Call → List Reply → List Reply → Type 0 where
-  empty : SameReplies [] [] []
-  then : {call : Call} {calls : List Call} {a b : Reply} {l m : List Reply} → SameReply (call .message) a b → SameReplies calls l m → SameReplies (call ∷ calls) (a ∷ l) (b ∷ m)
 
 -- "With no area process open, and the state that Init left on accepting it": a known unit, initialized.
 pub record AcceptedState (state : State) : Type 0 where
@@ -110,7 +72,7 @@ pub record Demand3After (image : List ℕ) (state : State) (calls : List Call) (
   -- "No slice stands under two names, or twice under one."
   pub once : InRangeOnce (M (after start calls)) (held (after start calls))
   -- "All answers and words handed back equal those of the plain unit for the same list"
-  pub same : SameReplies calls replies (answers start calls)
+  pub same : replies ≡ answers start calls
   -- "Entries, files and open areas at the end are the plain unit's too."
   pub represented : Represents end stop (after start calls)
   -- the plain unit at the end keeps the rules of a sound unit, too

@@ -1,46 +1,55 @@
--- The entries in SYS's places are the plain unit's, each once; what the listing answers and writes.
+-- The records of SYS's places are those of the plain unit's entries, each once; what the listing answers and writes.
 use mathlib.Core.Path.{_≡_, refl, sym, ap, _∙_, subst}
-use mathlib.Core.Bool.{Bool, true, false}
-use mathlib.Core.List.{List, _++_}
-use mathlib.Core.Logic.{_⊎_, ⊎-elim}
+use mathlib.Core.Bool.{_&&_}
+use mathlib.Core.List.{List}
+use mathlib.Core.Logic.{_≢_, ⊎-elim}
 use mathlib.Core.Option.{Option, none}
 use Prim.Native.Nat.{ℕ, _+_, _*_, _/_, _%_, _≤_, _<_}
 use native.Mathlib.Omega.{arith}
 use native.Mathlib.Nat.{mul-comm, mul-le-mul-right}
-use lib.ListN.{length, drop}
-use lib.Seq.{ext-getD}
+use lib.ListN.{length, getD}
+use lib.Dec.{T, eqb, eqb→eq}
 use borrow.Author.Tests.{le-leb, lt-leb}
-use Rattle.types.specs.declared.Answer.{Answer}
+use Rattle.disc.specs.Names.{pack, letter, legalName}
 use Rattle.disc.specs.Stretches.{sectorIn, blockSector, sysFrom}
 use Rattle.disc.specs.Kit.{sysIndexSector}
 use Rattle.disc.specs.Entries.{placeCount, nameAt}
-use Rattle.disc.specs.Decide.{Decides}
 use Rattle.disc.proofs.SliceLaws.{sum-law}
 use Rattle.words.specs.Store.{store}
-use Rattle.words.proofs.StoreLaws.{store-front}
 use Rattle.index.proofs.ReadLaws.{read-sector}
-use Rattle.catalog.specs.Catalog.{placeAt, entryAt, slotUnused}
-use Rattle.catalog.proofs.SearchLaws.{unused-decides}
-use Rattle.catalog.proofs.WalkLaws.{length-entryAt, getD-entryAt}
 use Rattle.plain.specs.Table.{Row, Table}
 use Rattle.plain.specs.Unit.{Plain, M, entries, entry}
-use Rattle.plain.specs.Questions.{Outcome, answer, replies, fill}
+use Rattle.plain.specs.Questions.{answer, fill}
 use Rattle.plain.specs.Reports.{joined, stepListing}
+use Rattle.plain.proofs.QuestionLaws.{and-right}
+use Rattle.entries.proofs.PlaceLaws.{legal-first}
 use Rattle.sound.specs.Places.{Unused}
 use Rattle.refine.specs.Represents.{PlaceOf}
 use Rattle.refine.specs.OnDisc.{OnDisc}
-use Rattle.refine.specs.Demands.{InSomeOrder}
 use Rattle.refine.proofs.CatalogLaws.{Named, name-zero}
-use Rattle.refine.proofs.Ground.{Ground, ground, entry-named, entry-length, positive, top, sys-in, sys-data, sys-slices}
+use Rattle.refine.proofs.Ground.{Ground, ground, entry-named, entry-legal, entry-length, positive, top, sys-in, sys-data, sys-slices}
 use Rattle.refine.proofs.PlaceFiles.{rowOf}
 use Rattle.steps.proofs.PlaceLaws.{sorted-entries, rowAt, positive-name, one-place, collected}
 use Rattle.unit.specs.declared.Opened.{Opened}
 use Rattle.unit.specs.Opened.{NumbersOf, OpenedOn, unitPlaces}
 use Rattle.unit.proofs.OpenLaws.{on-catalog, sys-once}
 use Rattle.unit.proofs.AskLaws.{asks-yes, asks-no}
-use Rattle.reports.specs.Listing.{inTurn, slotEntry, slotEntries, sysSector, blockEntries, Readable, CountOf, ListedAs, Lists}
-use Rattle.reports.proofs.OrderLaws.{RowWords, ListingOf, table-listing, collect-listing, in-some-order}
-use Rattle.reports.proofs.TurnLaws.{turn-ext, turn-groups, slot-none, slot-some}
+use Rattle.order.specs.Records.{recordAt, recordOf}
+use Rattle.order.specs.ByName.{CanOrder, ByName}
+use Rattle.reports.specs.Listing.{inTurn, slotStart, entryRecord, slotRecord, slotRecords, sysSector, blockRecords, Readable, CountOf, Lists}
+use Rattle.reports.proofs.OrderLaws.{Entries, table-listing, names-increase}
+use Rattle.reports.proofs.RecordLaws.{NotesOf, RowNote, PlaceNote, collect-notes, can-order, in-name-order}
+use Rattle.reports.proofs.TurnLaws.{turn-ext, turn-groups, firstWord, slot-none, slot-some}
+
+-- ---- the record of an entry, and its name
+
+record-made : (a b c g : ℕ) → c % 256 ≡ 0 → recordAt (entryRecord a b c g) 0 ≡ recordOf (pack a b c) g
+unfolding recordAt
+record-made a b c g e = omega arith
+
+-- a legal name's sixth character
+legal-sixth : (n : ℕ) → T (legalName n) → n % 256 ≡ 0
+legal-sixth n t = eqb→eq (n % 256) 0 (and-right (letter (n / 0x10000000000) && _) (eqb (n % 256) 0) t)
 
 -- ---- the places of a unit on the image
 
@@ -77,115 +86,137 @@ module _ {image : List ℕ} {p : Plain} (on : OnDisc image p) where
       let most : length (p .sys) ≤ M p = omega (arith, sum-law (M p) (p .sys) (sys-once (on-catalog on))) in
       omega (arith, gr .sysCover, mul-le-mul-right (p .s) most, top p gr, on .good .limits .sectors)
 
-  pub readable : Readable image (p .H * p .layers)
+  readable : Readable image (p .H * p .layers)
   readable = record {
     few = few-blocks;
     inside = λ b x. rw (sys-block b x) (let h = block-inside b x in omega (arith, on .layout .size));
   }
 
-  -- ---- the words of a place
+  -- ---- the record of a place
 
-  abbrev placeEntry : ℕ → List ℕ
-  placeEntry t = slotEntry image (block (t / 16)) (t % 16)
+  abbrev sector : ℕ → ℕ
+  sector t = block (t / 16)
+
+  abbrev placeRecord : ℕ → List ℕ
+  placeRecord t = slotRecord image (sector t) (t % 16)
 
   unused-row : (t : ℕ) → Unused P t → rowAt p (on .good) (on .layout .catalog) t ≡ none
   unused-row t z = ap (λ (n : ℕ). rowOf n (entry p n)) (name-zero P t z) ∙ ap (rowOf 0) (nm .zero)
 
-  used-words : (t : ℕ) → t < N → (u : PlaceOf P (p .H) (entry p) t) → entryAt image (placeAt (block (t / 16)) (t % 16)) ≡ u .words
-  used-words t x u =
-      let place = placeAt (block (t / 16)) (t % 16) in
-      let low : t % 16 < 16 = omega arith in
-      let sector : block (t / 16) < p .N = block-inside (t / 16) (omega arith) in
-      let size : length (entryAt image place) ≡ 16 = length-entryAt image place (omega (arith, on .layout .size)) in
-      let e : length (u .words) ≡ 16 = entry-length p (on .good) (nameAt P t) (u .words) (u .entered) in
-      ext-getD 0 (entryAt image place) (u .words) (size ∙ sym e) (λ w h. getD-entryAt image place w (omega arith) ∙ u .holds w (omega arith))
+  -- word w of place t
+  word-at : (t w k : ℕ) → k ≡ slotStart (sector t) (t % 16) + w → getD image k 0 ≡ P t w
+  word-at t w k e = let f : k ≡ sector t * 256 + (t % 16 * 16 + w) = omega arith in ap (λ (j : ℕ). getD image j 0) f
 
-  place-words : (t : ℕ) → t < N → RowWords (rowAt p (on .good) (on .layout .catalog) t) (placeEntry t)
-  place-words t x = go (slotUnused image (block (t / 16)) (t % 16)) refl (unused-decides image (block (t / 16)) (t % 16)) (on .layout .catalog .each t x)
-    where
-      go : (b : Bool) → slotUnused image (block (t / 16)) (t % 16) ≡ b → Decides b ((w : ℕ) → w < 16 → P t w ≡ 0) → Unused P t ⊎ PlaceOf P (p .H) (entry p) t
-          → RowWords (rowAt p (on .good) (on .layout .catalog) t) (placeEntry t)
-      go true e d h =
-          let z : Unused P t = record { zero = d .yes refl } in
-          subst (λ (o : Option (Row (List ℕ))). RowWords o (placeEntry t)) (sym (unused-row t z)) (slot-none image (block (t / 16)) (t % 16) e)
-      go false e d h = ⊎-elim
-          (λ (z : Unused P t). absurd (d .not refl (z .zero)))
-          (λ (u : PlaceOf P (p .H) (entry p) t).
-          let words : placeEntry t ≡ u .words = slot-some image (block (t / 16)) (t % 16) e ∙ used-words t x u in
-          subst (λ (o : Option (Row (List ℕ))). RowWords o (placeEntry t)) (sym (ap (rowOf (nameAt P t)) (u .entered)))
-          (words, entry-length p (on .good) (nameAt P t) (u .words) (u .entered), nm .name (nameAt P t) (u .words) (u .entered)))
-          h
+  module _ (t : ℕ) (x : t < N) where
+    sector-few : sector t < 32767
+    sector-few = omega (arith, block-inside (t / 16) (omega arith), on .good .limits .sectors)
 
-  pub places-listing : ListingOf (entries p) (blockEntries image (p .H * p .layers))
-  places-listing =
+    module _ (u : PlaceOf P (p .H) (entry p) t) where
+      legal : T (legalName (nameAt P t))
+      legal = entry-legal p (on .good) (nameAt P t) (u .words) (u .entered)
+
+      -- a name's first word is above 0
+      used-first : firstWord image (sector t) (t % 16) ≢ 0
+      used-first e =
+          let z : P t 0 ≡ 0 = sym (word-at t 0 (slotStart (sector t) (t % 16)) (omega arith)) ∙ e in
+          legal-first (nameAt P t) legal (omega (arith, on .words .each (sector t * 256 + (t % 16 * 16 + 1)), on .words .each (sector t * 256 + (t % 16 * 16 + 2))))
+
+      place-record : placeRecord t ≡ entryRecord (P t 0) (P t 1) (P t 2) (sector t * 16 + t % 16)
+      place-record =
+          let s = slotStart (sector t) (t % 16) in
+          slot-some image (sector t) (t % 16) used-first
+          ∙ rw (word-at t 0 s (omega arith), word-at t 1 (s + 1) (omega arith), word-at t 2 (s + 2) (omega arith)) refl
+
+      used-note : RowNote image (record { key = nameAt P t; val = u .words }) (entryRecord (P t 0) (P t 1) (P t 2) (sector t * 16 + t % 16))
+      used-note =
+          let sixth : nameAt P t % 256 ≡ 0 = legal-sixth (nameAt P t) legal in
+          record {
+            size = refl;
+            group = sector t * 16 + t % 16;
+            few = omega (arith, sector-few);
+            made = record-made (P t 0) (P t 1) (P t 2) (sector t * 16 + t % 16) (omega arith);
+            sixth = sixth;
+            words = λ w y. word-at t w (16 * (sector t * 16 + t % 16) + w) (omega arith) ∙ u .holds w y;
+            name = nm .name (nameAt P t) (u .words) (u .entered);
+            inside = omega (arith, block-inside (t / 16) (omega arith), on .layout .size);
+          }
+
+    place-note : PlaceNote image (rowAt p (on .good) (on .layout .catalog) t) (placeRecord t)
+    place-note = ⊎-elim
+        (λ (z : Unused P t).
+        let e : firstWord image (sector t) (t % 16) ≡ 0 = word-at t 0 (slotStart (sector t) (t % 16)) (omega arith) ∙ z .zero 0 (omega arith) in
+        subst (λ (o : Option (Row (List ℕ))). PlaceNote image o (placeRecord t)) (sym (unused-row t z)) (slot-none image (sector t) (t % 16) e))
+        (λ (u : PlaceOf P (p .H) (entry p) t).
+        subst (λ (o : Option (Row (List ℕ))). PlaceNote image o (placeRecord t)) (sym (ap (rowOf (nameAt P t)) (u .entered))) (rw (place-record u) (used-note u)))
+        (on .layout .catalog .each t x)
+
+  places-noted : NotesOf image (entries p) (blockRecords image (p .H * p .layers))
+  places-noted =
       let g = on .good in
       let cat = on .layout .catalog in
       let n : ℕ = p .H * p .layers in
-      let by-place : ListingOf (entries p) (inTurn placeEntry N) =
-      subst (λ (T : Table (List ℕ)). ListingOf T (inTurn placeEntry N)) (collected p g cat)
-      (collect-listing (rowAt p g cat) (positive-name p g cat) N (one-place p g cat) placeEntry place-words N (omega arith)) in
-      let by-block : inTurn placeEntry N ≡ inTurn (λ b. slotEntries image (block b) 16) n = turn-groups (λ b. slotEntry image (block b)) n in
-      let same : inTurn (λ b. slotEntries image (block b) 16) n ≡ blockEntries image n =
-      turn-ext (λ b. slotEntries image (block b) 16) (λ b. slotEntries image (sysSector image b) 16) n (λ b x. ap (λ (q : ℕ). slotEntries image q 16) (sym (sys-block b x))) in
+      let by-place : NotesOf image (entries p) (inTurn placeRecord N) =
+      subst (λ (T : Table (List ℕ)). NotesOf image T (inTurn placeRecord N)) (collected p g cat)
+      (collect-notes (rowAt p g cat) (positive-name p g cat) N (one-place p g cat) image placeRecord place-note N (omega arith)) in
+      let by-block : inTurn placeRecord N ≡ inTurn (λ b. slotRecords image (block b) 16) n = turn-groups (λ b. slotRecord image (block b)) n in
+      let same : inTurn (λ b. slotRecords image (block b) 16) n ≡ blockRecords image n =
+      turn-ext (λ b. slotRecords image (block b) 16) (λ b. slotRecords image (sysSector image b) 16) n (λ b x. ap (λ (q : ℕ). slotRecords image q 16) (sym (sys-block b x))) in
       rw (← same, ← by-block) by-place
 
   -- ---- the plain unit's listing
 
-  joined-listing : ListingOf (entries p) (joined (entries p))
+  entered : Entries (entries p)
   unfolding entry
-  joined-listing = table-listing 0 (entries p) (sorted-entries p (on .good)) (λ n e h. (entry-length p (on .good) n e h, nm .name n e h))
+  entered n e h = (entry-length p (on .good) n e h, nm .name n e h)
+
+  module _ (lent : List ℕ) (room : 16 * length (entries p) ≤ length lent) where
+    abbrev noted : List ℕ
+    noted = store lent (4 * length (entries p)) (blockRecords image (p .H * p .layers))
+
+    listing-can : length (entries p) < 4294967296 → CanOrder image (length (entries p)) noted
+    listing-can few = can-order places-noted lent room few
+
+    listing-done : {after : List ℕ} → ByName image (length (entries p)) noted after → after ≡ fill (joined (entries p)) lent
+    listing-done by =
+        let sorted = sorted-entries p (on .good) in
+        in-name-order places-noted lent room by (table-listing 0 (entries p) sorted entered) (names-increase 0 (entries p) sorted entered)
 
   -- as many entries as are counted
-  pub entries-counted : {o : Opened} {count : ℕ} → NumbersOf o p → CountOf (blockEntries image (o .keys * o .layers)) count → count ≡ length (entries p)
+  entries-counted : {o : Opened} {count : ℕ} → NumbersOf o p → CountOf (blockRecords image (o .keys * o .layers)) count → count ≡ length (entries p)
   entries-counted {o} num n =
       let own = rw (num .keys, num .layers) at n in
-      omega (arith, own .words, places-listing .size)
+      omega (arith, own .words, places-noted .size)
 
 -- ---- the listing
-
--- words that stay are in the same order
-unchanged : (l : List ℕ) → InSomeOrder 0 l l
-unchanged l = record {
-  size = refl;
-  to = λ t. t;
-  back = λ t. t;
-  to-inside = λ t x. x;
-  back-inside = λ t x. x;
-  to-back = λ t x. refl;
-  back-to = λ t x. refl;
-  same = λ t w x y. refl;
-  rest = λ k x. refl;
-}
-
-listed-by : (p : Plain) (unit : ℕ) (lent : List ℕ) {r : Answer} {after : List ℕ} (end : Outcome) → stepListing p unit lent ≡ end → end .unit ≡ p → r ≡ end .answer
-    → InSomeOrder (end .answer .entries) after (end .lent) → ListedAs p unit lent r after
-listed-by p unit lent end e stays answers words = record { same = rw e (record { answer = answers; words = words }); stays = rw e stays }
 
 pub can-read : {image : List ℕ} {o : Opened} → OpenedOn image o → Readable image (o .keys * o .layers)
 can-read h = rw (h .numbers .keys, h .numbers .layers) (readable (h .on))
 
-module _ {image : List ℕ} {o : Opened} {count : ℕ} (lent : List ℕ) (n : CountOf (blockEntries image (o .keys * o .layers)) count) where
+-- the records stored, in the numbers of a unit on the image
+own-noted : (image lent : List ℕ) {o : Opened} {p : Plain} {count : ℕ} {noted : List ℕ} → NumbersOf o p → count ≡ length (entries p) → noted ≡ store lent (4 * count) (blockRecords image (o .keys * o .layers))
+    → noted ≡ store lent (4 * length (entries p)) (blockRecords image (p .H * p .layers))
+own-noted image lent num c e = rw (← c, ← num .keys, ← num .layers) e
+
+module _ {image : List ℕ} {o : Opened} {count : ℕ} (lent : List ℕ) (n : CountOf (blockRecords image (o .keys * o .layers)) count) where
   pub lists-short : length lent < 16 * count → Lists image o lent (answer 0x1200 0 0 0) lent
   unfolding stepListing
   lists-short short = record {
     all = λ p on num unit mine.
         let c : count ≡ length (entries p) = entries-counted on num n in
-        listed-by p unit lent (replies p 0x1200 lent)
-        (asks-yes _ _ _ mine ∙ asks-no _ _ _ (rw (← c, lt-leb _ _ short) tt)) refl refl (unchanged lent);
+        asks-yes _ _ _ mine ∙ asks-no _ _ _ (rw (← c, lt-leb _ _ short) tt);
   }
 
-  pub lists-done : {after : List ℕ} → 16 * count ≤ length lent → after ≡ store lent 0 (blockEntries image (o .keys * o .layers)) → Lists image o lent (answer 0 0 0 count) after
-  unfolding stepListing
-  lists-done {after} room e = record {
-    all = λ p on num unit mine.
-        let c : count ≡ length (entries p) = entries-counted on num n in
-        let own : after ≡ store lent 0 (blockEntries image (p .H * p .layers)) = rw (← num .keys, ← num .layers) e in
-        let places = places-listing on in
-        let plain = joined-listing on in
-        let lengths : length (blockEntries image (p .H * p .layers)) ≡ length (joined (entries p)) = places .size ∙ sym (plain .size) in
-        let filled : after ≡ blockEntries image (p .H * p .layers) ++ drop (length (joined (entries p))) lent =
-        own ∙ store-front lent (blockEntries image (p .H * p .layers)) (omega (arith, places .size)) ∙ ap (λ (k : ℕ). blockEntries image (p .H * p .layers) ++ drop k lent) lengths in
-        listed-by p unit lent (record { unit = p; answer = answer 0 0 0 (length (entries p)); lent = fill (joined (entries p)) lent })
-        (asks-yes _ _ _ mine ∙ asks-yes _ _ _ (rw (← c, le-leb _ _ room) tt)) refl (ap (answer 0 0 0) c)
-        (rw filled (in-some-order places plain (drop (length (joined (entries p))) lent)));
-  }
+  module _ (room : 16 * count ≤ length lent) {noted : List ℕ} (e : noted ≡ store lent (4 * count) (blockRecords image (o .keys * o .layers))) where
+    pub lists-can : count < 4294967296 → OpenedOn image o → CanOrder image count noted
+    lists-can few h =
+        let c : count ≡ length (entries (h .unit)) = entries-counted (h .on) (h .numbers) n in
+        rw (own-noted image lent (h .numbers) c e, c) (listing-can (h .on) lent (rw (← c) room) (rw (← c) few))
+
+    pub lists-done : {after : List ℕ} → ByName image count noted after → Lists image o lent (answer 0 0 0 count) after
+    unfolding stepListing
+    lists-done {after} by = record {
+      all = λ p on num unit mine.
+          let c : count ≡ length (entries p) = entries-counted on num n in
+          let done : after ≡ fill (joined (entries p)) lent = listing-done on lent (rw (← c) room) (rw (own-noted image lent num c e, c) at by) in
+          asks-yes _ _ _ mine ∙ asks-yes _ _ _ (rw (← c, le-leb _ _ room) tt) ∙ rw (c, done) refl;
+    }

@@ -1,18 +1,17 @@
--- Lists one after the other, and the entries of slots and blocks: their lengths, one more of them counted or copied.
+-- Lists one after the other, and the records of slots and blocks: their lengths, one more of them counted or noted.
 use mathlib.Core.Path.{_≡_, refl, sym, ap, _∙_}
-use mathlib.Core.Bool.{Bool, true, false}
-use mathlib.Core.List.{List, [], _++_, append-nil, append-assoc}
+use mathlib.Core.List.{List, [], _∷_, _++_, append-nil, append-assoc}
+use mathlib.Core.Logic.{_≢_}
 use Prim.Native.Nat.{ℕ, zero, suc, _+_, _*_, _/_, _%_, _≤_, _<_}
 use native.Mathlib.Nat.{add-suc, add-zero}
 use native.Mathlib.Numerals.{add-one}
 use native.Mathlib.Omega.{arith}
-use lib.ListN.{length, take, drop, length-append, length-take}
+use lib.ListN.{length, getD, set, length-append}
+use borrow.Author.Tests.{eq-eqb, ne-eqb}
 use Rattle.disc.proofs.Compare.{same-or}
 use Rattle.words.specs.Store.{store}
 use Rattle.words.proofs.StoreLaws.{store-none, store-append, length-store}
-use Rattle.catalog.specs.Catalog.{placeAt, placeStart, entryAt, slotUnused}
-use Rattle.catalog.proofs.WalkLaws.{length-entryAt}
-use Rattle.reports.specs.Listing.{inTurn, slotEntry, slotEntries, sysSector, blockEntries, CountOf, Copied}
+use Rattle.reports.specs.Listing.{inTurn, slotStart, slotEmpty, entryRecord, slotRecord, slotRecords, sysSector, blockRecords, CountOf, Noted}
 
 -- ---- lists one after the other
 
@@ -53,83 +52,96 @@ turn-groups g (suc n) =
     rw (a, b) refl) in
     ap (inTurn f) e ∙ turn-split f (16 * n) 16 ∙ rw (turn-groups g n, last) refl
 
--- ---- the entry in a slot
+-- ---- the record of a slot
 
 module _ (image : List ℕ) (q i : ℕ) where
-  pub slot-none : slotUnused image q i ≡ true → slotEntry image q i ≡ []
-  unfolding slotEntry
-  slot-none e = rw e refl
+  abbrev pub firstWord : ℕ
+  firstWord = getD image (slotStart q i) 0
 
-  pub slot-some : slotUnused image q i ≡ false → slotEntry image q i ≡ entryAt image (placeAt q i)
-  unfolding slotEntry
-  slot-some e = rw e refl
+  pub slot-none : firstWord ≡ 0 → slotRecord image q i ≡ []
+  unfolding slotRecord slotEmpty
+  slot-none e = rw (eq-eqb firstWord 0 e) refl
 
-  slot-most : length (slotEntry image q i) ≤ 16
-  unfolding entryAt
-  slot-most = go (slotUnused image q i) refl
-    where
-      go : (b : Bool) → slotUnused image q i ≡ b → length (slotEntry image q i) ≤ 16
-      go true e = rw (slot-none e) (omega arith)
-      go false e = rw (slot-some e) (omega (arith, length-take 16 (drop (placeStart (placeAt q i)) image)))
+  pub slot-some : firstWord ≢ 0 → slotRecord image q i ≡ entryRecord firstWord (getD image (slotStart q i + 1) 0) (getD image (slotStart q i + 2) 0) (q * 16 + i)
+  unfolding slotRecord slotEmpty
+  slot-some d = rw (ne-eqb firstWord 0 d) refl
 
-  -- a used slot of a sector in the image
-  module _ (inside : q * 256 + 256 ≤ length image) (small : i < 16) (used : slotUnused image q i ≡ false) where
-    pub slot-length : length (slotEntry image q i) ≡ 16
-    slot-length = rw (slot-some used) (length-entryAt image (placeAt q i) (omega arith))
+  pub slot-length : firstWord ≢ 0 → length (slotRecord image q i) ≡ 4
+  slot-length d = ap length (slot-some d)
 
-    pub slot-copied : {l m : List ℕ} (at : ℕ) → m ≡ store l at (take 16 (drop (q * 256 + i * 16) image)) → Copied l at (slotEntry image q i) m (at + 16)
-    unfolding entryAt
-    slot-copied at e = record { stored = rw (slot-some used) e; end = omega (arith, slot-length) }
+  slot-most : length (slotRecord image q i) ≤ 4
+  slot-most = same-or firstWord 0 (λ e. rw (slot-none e) (omega arith)) (λ d. omega (arith, slot-length d))
 
--- ---- entries counted
+-- ---- records counted
 
-pub slots-most : (image : List ℕ) (q n : ℕ) → length (slotEntries image q n) ≤ n * 16
-slots-most image q n = turn-most (slotEntry image q) 16 n (slot-most image q)
+pub slots-most : (image : List ℕ) (q n : ℕ) → length (slotRecords image q n) ≤ n * 4
+slots-most image q n = turn-most (slotRecord image q) 4 n (slot-most image q)
 
-pub blocks-most : (image : List ℕ) (n : ℕ) → length (blockEntries image n) ≤ n * 256
-blocks-most image n = turn-most (λ b. slotEntries image (sysSector image b) 16) 256 n (λ b. omega (arith, slots-most image (sysSector image b) 16))
+pub blocks-most : (image : List ℕ) (n : ℕ) → length (blockRecords image n) ≤ n * 64
+blocks-most image n = turn-most (λ b. slotRecords image (sysSector image b) 16) 64 n (λ b. omega (arith, slots-most image (sysSector image b) 16))
 
 pub count-none : (f : ℕ → List ℕ) → CountOf (inTurn f 0) 0
 unfolding inTurn
 count-none f = record { words = omega arith }
 
-module _ (image : List ℕ) (q i : ℕ) {b : Bool} (known : b ≡ slotUnused image q i) {count : ℕ} (n : CountOf (slotEntries image q i) count) where
-  pub count-unused : b ≡ true → CountOf (slotEntries image q (i + 1)) count
+module _ (image : List ℕ) (q i : ℕ) {count : ℕ} (n : CountOf (slotRecords image q i) count) where
+  pub count-unused : firstWord image q i ≡ 0 → CountOf (slotRecords image q (i + 1)) count
   unfolding inTurn
-  count-unused t = rw (add-one, slot-none image q i (sym known ∙ t), append-nil) n
+  count-unused e = rw (add-one, slot-none image q i e, append-nil) n
 
-  pub count-used : q * 256 + 256 ≤ length image → i < 16 → b ≡ false → CountOf (slotEntries image q (i + 1)) (count + 1)
+  pub count-used : firstWord image q i ≢ 0 → CountOf (slotRecords image q (i + 1)) (count + 1)
   unfolding inTurn
-  count-used inside h t =
-      let long : length (slotEntry image q i) ≡ 16 = slot-length image q i inside h (sym known ∙ t) in
-      let e : CountOf (slotEntries image q i ++ slotEntry image q i) (count + 1) = record { words = omega (arith, length-append (slotEntries image q i) (slotEntry image q i), n .words) } in
-      rw (add-one i) e
+  count-used d =
+      let long : length (slotRecord image q i) ≡ 4 = slot-length image q i d in
+      rw (add-one i) (record { words = omega (arith, length-append (slotRecords image q i) (slotRecord image q i), n .words) })
 
-pub count-block : (image : List ℕ) (b : ℕ) {q count more : ℕ} → CountOf (blockEntries image b) count → q ≡ sysSector image b → CountOf (slotEntries image q 16) more
-    → CountOf (blockEntries image (b + 1)) (count + more)
+pub count-block : (image : List ℕ) (b : ℕ) {q count more : ℕ} → CountOf (blockRecords image b) count → q ≡ sysSector image b → CountOf (slotRecords image q 16) more
+    → CountOf (blockRecords image (b + 1)) (count + more)
 unfolding inTurn
 count-block image b {q} {count} {more} n e m =
-    rw (add-one, ← e) (record { words = omega (arith, length-append (blockEntries image b) (slotEntries image q 16), n .words, m .words) })
+    rw (add-one, ← e) (record { words = omega (arith, length-append (blockRecords image b) (slotRecords image q 16), n .words, m .words) })
 
--- ---- entries copied
+-- ---- records noted
 
-pub copied-none : (l : List ℕ) (at : ℕ) → Copied l at [] l at
-copied-none l at = record { stored = sym (store-none l at); end = sym (add-zero at) }
+pub noted-none : (l : List ℕ) (at : ℕ) → Noted l at [] l at
+noted-none l at = record { stored = sym (store-none l at); end = sym (add-zero at) }
 
-pub copied-more : {l m r us vs : List ℕ} {at j k : ℕ} → Copied l at us m j → Copied m j vs r k → Copied l at (us ++ vs) r k
-copied-more {l} {m} {r} {us} {vs} {at} a b = record {
+noted-more : {l m r us vs : List ℕ} {at j k : ℕ} → Noted l at us m j → Noted m j vs r k → Noted l at (us ++ vs) r k
+noted-more {l} {m} {r} {us} {vs} {at} a b = record {
   stored = b .stored ∙ rw (a .stored, a .end) (sym (store-append l at us vs));
   end = omega (arith, a .end, b .end, length-append us vs);
 }
 
-pub copied-length : {l m us : List ℕ} {at j : ℕ} → Copied l at us m j → length m ≡ length l
-copied-length {l} {m} {us} {at} a = ap length (a .stored) ∙ length-store l at us
+pub noted-length : {l m us : List ℕ} {at j : ℕ} → Noted l at us m j → length m ≡ length l
+noted-length {l} {m} {us} {at} a = ap length (a .stored) ∙ length-store l at us
 
-pub turn-start : (f : ℕ → List ℕ) (l : List ℕ) (at : ℕ) → Copied l at (inTurn f 0) l at
+pub turn-start : (f : ℕ → List ℕ) (l : List ℕ) (at : ℕ) → Noted l at (inTurn f 0) l at
 unfolding inTurn
-turn-start f l at = copied-none l at
+turn-start f l at = noted-none l at
 
 -- one turn
-pub copied-turn : (f : ℕ → List ℕ) (i : ℕ) {l m r : List ℕ} {at j k : ℕ} → Copied l at (inTurn f i) m j → Copied m j (f i) r k → Copied l at (inTurn f (i + 1)) r k
+pub noted-turn : (f : ℕ → List ℕ) (i : ℕ) {l m r : List ℕ} {at j k : ℕ} → Noted l at (inTurn f i) m j → Noted m j (f i) r k → Noted l at (inTurn f (i + 1)) r k
 unfolding inTurn
-copied-turn f i a b = rw add-one (copied-more a b)
+noted-turn f i a b = rw add-one (noted-more a b)
+
+-- the four words of a used slot's record
+store-four : (l : List ℕ) (at a b c d : ℕ) → set (set (set (set l at a) (at + 1) b) (at + 2) c) (at + 3) d ≡ store l at (a ∷ b ∷ c ∷ d ∷ [])
+unfolding store
+store-four l at a b c d =
+    let one : at + 1 ≡ suc at = omega arith in
+    let two : at + 2 ≡ suc (suc at) = omega arith in
+    let three : at + 3 ≡ suc (suc (suc at)) = omega arith in
+    rw (one, two, three) refl
+
+module _ (image : List ℕ) (q i : ℕ) (used : firstWord image q i ≢ 0) (l : List ℕ) (at : ℕ) where
+  abbrev filled : List ℕ
+  filled =
+      let s = slotStart q i in
+      let g = q * 16 + i in
+      set (set (set (set l at (getD image s 0)) (at + 1) (getD image (s + 1) 0)) (at + 2) (getD image (s + 2) 0 / 256 * 256 + g / 65536)) (at + 3) (g % 65536)
+
+  pub slot-noted : Noted l at (slotRecord image q i) filled (at + 4)
+  slot-noted = record {
+    stored = store-four l at _ _ _ _ ∙ ap (store l at) (sym (slot-some image q i used));
+    end = omega (arith, slot-length image q i used);
+  }

@@ -1,22 +1,18 @@
--- The listing: the entries as they stand in SYS, place after place, and what is written beside the plain unit's listing.
+-- The listing: the records of the entries as these stand in SYS, place after place, and what is written beside the plain unit's listing.
 use mathlib.Core.Path.{_≡_}
-use mathlib.Core.Bool.{cond}
-use mathlib.Core.List.{List, [], _++_}
-use Prim.Native.Nat.{ℕ, zero, suc, _+_, _*_, _≤_, _<_}
-use lib.ListN.{length}
-use lib.Dec.{T}
+use mathlib.Core.Bool.{Bool, cond}
+use mathlib.Core.List.{List, [], _∷_, _++_}
+use Prim.Native.Nat.{ℕ, zero, suc, _+_, _*_, _/_, _%_, _≤_, _<_}
+use lib.ListN.{length, getD}
+use lib.Dec.{T, eqb}
 use Rattle.types.specs.declared.Answer.{Answer}
-use Rattle.types.specs.declared.Message.the-variants.{Listing}
 use Rattle.disc.specs.Kit.{sysIndexSector}
 use Rattle.words.specs.Store.{store}
 use Rattle.index.specs.Block.{jointSector}
-use Rattle.catalog.specs.Catalog.{placeAt, entryAt, slotUnused}
 use Rattle.plain.specs.Unit.{Plain}
 use Rattle.plain.specs.Questions.{known}
 use Rattle.plain.specs.Reports.{stepListing}
-use Rattle.plain.specs.Step.{reply}
 use Rattle.refine.specs.OnDisc.{OnDisc}
-use Rattle.refine.specs.Demands.{SameReply}
 use Rattle.unit.specs.declared.Opened.{Opened}
 use Rattle.unit.specs.Opened.{NumbersOf, MeantOn}
 
@@ -25,33 +21,47 @@ unfoldable pub inTurn : (ℕ → List ℕ) → ℕ → List ℕ
 inTurn f zero = []
 inTurn f (suc n) = inTurn f n ++ f n
 
--- The 16 words of slot i of sector q if it is used; no words if it is not.
-unfoldable pub slotEntry : List ℕ → ℕ → ℕ → List ℕ
-slotEntry image q i = cond (slotUnused image q i) [] (entryAt image (placeAt q i))
+-- The image's index of the first word of slot i of sector q.
+abbrev pub slotStart : ℕ → ℕ → ℕ
+slotStart q i = q * 256 + i * 16
 
--- The entries in the first n slots of sector q.
-abbrev pub slotEntries : List ℕ → ℕ → ℕ → List ℕ
-slotEntries image q n = inTurn (slotEntry image q) n
+-- "Unused place (16 zero words)", by its first word alone: no entry's first word is 0, since a legal name begins with a letter.
+unfoldable pub slotEmpty : List ℕ → ℕ → ℕ → Bool
+slotEmpty image q i = eqb (getD image (slotStart q i) 0) 0
+
+-- The four words that stand for an entry while the entries are put in order (`order/Records`): its name's words a, b and c, and the number g
+-- of its group of 16 words in the image, of which the high part takes the room of the name's sixth character, which is 0.
+abbrev pub entryRecord : ℕ → ℕ → ℕ → ℕ → List ℕ
+entryRecord a b c g = a ∷ b ∷ (c / 256 * 256 + g / 65536) ∷ (g % 65536) ∷ []
+
+-- The record of the entry in slot i of sector q if the slot is used; no words if it is not.
+unfoldable pub slotRecord : List ℕ → ℕ → ℕ → List ℕ
+slotRecord image q i =
+    cond (slotEmpty image q i) [] (entryRecord (getD image (slotStart q i) 0) (getD image (slotStart q i + 1) 0) (getD image (slotStart q i + 2) 0) (q * 16 + i))
+
+-- The records of the entries in the first n slots of sector q.
+abbrev pub slotRecords : List ℕ → ℕ → ℕ → List ℕ
+slotRecords image q n = inTurn (slotRecord image q) n
 
 -- The sector of SYS's block b.
 abbrev pub sysSector : List ℕ → ℕ → ℕ
 sysSector image b = jointSector image sysIndexSector b
 
--- The entries in the first n blocks of SYS.
-abbrev pub blockEntries : List ℕ → ℕ → List ℕ
-blockEntries image n = inTurn (λ b. slotEntries image (sysSector image b) 16) n
+-- The records of the entries in the first n blocks of SYS.
+abbrev pub blockRecords : List ℕ → ℕ → List ℕ
+blockRecords image n = inTurn (λ b. slotRecords image (sysSector image b) 16) n
 
 -- The first n blocks of SYS are sectors of the image.
 pub record Readable (image : List ℕ) (n : ℕ) : Type 0 where
   pub few : n ≤ 32767
   pub inside : (b : ℕ) → b < n → sysSector image b * 256 + 256 ≤ length image
 
--- The number of entries in a list of them, 16 words to each.
+-- The number of records in a list of them, 4 words to each.
 pub record CountOf (l : List ℕ) (count : ℕ) : Type 0 where
-  pub words : 16 * count ≡ length l
+  pub words : 4 * count ≡ length l
 
 -- Words stored from word `at` on, and the place after them.
-pub record Copied (before : List ℕ) (at : ℕ) (words after : List ℕ) (next : ℕ) : Type 0 where
+pub record Noted (before : List ℕ) (at : ℕ) (words after : List ℕ) (next : ℕ) : Type 0 where
   pub stored : after ≡ store before at words
   pub end : next ≡ at + length words
 
@@ -60,12 +70,7 @@ pub record CanList (image : List ℕ) (o : Opened) : Type 0 where
   pub number : ℕ
   pub meant : MeantOn image o number
 
--- "Listing writes each entry's 16 booked words once and hands back the number of entries, 0 if refused; the entries' order is left
--- open": answer and lent words after are the plain unit's but for that order, and the unit stays.
-pub record ListedAs (p : Plain) (unit : ℕ) (lent : List ℕ) (r : Answer) (after : List ℕ) : Type 0 where
-  pub same : SameReply (Listing unit) (record { answer = r; lent = after }) (reply (stepListing p unit lent))
-  pub stays : stepListing p unit lent .unit ≡ p
-
--- The same of every unit on the image that the message means.
+-- "Listing writes each entry's 16 booked words once and hands back the number of entries, 0 if refused", and (02, R-1) "by name": answer
+-- and lent words after are the plain unit's, of every unit on the image that the message means, and the unit stays.
 pub record Lists (image : List ℕ) (o : Opened) (lent : List ℕ) (r : Answer) (after : List ℕ) : Type 0 where
-  pub all : (p : Plain) → OnDisc image p → NumbersOf o p → (unit : ℕ) → T (known p unit) → ListedAs p unit lent r after
+  pub all : (p : Plain) → OnDisc image p → NumbersOf o p → (unit : ℕ) → T (known p unit) → stepListing p unit lent ≡ record { unit = p; answer = r; lent = after }

@@ -7,7 +7,7 @@ ghost use Rattle.words.specs.Store.{store};
 ghost use Rattle.plain.specs.Questions.{answer};
 ghost use Rattle.unit.specs.Opened.{MeantOn};
 ghost use Rattle.reports.specs.Description.{described, Describes};
-ghost use Rattle.reports.specs.Listing.{slotEntry, slotEntries, blockEntries, Readable, CountOf, Copied, CanList, Lists};
+ghost use Rattle.reports.specs.Listing.{slotRecord, slotRecords, blockRecords, Readable, CountOf, Noted, CanList, Lists};
 use types::Answer;
 use types::Block;
 use types::Sector;
@@ -77,12 +77,12 @@ pub fn describe(image: &[u16], o: Opened, unit: u16, bytes: u16, lent: &mut [u16
 // The number of used slots of sector q.
 fn count_slots(image: &[u16], q: Sector) -> u32
     requires { ⌜ q .0 * 256 + 256 ≤ length (now image) ⌝ }
-    ensures { λ r. ⌜ CountOf (slotEntries (now (image .entry)) (q .0) 16) r ⌝ }
+    ensures { λ r. ⌜ CountOf (slotRecords (now (image .entry)) (q .0) 16) r ⌝ }
 {
     let mut count: u32 = 0;
     let mut i: u16 = 0;
     while i < 16 {
-        if !catalog::is_unused_slot(image, q, i) {
+        if image[q.0 as usize * 256 + i as usize * 16] != 0 {
             count += 1;
         }
         i += 1;
@@ -93,7 +93,7 @@ fn count_slots(image: &[u16], q: Sector) -> u32
 // The number of used places in the first n blocks of SYS.
 fn count_entries(image: &[u16], n: u32) -> u32
     requires { ⌜ Readable (now image) n ⌝ }
-    ensures { λ r. ⌜ CountOf (blockEntries (now (image .entry)) n) r ⌝ }
+    ensures { λ r. ⌜ CountOf (blockRecords (now (image .entry)) n) r ⌝ }
 {
     let mut count: u32 = 0;
     let mut b: u32 = 0;
@@ -105,47 +105,54 @@ fn count_entries(image: &[u16], n: u32) -> u32
     count
 }
 
-// Stores the entry in a slot of sector q, if the slot is used, from lent word `at` on. Hands back the number of the word after it.
-fn copy_slot(image: &[u16], q: Sector, slot: u16, lent: &mut [u16], at: usize) -> usize
-    requires { ⌜ (q .0 * 256 + 256 ≤ length (now image)) × (slot < 16) × (at + length (slotEntry (now image) (q .0) slot) ≤ length (now lent)) ⌝ }
-    ensures { λ r. ⌜ Copied (now (lent .entry)) at (slotEntry (now (image .entry)) (q .0) slot) (now (lent .exit)) r ⌝ }
+// Stores the record of the entry in a slot of sector q, if the slot is used, from lent word `at` on. Hands back the number of the word after
+// it.
+fn note_slot(image: &[u16], q: Sector, slot: u16, lent: &mut [u16], at: usize) -> usize
+    requires { ⌜ (q .0 * 256 + 256 ≤ length (now image)) × (slot < 16) × (at + length (slotRecord (now image) (q .0) slot) ≤ length (now lent)) ⌝ }
+    ensures { λ r. ⌜ Noted (now (lent .entry)) at (slotRecord (now (image .entry)) (q .0) slot) (now (lent .exit)) r ⌝ }
 {
-    if catalog::is_unused_slot(image, q, slot) {
+    let first = q.0 as usize * 256 + slot as usize * 16;
+    if image[first] == 0 {
         return at;
     }
-    words::copy_words(image, q.0 as usize * 256 + slot as usize * 16, lent, at, 16);
-    at + 16
+    let group = q.0 as u32 * 16 + slot as u32;
+    lent[at] = image[first];
+    lent[at + 1] = image[first + 1];
+    lent[at + 2] = image[first + 2] / 256 * 256 + (group / 65536) as u16;
+    lent[at + 3] = (group % 65536) as u16;
+    at + 4
 }
 
-// Stores the entries in the slots of sector q, one after the other, from lent word `start` on.
-fn copy_slots(image: &[u16], q: Sector, lent: &mut [u16], start: usize) -> usize
-    requires { ⌜ (q .0 * 256 + 256 ≤ length (now image)) × (start + length (slotEntries (now image) (q .0) 16) ≤ length (now lent)) ⌝ }
-    ensures { λ r. ⌜ Copied (now (lent .entry)) start (slotEntries (now (image .entry)) (q .0) 16) (now (lent .exit)) r ⌝ }
+// Stores the records of the entries in the slots of sector q, one after the other, from lent word `start` on.
+fn note_slots(image: &[u16], q: Sector, lent: &mut [u16], start: usize) -> usize
+    requires { ⌜ (q .0 * 256 + 256 ≤ length (now image)) × (start + length (slotRecords (now image) (q .0) 16) ≤ length (now lent)) ⌝ }
+    ensures { λ r. ⌜ Noted (now (lent .entry)) start (slotRecords (now (image .entry)) (q .0) 16) (now (lent .exit)) r ⌝ }
 {
     let mut at = start;
     let mut slot: u16 = 0;
     while slot < 16 {
-        at = copy_slot(image, q, slot, lent, at);
+        at = note_slot(image, q, slot, lent, at);
         slot += 1;
     }
     at
 }
 
-// Stores the entries in the first n blocks of SYS at the start of the lent words.
-fn copy_entries(image: &[u16], n: u32, lent: &mut [u16])
-    requires { ⌜ Readable (now image) n × (length (blockEntries (now image) n) ≤ length (now lent)) ⌝ }
-    ensures { λ _. ⌜ now (lent .exit) ≡ store (now (lent .entry)) 0 (blockEntries (now (image .entry)) n) ⌝ }
+// Stores the records of the entries in the first n blocks of SYS from lent word `start` on.
+fn note_entries(image: &[u16], n: u32, lent: &mut [u16], start: usize)
+    requires { ⌜ Readable (now image) n × (start + length (blockRecords (now image) n) ≤ length (now lent)) ⌝ }
+    ensures { λ _. ⌜ now (lent .exit) ≡ store (now (lent .entry)) start (blockRecords (now (image .entry)) n) ⌝ }
 {
-    let mut at: usize = 0;
+    let mut at = start;
     let mut b: u32 = 0;
     while b < n {
         let q = index::sector_at(image, Sector(6), b);
-        at = copy_slots(image, q, lent, at);
+        at = note_slots(image, q, lent, at);
         b += 1;
     }
 }
 
-// The listing: the entries of SYS in the order of their places, counted first.
+// The listing: the entries of SYS, counted first, noted in the order of their places, and stored in the order of their names. Their records
+// stand behind as many words as they take, which is where they are ordered from.
 pub fn list(image: &[u16], o: Opened, lent: &mut [u16]) -> Answer
     requires { ⌜ CanList (now image) o ⌝ }
     ensures { λ r. ⌜ Lists (now (image .entry)) o (now (lent .entry)) r (now (lent .exit)) ⌝ }
@@ -155,7 +162,8 @@ pub fn list(image: &[u16], o: Opened, lent: &mut [u16]) -> Answer
     if lent.len() < 16 * count as usize {
         return refused();
     }
-    copy_entries(image, blocks, lent);
+    note_entries(image, blocks, lent, 4 * count as usize);
+    order::by_name(image, lent, count as usize);
     Answer {
         result: 0,
         bytes: 0,

@@ -1,10 +1,9 @@
 -- A run of the one call from what Format and Init leave on a disc of 20 sectors, with its answers.
-use mathlib.Core.Path.{_≡_, refl, sym, ap, ap₂, _∙_}
-use mathlib.Core.List.{List, [], _∷_}
+use mathlib.Core.Path.{_≡_, refl, sym, ap, _∙_}
+use mathlib.Core.List.{List, []}
 use Prim.Native.Nat.{ℕ, _*_, _<_}
 use native.Mathlib.Omega.{arith}
 use lib.ListN.{length, replicate}
-use Rattle.types.specs.declared.Answer.{Answer}
 use Rattle.types.specs.declared.State.{State}
 use Rattle.types.specs.declared.Message.the-variants.{Init}
 use Rattle.types.specs.State.{freshState}
@@ -22,8 +21,7 @@ use Rattle.plain.specs.Claims.{LentWords}
 use Rattle.plain.specs.Cases.{callsOf, answersIn, Shows}
 use Rattle.plain.specs.Paper.{paperUnit}
 use Rattle.sound.specs.Sound.{SoundUnit}
-use Rattle.refine.specs.Demands.{Contract, Run, empty, then, SameReplies}
-use Rattle.refine.specs.Demands as replies
+use Rattle.refine.specs.Demands.{Contract, Run, empty, then}
 use Rattle.known.specs.Known.{Known}
 use Rattle.format.specs.Format.{FormatAnswer}
 use Rattle.perform.specs.Perform.{Performs}
@@ -49,10 +47,6 @@ lent-words =
     sector : (w : ℕ) → w < 65536 → Words (replicate 256 w)
     sector w h = words-replicate 256 w h
 
-same-answers : {calls : List Call} {a b : List Reply} → SameReplies calls a b → answersIn a ≡ answersIn b
-same-answers replies.empty = refl
-same-answers (replies.then s rest) = ap₂ (λ (x : Answer) (l : List Answer). x ∷ l) (s .answer) (same-answers rest)
-
 run-later : {C : Contract} {F : FormatContract} {image end : List ℕ} {state stop : State} {calls : List Call} {replies : List Reply} → LentWords calls → Run C image state calls replies end stop
     → Later C F image state end stop
 run-later w empty = here
@@ -71,7 +65,7 @@ module _ (disc : List ℕ) (words : Words disc) (size : length disc ≡ 5120) wh
         begun = b;
         words = lent-words;
         ran = r;
-        answered = same-answers (d .same) ∙ ap (λ (p : Plain). answersIn (answers p (callsOf witnessCases))) (sym (d .only paperUnit (u .0) (u .1))) ∙ shows;
+        answered = ap answersIn (d .same) ∙ ap (λ (p : Plain). answersIn (answers p (callsOf witnessCases))) (sym (d .only paperUnit (u .0) (u .1))) ∙ shows;
         later = format record-words (b .formats) (call words-none (b .inits) (run-later lent-words (r .run)));
       }
 

@@ -8,9 +8,10 @@ use reference::generate::{shaped, Shape, Unit};
 use reference::layout::{bit_word, Kit, ENTRY, KIT, MAP_SECTOR, PLACES, SECTOR, SYS_INDEX};
 use reference::random::Random;
 use reference::{is_sound, perform, Message};
-use ruzkemp::{Entry, State};
+use ruzkemp::{Name, State};
 
 use crate::compare::Timed;
+use crate::entries::{gathered, name_in};
 use crate::shapes::{FEW, MANY, MIDDLE};
 use crate::timing::{is_file, needed, read, verdict, Fastest};
 
@@ -135,13 +136,14 @@ fn disagreement(unit: &Unit, state: &State) -> Option<String> {
 fn open(unit: &mut Unit, number: usize) -> State {
     let mut proved = ruzkemp::Unit::new(unit.image.clone(), unit.state.unit);
     proved.init().expect("a sound unit");
-    let entries = proved.list().expect("words enough");
-    let files = entries.iter().filter(|entry| is_file(&entry.words()));
-    for name in files.take(number).map(Entry::name) {
-        proved.create_area(name).expect("a vacant descriptor");
-        let message = Message::CreateArea { name: name.words() };
+    let entries = gathered(&unit.image);
+    let files = entries.iter().filter(|entry| is_file(*entry));
+    for name in files.take(number).map(name_in) {
+        let opened = proved.create_area(Name::from_words(name));
+        opened.expect("a vacant descriptor");
+        let message = Message::CreateArea { name };
         let answer = perform(&mut unit.image, &mut unit.state, &message, &mut []);
-        assert_eq!(answer.result, 0, "{name} is not opened");
+        assert_eq!(answer.result, 0, "{name:04X?} is not opened");
     }
     proved.state().clone()
 }

@@ -1,5 +1,6 @@
 //! The speed of the proved library: its soundness check and its calls, beside the second
-//! implementation and beside reading the same words once. Prints two tables in markdown.
+//! implementation and beside reading the same words once, and its listing beside Rust that gathers
+//! the entries and sorts them. Prints three tables in markdown.
 //!
 //! `bench --compare BEFORE AFTER ..` compares two libraries instead: pairs of programs `bench`,
 //! each linked with one of the two. `bench --times` is what these are asked for then. The script
@@ -8,6 +9,8 @@
 mod calls;
 mod checks;
 mod compare;
+mod entries;
+mod listing;
 mod pad;
 mod shapes;
 mod timing;
@@ -42,9 +45,11 @@ fn tables() {
     checks::run();
     println!();
     calls::run();
+    println!();
+    listing::run();
 }
 
-/// The rows of both tables.
+/// The rows of the first two tables, and of the third that whose unit they do not have.
 fn rows() -> Vec<Box<dyn compare::Timed>> {
     let mut rows: Vec<Box<dyn compare::Timed>> = Vec::new();
     for row in checks::rows() {
@@ -53,5 +58,6 @@ fn rows() -> Vec<Box<dyn compare::Timed>> {
     for row in calls::rows() {
         rows.push(Box::new(row));
     }
+    rows.push(Box::new(listing::largest()));
     rows
 }

@@ -30,3 +30,13 @@ pub const MIDDLE: Shape = Shape {
     held: (1, 4),
     ..MANY
 };
+
+/// 100,000 entries: SYS, MAP and files without slices. SYS is as full as that of [`MANY`].
+pub const LARGEST: Shape = Shape {
+    s: 64,
+    layers: 128,
+    slices: 130,
+    files: 99_998,
+    held: (0, 0),
+    ..MANY
+};

@@ -2,7 +2,7 @@
 
 use std::fmt;
 
-use reference::layout::{ENTRY, SECTOR};
+use reference::layout::SECTOR;
 use reference::Answer;
 
 use crate::state::{self, StateWords};
@@ -66,13 +66,9 @@ impl fmt::Display for Difference {
 pub fn compare(was_sound: bool, proved: &Seen, second: &Seen) -> Option<Difference> {
     let in_image = |word| format!("image sector {} word {}", word / SECTOR, word % SECTOR);
     let in_state = |word| format!("state {}", state::place(word));
-    let (proved_lent, second_lent) = (by_name(proved), by_name(second));
+    let in_lent = |word| format!("lent word {word}");
     first_answer(proved.answer, second.answer)
-        .or_else(|| {
-            first_word(&proved_lent, &second_lent, |word| {
-                format!("lent word {word}")
-            })
-        })
+        .or_else(|| first_word(proved.lent, second.lent, in_lent))
         .or_else(|| first_word(proved.image, second.image, in_image))
         .or_else(|| first_word(&proved.state, &second.state, in_state))
         .or_else(|| {
@@ -127,18 +123,4 @@ fn first_word(
             differing(place, proved.len() as u32, second.len() as u32)
         }
     }
-}
-
-fn by_name(seen: &Seen) -> Vec<u16> {
-    sort_listed(seen.lent, seen.answer.entries as usize)
-}
-
-/// The lent words with the entries listed in them by name: document 01 leaves their order open.
-pub fn sort_listed(lent: &[u16], listed: usize) -> Vec<u16> {
-    let (entries, rest) = lent.split_at((ENTRY * listed).min(lent.len()));
-    let mut entries: Vec<&[u16]> = entries.chunks(ENTRY).collect();
-    entries.sort();
-    let mut words = entries.concat();
-    words.extend(rest);
-    words
 }

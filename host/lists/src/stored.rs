@@ -25,7 +25,7 @@
 //!
 //! An outcome is the result word, then what is not 0 of `bytes`, `block` and `entries`, then
 //! `lent` with the words up to the last that changed, or with a digest of all where those are of
-//! many kinds (a listing's entries by name), then digests of image and state if they changed.
+//! many kinds, then digests of image and state if they changed.
 
 use std::path::{Path, PathBuf};
 use std::{fs, io};

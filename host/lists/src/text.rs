@@ -4,7 +4,6 @@ use reference::generate::{add_file, Call, RawCall, Unit};
 use reference::layout::{name_of, SECTOR};
 use reference::{format, Answer, Message, Name, Operation, State};
 
-use crate::compare::sort_listed;
 use crate::state::{place, state_of, words_of};
 use crate::Step;
 
@@ -135,13 +134,12 @@ pub fn outcome_text(
         Step::Call(call) => &call.lent,
         Step::Raw(call) => &call.lent,
     };
-    let lent = sort_listed(lent, answer.entries as usize);
     let last = lent.iter().zip(old).rposition(|(new, old)| new != old);
     if let Some(last) = last {
         let words = words_text(&lent[..=last]);
         add(format!(
             "lent {}",
-            words.unwrap_or_else(|| digest_text(&lent))
+            words.unwrap_or_else(|| digest_text(lent))
         ));
     }
     if before.image != after.image {

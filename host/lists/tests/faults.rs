@@ -171,11 +171,35 @@ fn both_values_are_told() {
 }
 
 #[test]
-fn a_listing_has_each_entry_once_in_any_order() {
-    let exchanged: Fault = |_, lent, _| lent[..32].rotate_left(16);
-    assert_eq!(listing(exchanged), Ok(()));
-    let twice: Fault = |_, lent, _| lent.copy_within(..16, 16);
-    assert!(listing(twice).is_err());
+fn a_listing_has_each_entry_once_in_its_place() {
+    let told = |fault| {
+        let difference = listing(fault).expect_err("a difference");
+        (difference.place, difference.proved, difference.second)
+    };
+    // MAP comes before SYS.
+    let exchanged = told(|_, lent, _| lent[..32].rotate_left(16));
+    assert_eq!(exchanged, ("lent word 0".into(), 0x5359, 0x4D41));
+    // An entry twice in place of its neighbour.
+    let map_twice = told(|_, lent, _| lent.copy_within(..16, 16));
+    assert_eq!(map_twice, ("lent word 16".into(), 0x4D41, 0x5359));
+    let sys_twice = told(|_, lent, _| lent.copy_within(16..32, 0));
+    assert_eq!(sys_twice, ("lent word 0".into(), 0x5359, 0x4D41));
+}
+
+/// Exchanges the last two entries of a listing that has some beside SYS's and MAP's.
+#[test]
+fn random_lists_find_two_entries_exchanged() {
+    let fault: Fault = |answer, lent, _| {
+        if answer.entries > 2 {
+            let end = 16 * answer.entries as usize;
+            lent[end - 32..end].rotate_left(16);
+        }
+    };
+    let mut lists = Lists::new(Faulty::new(0, fault), 6);
+    let failure = lists.run(100_000).expect_err("a difference").to_string();
+    for part in ["the call: listing ", "lent word "] {
+        assert!(failure.contains(part), "{failure}");
+    }
 }
 
 #[test]

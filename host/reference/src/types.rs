@@ -177,7 +177,7 @@ pub enum Message {
         /// The byte count.
         bytes: u16,
     },
-    /// The listing of all entries.
+    /// The listing of all entries, by name.
     Listing {
         /// The unit listed.
         unit: u16,

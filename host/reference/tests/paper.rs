@@ -786,13 +786,11 @@ fn listing_and_unit_description() {
     assert_eq!((answer.result, answer.entries), (0, 4));
     assert_eq!(lent[64..], [7, 7]);
     let names: Vec<&[u16]> = lent[..64].chunks(16).map(|entry| &entry[..3]).collect();
+    // SYS, MAP and B have key 0 and stand there in this order, PASS has key 2.
     let b = name_of("B", 0);
     let pass = name_of("PASS", 0);
     assert_eq!((key(b, 3), key(pass, 3)), (0, 2));
-    assert_eq!(names, [SYS, MAP, b, pass]);
-    let (answer, lent) = pair.call(Message::Listing { unit: 0 }, &[7; 63]);
-    assert_eq!((answer.result, answer.entries), (0x1200, 0));
-    assert_eq!(lent, [7; 63]);
+    assert_eq!(names, [b, MAP, pass, SYS]);
     let describe = |pair: &mut Pair, bytes, lent: &[u16]| {
         pair.call(Message::UnitDescription { unit: 0, bytes }, lent)
     };
@@ -812,6 +810,96 @@ fn listing_and_unit_description() {
     let message = Message::UnitDescription { unit: 3, bytes: 32 };
     let (_, lent) = pair.call(message, &[7; 16]);
     assert_eq!((lent[1], lent[6]), (3, 0x0300));
+}
+
+/// The texts of the listing of a unit in which these names were created one after the other.
+fn listed(h: u16, created: &[&str]) -> Vec<String> {
+    let mut pair = Pair::new(h, 2, 60, 10);
+    for name in created {
+        assert_eq!(pair.create(name, 0, 0), 0);
+    }
+    pair.listed()
+}
+
+#[test]
+fn the_listing_goes_by_the_first_word_that_differs() {
+    // With H = 1 the places are in the order of SYS, MAP and the names as they were created.
+    assert_eq!(listed(1, &[]), ["MAP", "SYS"]);
+    // The third word: the fifth character, or none.
+    let third = listed(1, &["ABCDZ", "ABCD1", "ABCD", "ABCD0", "ABCDA"]);
+    let wanted = ["ABCD", "ABCD0", "ABCD1", "ABCDA", "ABCDZ", "MAP", "SYS"];
+    assert_eq!(third, wanted);
+    // The second word is asked before the third, the first before the second.
+    let second = listed(1, &["ABDCA", "ABCDZ"]);
+    assert_eq!(second, ["ABCDZ", "ABDCA", "MAP", "SYS"]);
+    let first = listed(1, &["ACAAA", "ABZZZ"]);
+    assert_eq!(first, ["ABZZZ", "ACAAA", "MAP", "SYS"]);
+    // Within a word the high half, the character that comes first, is asked first.
+    assert_eq!(listed(1, &["BA", "AZ"]), ["AZ", "BA", "MAP", "SYS"]);
+    // The end of a name is below digits, and digits are below letters.
+    let digits = listed(1, &["AA", "A9", "A", "A0", "AA0"]);
+    assert_eq!(digits, ["A", "A0", "A9", "AA", "AA0", "MAP", "SYS"]);
+}
+
+#[test]
+fn sys_and_map_take_their_places_in_the_listing() {
+    let wanted = [
+        "A", "MAO", "MAOZZ", "MAP", "MAP0", "MAPA", "N", "SYR", "SYRZZ", "SYS", "SYS0", "T", "Z9",
+    ];
+    let files = wanted.iter().filter(|name| !["MAP", "SYS"].contains(name));
+    let mut files: Vec<&str> = files.copied().collect();
+    assert_eq!(listed(1, &files), wanted);
+    files.reverse();
+    assert_eq!(listed(1, &files), wanted);
+}
+
+#[test]
+fn the_listing_does_not_go_by_places() {
+    // With H = 3, SYS, MAP and B have key 0, A and D key 2, C key 1.
+    let keys = |text| key(name_of(text, 0), 3);
+    assert_eq!(["B", "C", "A", "D"].map(keys), [0, 1, 2, 2]);
+    let mut pair = Pair::new(3, 2, 60, 10);
+    for name in ["D", "C", "B", "A"] {
+        assert_eq!(pair.create(name, 0, 0), 0);
+    }
+    let first_words = |sector| [0, 16, 32].map(|word| pair.word(sector, word));
+    assert_eq!(first_words(10), [0x5359, 0x4D41, 0x4200]);
+    assert_eq!(first_words(11), [0x4300, 0, 0]);
+    assert_eq!(first_words(12), [0x4400, 0x4100, 0]);
+    assert_eq!(pair.listed(), ["A", "B", "C", "D", "MAP", "SYS"]);
+    // A new name takes the place that an old one leaves, and its own place in the listing.
+    assert_eq!(pair.remove("D"), 0);
+    assert_eq!(pair.create("P", 0, 0), 0);
+    assert_eq!(pair.word(12, 0), 0x5000);
+    assert_eq!(pair.listed(), ["A", "B", "C", "MAP", "P", "SYS"]);
+    assert_eq!(pair.change("A", &record("Z9", KEPT, KEPT)), 0);
+    assert_eq!(pair.listed(), ["B", "C", "MAP", "P", "SYS", "Z9"]);
+}
+
+#[test]
+fn the_listing_asks_for_words_for_all_entries() {
+    let mut pair = small();
+    assert_eq!(pair.create("PASS", 2, 0x0001), 0);
+    // Case P6 with SYS and MAP, by name.
+    let map = [
+        0x4D41, 0x5000, 0, 0, 0, 0, 0x8010, 1, 7, 1, 0, 0, 0, 0, 0, 0,
+    ];
+    let pass = [0x5041, 0x5353, 0, 0, 0, 0, 1, 2, 12, 4, 0, 0, 0, 0, 0, 0];
+    let sys = [
+        0x5359, 0x5300, 0, 0, 0, 0, 0x8010, 1, 6, 2, 0, 0, 0, 0, 0, 0,
+    ];
+    let entries = [map, pass, sys].concat();
+    for more in [0, 1, 15, 16, 300] {
+        let (answer, lent) = pair.call(Message::Listing { unit: 0 }, &vec![7; 48 + more]);
+        assert_eq!((answer.result, answer.entries), (0, 3));
+        assert_eq!(lent[..48], entries);
+        assert_eq!(lent[48..], vec![7; more]);
+    }
+    for too_few in [47, 32, 16, 1, 0] {
+        let (answer, lent) = pair.call(Message::Listing { unit: 0 }, &vec![7; too_few]);
+        assert_eq!((answer.result, answer.entries), (0x1200, 0));
+        assert_eq!(lent, vec![7; too_few]);
+    }
 }
 
 #[test]

@@ -89,7 +89,7 @@ pub enum Message {
         /// The byte count.
         bytes: u16,
     },
-    /// The listing of all entries into the lent words.
+    /// The listing of all entries into the lent words, by name, the first word first.
     Listing {
         /// The unit listed.
         unit: u16,

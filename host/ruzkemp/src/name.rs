@@ -10,7 +10,8 @@ pub type NameWords = [u16; 3];
 /// The name of a file: up to five characters, in capitals.
 ///
 /// Two names are equal exactly if they name the same file: small letters count as their
-/// capitals, and the sixth character, the unit, is left out.
+/// capitals, and the sixth character, the unit, is left out. The order is that of the listing, by
+/// the words as unsigned numbers, the first word first.
 #[derive(Clone, Copy, PartialEq, Eq, PartialOrd, Ord, Hash, Debug)]
 pub struct Name([u8; 5]);
 

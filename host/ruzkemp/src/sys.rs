@@ -117,7 +117,7 @@ pub mod call {
     pub const AREA_MESSAGE: u16 = 8;
     /// Get Unit Description.
     pub const UNIT_DESCRIPTION: u16 = 9;
-    /// The listing.
+    /// The listing, by name.
     pub const LISTING: u16 = 10;
 }
 

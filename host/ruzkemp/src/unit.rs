@@ -265,7 +265,26 @@ impl<I: AsRef<[u16]> + AsMut<[u16]>> Unit<I> {
         Ok(Description::from_words(&words))
     }
 
-    /// The listing: every entry once, SYS's and MAP's among them, in no stated order.
+    /// The listing: every entry once, in the order of the names, SYS and MAP in their places.
+    ///
+    /// Names are compared by their words, the first word first and words as unsigned numbers,
+    /// which is the order of [`Name`]: the end of a name comes before digits, digits before
+    /// letters. The library hands the entries back so; nothing is sorted here.
+    ///
+    /// ```
+    /// # use ruzkemp::{Attributes, Name, Record, Unit};
+    /// # fn main() -> Result<(), Box<dyn std::error::Error>> {
+    /// let mut unit = Unit::formatted(&Record::new(0, 1, 2, 20, 10))?;
+    /// unit.init()?;
+    /// for name in ["TILL2", "PASS", "TILL1"] {
+    ///     unit.create(Name::new(name)?, 0, Attributes::NONE)?;
+    /// }
+    /// let entries = unit.list()?;
+    /// let names: Vec<String> = entries.iter().map(|entry| entry.name().to_string()).collect();
+    /// assert_eq!(names, ["MAP", "PASS", "SYS", "TILL1", "TILL2"]);
+    /// # Ok(())
+    /// # }
+    /// ```
     pub fn list(&mut self) -> Result<Vec<Entry>> {
         let unit = self.number();
         // Every entry has a place of its own in the image, so that as many words are enough.

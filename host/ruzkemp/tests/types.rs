@@ -37,6 +37,16 @@ fn a_name_is_three_words_high_half_first_with_the_unit_as_sixth_character() {
 }
 
 #[test]
+fn names_are_ordered_as_their_words_are() {
+    let ordered = [
+        "A", "A0", "A9", "AA", "ABCD", "ABCD1", "ABCDA", "ABD", "AZ", "BA", "MAP", "SYS", "SYS0",
+    ];
+    let names = ordered.map(name);
+    assert!(names.is_sorted_by(|one, other| one < other));
+    assert!(names.is_sorted_by(|one, other| one.words() < other.words()));
+}
+
+#[test]
 fn words_that_are_no_legal_name_are_shown_and_said_to_be_illegal() {
     for (words, text) in [
         ([0, 0, 0], ""),

@@ -353,8 +353,7 @@ fn description_and_listing() -> Result<()> {
         free: 4,
     };
     assert_eq!(unit.describe()?, expected);
-    let mut listed: Vec<[u16; 16]> = unit.list()?.iter().map(Entry::words).collect();
-    listed.sort();
+    let listed: Vec<[u16; 16]> = unit.list()?.iter().map(Entry::words).collect();
     let entry = |name: [u16; 2], rest: [u16; 4]| {
         let mut words = [0; 16];
         words[..2].copy_from_slice(&name);
@@ -367,6 +366,63 @@ fn description_and_listing() -> Result<()> {
         entry([0x5359, 0x5300], [0x8010, 1, 6, 2]),
     ];
     assert_eq!(listed, expected);
+    Ok(())
+}
+
+/// The names of a listing as texts.
+fn listed(unit: &mut Unit<Vec<u16>>) -> Result<Vec<String>> {
+    let entries = unit.list()?;
+    Ok(entries
+        .iter()
+        .map(|entry| entry.name().to_string())
+        .collect())
+}
+
+#[test]
+fn the_listing_comes_by_name_whatever_the_places_are() -> Result<()> {
+    // With H = 1 the places are SYS, MAP and then the names as they are created here.
+    let mut unit = ready();
+    assert_eq!(listed(&mut unit)?, ["MAP", "SYS"]);
+    for text in ["Z", "SYS0", "N", "BA", "ABCD2", "ABCD1", "AZ", "AA", "A9"] {
+        unit.create(name(text), 0, Attributes::NONE)?;
+    }
+    let expected = [
+        "A9", "AA", "ABCD1", "ABCD2", "AZ", "BA", "MAP", "N", "SYS", "SYS0", "Z",
+    ];
+    assert_eq!(listed(&mut unit)?, expected);
+    // A name that takes another's place is listed where its own words say.
+    unit.remove(name("Z"))?;
+    unit.create(name("ABCD"), 0, Attributes::NONE)?;
+    unit.rename(name("A9"), name("T"))?;
+    let expected = [
+        "AA", "ABCD", "ABCD1", "ABCD2", "AZ", "BA", "MAP", "N", "SYS", "SYS0", "T",
+    ];
+    assert_eq!(listed(&mut unit)?, expected);
+    Ok(())
+}
+
+#[test]
+fn a_listing_into_too_few_words_writes_none() -> Result<()> {
+    let mut unit = ready();
+    unit.create(name("PASS"), 2, Attributes::EXTENDABLE)?;
+    let listing = Message::Listing { unit: 0 };
+    for words in [0, 1, 15, 16, 32, 47] {
+        let mut lent = vec![0xA5A5; words];
+        let answer = unit.perform(&listing, &mut lent);
+        assert_eq!(
+            (answer.result, answer.entries),
+            (0x1200, 0),
+            "{words} words"
+        );
+        assert_eq!(lent, vec![0xA5A5; words]);
+    }
+    for more in [0, 1, 16, 500] {
+        let mut lent = vec![0xA5A5; 48 + more];
+        let answer = unit.perform(&listing, &mut lent);
+        assert_eq!((answer.result, answer.entries), (0, 3), "{more} more");
+        assert_eq!([lent[0], lent[16], lent[32]], [0x4D41, 0x5041, 0x5359]);
+        assert_eq!(lent[48..], vec![0xA5A5; more]);
+    }
     Ok(())
 }
 

@@ -46,7 +46,7 @@ pub struct View {
     pub unit: u16,
     /// The kit.
     pub kit: Kit,
-    /// All files in the order of their names, SYS and MAP among them; MAP has no slices.
+    /// All files in the listing's order, by name, SYS and MAP among them; MAP has no slices.
     pub files: Vec<Holder>,
     /// The stretches of free slices.
     pub free: Vec<Stretch>,
@@ -58,11 +58,10 @@ impl View {
     pub fn of(session: &mut Session) -> Outcome<View> {
         let number = session.unit.number();
         let listed = session.unit.list();
-        let mut entries = listed.map_err(|error| {
+        let entries = listed.map_err(|error| {
             let what = format!("list of unit {number}");
             Failure::refused(what, error, ruzkemp::Call::Listing)
         })?;
-        entries.sort_by_key(Entry::name);
         let image = session.unit.image();
         let plain = Plain::read(image, &reference::State::new(number)).map_err(|unsound| {
             Failure::Disagreement(format!(

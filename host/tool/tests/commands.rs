@@ -287,6 +287,31 @@ SYS         1        2      6         1 catalog file, permanent
     assert_eq!(folder.good(&["ls", "a.img"]), wanted);
 }
 
+/// The tool sorts nothing: table, JSON and script have the order in which the library lists.
+#[test]
+fn every_list_of_files_comes_by_name() {
+    let folder = Folder::new();
+    folder.small("a.img");
+    // With H = 1 the places are SYS, MAP and then these.
+    for name in ["Z", "SYS0", "N", "BA", "ABCD2", "ABCD1", "AZ", "AA", "A9"] {
+        folder.good(&["create", "a.img", name]);
+    }
+    let wanted = [
+        "A9", "AA", "ABCD1", "ABCD2", "AZ", "BA", "MAP", "N", "SYS", "SYS0", "Z",
+    ];
+    let table = folder.good(&["ls", "a.img"]);
+    let rows = table.lines().skip(1).take(wanted.len());
+    let names: Vec<&str> = rows.filter_map(|row| row.split(' ').next()).collect();
+    assert_eq!(names, wanted);
+    let json = folder.good(&["ls", "a.img", "--json"]);
+    let names = json.split("\"name\": \"").skip(1);
+    let names: Vec<&str> = names.filter_map(|rest| rest.split('"').next()).collect();
+    assert_eq!(names, wanted);
+    let done = folder.run_with(&["run", "a.img", "-"], b"init\nlist\n");
+    let listed = format!(" entries=11 names={}\n", wanted.join(","));
+    assert!(done.out.ends_with(&listed), "{done:?}");
+}
+
 #[test]
 fn show_tells_all_of_an_entry() {
     let folder = Folder::new();

@@ -2,13 +2,13 @@
 use mathlib.Core.Path.{_≡_}
 use Prim.Native.Nat.{_-_, _≤_}
 use native.Mathlib.Omega.{arith}
-use Rattle.reports.specs.Listing.{blockEntries, CountOf}
+use Rattle.reports.specs.Listing.{blockRecords, CountOf}
 use Rattle.reports.proofs.TurnLaws.{slots-most, blocks-most, count-none, count-block}
 use Rattle.reports.proofs.count_entries.Statement.{statement}
 use Rattle.reports.proofs.count_entries.Tie as tie
 
 abbrev Inv-loop : tie.InvT-loop
-Inv-loop image n count₀ b₀ count b = (b ≤ n) × CountOf (blockEntries image b) count
+Inv-loop image n count₀ b₀ count b = (b ≤ n) × CountOf (blockRecords image b) count
 
 abbrev μ-loop : tie.MeasureT-loop
 μ-loop image n count₀ b₀ count b = n - b

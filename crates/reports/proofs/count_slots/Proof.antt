@@ -1,16 +1,15 @@
--- `reports::count_slots` meets its contract: the entries in the first i slots are counted. Assumes nothing.
+-- `reports::count_slots` meets its contract: the entries in the first slots are counted. Assumes nothing.
 use mathlib.Core.Path.{_≡_}
 use mathlib.Core.Logic.{⊎-elim}
 use Prim.Native.Nat.{_-_, _≤_}
 use native.Mathlib.Omega.{arith}
-use borrow.Author.Tests.{not-true, not-false}
-use Rattle.reports.specs.Listing.{slotEntries, CountOf}
+use Rattle.reports.specs.Listing.{slotRecords, CountOf}
 use Rattle.reports.proofs.TurnLaws.{slots-most, count-none, count-unused, count-used}
 use Rattle.reports.proofs.count_slots.Statement.{statement}
 use Rattle.reports.proofs.count_slots.Tie as tie
 
 abbrev Inv-loop : tie.InvT-loop
-Inv-loop image q count₀ i₀ count i = (i ≤ 16) × CountOf (slotEntries image (q .0) i) count
+Inv-loop image q count₀ i₀ count i = (i ≤ 16) × CountOf (slotRecords image (q .0) i) count
 
 abbrev μ-loop : tie.MeasureT-loop
 μ-loop image q count₀ i₀ count i = 16 - i
@@ -18,13 +17,31 @@ abbrev μ-loop : tie.MeasureT-loop
 loop-holds : tie.Need-loop-holds Inv-loop μ-loop
 loop-holds c = (omega arith, count-none _)
 
-is-unused-slot-requires : tie.Need-is-unused-slot-requires Inv-loop μ-loop
-is-unused-slot-requires c κs = tt
+cast-if1 : tie.Need-cast-if1 Inv-loop μ-loop
+cast-if1 c = omega arith
+
+mul-if1 : tie.Need-mul-if1 Inv-loop μ-loop
+mul-if1 c = omega arith
+
+cast-if1-2 : tie.Need-cast-if1-2 Inv-loop μ-loop
+cast-if1-2 c = omega arith
+
+mul-if1-2 : tie.Need-mul-if1-2 Inv-loop μ-loop
+mul-if1-2 c = omega arith
+
+add-if1 : tie.Need-add-if1 Inv-loop μ-loop
+add-if1 c = omega arith
+
+mul-if1-3 : tie.Need-mul-if1-3 Inv-loop μ-loop
+mul-if1-3 c = omega arith
+
+shared-slice-read-if1 : tie.Need-shared-slice-read-if1 Inv-loop μ-loop
+shared-slice-read-if1 c = omega arith
 
 add-count : tie.Need-add-count Inv-loop μ-loop
 add-count c =
-    let l = c .before .before .before in
-    let a = l .before .before .args in
+    let l = c .before .before .before .before in
+    let a = l .before .args in
     omega (arith, l .loop .inv .1 .words, slots-most (a .image .now) (a .q .0) (l .loop .i))
 
 add-i : tie.Need-add-i Inv-loop μ-loop
@@ -35,15 +52,12 @@ loop-less c = omega arith
 
 loop-again : tie.Need-loop-again Inv-loop μ-loop
 loop-again c =
-    let call = c .before in
-    let l = call .before .before in
-    let start = l .before .before in
-    let a = start .args in
-    let known = call .is-unused-slot .ensures in
+    let l = c .before .before .before .before in
+    let a = l .before .args in
     let n = l .loop .inv .1 in
     ⊎-elim
-    (λ w. (omega arith, rw (w .1) (count-used (a .image .now) (a .q .0) (l .loop .i) known n (start .pre) (call .before .loop-test .taken) (not-true _ (w .0 .taken)))))
-    (λ w. (omega arith, rw (w .1) (count-unused (a .image .now) (a .q .0) (l .loop .i) known n (not-false _ (w .0 .left)))))
+    (λ w. (omega arith, rw (w .1) (count-used (a .image .now) (a .q .0) (l .loop .i) n (w .0 .taken))))
+    (λ w. (omega arith, rw (w .1) (count-unused (a .image .now) (a .q .0) (l .loop .i) n (w .0 .left))))
     (c .if1 .came)
 
 returns : tie.Need-returns Inv-loop μ-loop
@@ -59,7 +73,13 @@ count-slots-spec =
     Inv-loop
     μ-loop
     loop-holds
-    is-unused-slot-requires
+    cast-if1
+    mul-if1
+    cast-if1-2
+    mul-if1-2
+    add-if1
+    mul-if1-3
+    shared-slice-read-if1
     add-count
     add-i
     loop-less

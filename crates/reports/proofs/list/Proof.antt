@@ -1,7 +1,7 @@
 -- `reports::list` meets its contract. Assumes nothing.
 use native.Mathlib.Omega.{arith}
 use borrow.Author.Needs.{needs}
-use Rattle.reports.proofs.ListingLaws.{can-read, lists-short, lists-done}
+use Rattle.reports.proofs.ListingLaws.{can-read, lists-short, lists-can, lists-done}
 use Rattle.reports.proofs.list.Statement.{statement}
 use Rattle.reports.proofs.list.Tie as tie
 
@@ -31,19 +31,37 @@ returns c =
     let count = c .before .before in
     rw (c .refused .ensures) (lists-short _ (count .count-entries .ensures) (c .before .if1 .taken))
 
-copy-entries-requires : tie.Need-copy-entries-requires
-copy-entries-requires c κs =
+cast-note-entries : tie.Need-cast-note-entries
+cast-note-entries c = search needs
+
+mul-note-entries : tie.Need-mul-note-entries
+mul-note-entries c = search needs
+
+note-entries-requires : tie.Need-note-entries-requires
+note-entries-requires c κs =
     let count = c .before .before in
     (can-read (count .before .before .before .before .before .pre .meant .opened), omega (arith, c .before .if1 .left, count .count-entries .ensures .words))
+
+cast-by-name : tie.Need-cast-by-name
+cast-by-name c = search needs
+
+by-name-requires : tie.Need-by-name-requires
+by-name-requires c κs =
+    let noted = c .before .before .before in
+    let left = noted .before .before in
+    let count = left .before in
+    let start = count .before .before .before .before .before in
+    lists-can _ (count .count-entries .ensures) (left .if1 .left) (noted .note-entries .ensures) (omega arith) (start .pre .meant .opened)
 
 same-length : tie.Need-same-length
 same-length c = search needs
 
 returns-2 : tie.Need-returns-2
 returns-2 c =
-    let copied = c .before .before in
-    let left = copied .before .before in
-    lists-done _ (left .before .count-entries .ensures) (left .if1 .left) (copied .copy-entries .ensures)
+    let ordered = c .before .before in
+    let noted = ordered .before .before .before .before in
+    let left = noted .before .before in
+    lists-done _ (left .before .count-entries .ensures) (left .if1 .left) (noted .note-entries .ensures) (ordered .by-name .ensures)
 
 pub list-spec : {M : Type 1} → statement M
 list-spec =
@@ -57,6 +75,10 @@ list-spec =
     mul-if1
     refused-requires
     returns
-    copy-entries-requires
+    cast-note-entries
+    mul-note-entries
+    note-entries-requires
+    cast-by-name
+    by-name-requires
     same-length
     returns-2)

@@ -1,20 +1,30 @@
 //! Names, legal and as messages bring them.
 
-use std::collections::BTreeSet;
-
 use crate::layout::{key, MAP, SYS};
 use crate::random::Random;
 use crate::types::Name;
 
+/// Letters and digits, the letters first.
+const LEGAL: &[u8; 36] = b"ABCDEFGHIJKLMNOPQRSTUVWXYZ0123456789";
+
 /// A legal name in capitals, sixth character 0.
 pub fn name(random: &mut Random) -> Name {
-    let letters = b"ABCDEFGHIJKLMNOPQRSTUVWXYZ0123456789";
     let mut characters = [0u8; 6];
-    characters[0] = letters[random.below(26)];
+    characters[0] = LEGAL[random.below(26)];
     let length = random.between(1, 5);
     for character in &mut characters[1..length] {
-        *character = letters[random.below(36)];
+        *character = LEGAL[random.below(36)];
     }
+    words_of(characters)
+}
+
+/// A legal name that has another one's characters but for the last, or one character more: the
+/// listing's order hangs on their last word.
+fn neighbour(random: &mut Random, other: Name) -> Name {
+    let mut characters = characters_of(other);
+    let length = characters.iter().take_while(|&&c| c != 0).count();
+    let place = random.between((length - 1).max(1), length.min(4));
+    characters[place] = LEGAL[random.below(36)];
     words_of(characters)
 }
 
@@ -28,22 +38,27 @@ pub fn names(random: &mut Random, h: usize, number: usize) -> Vec<Name> {
     names_of(random, h, number, crowded_key)
 }
 
-/// Distinct legal names, most of them of the given key, SYS and MAP not among them.
+/// Distinct legal names, most of them of the given key and some of them neighbours, SYS and MAP
+/// not among them.
 pub(super) fn names_of(
     random: &mut Random,
     h: usize,
     number: usize,
     crowded_key: usize,
 ) -> Vec<Name> {
-    let mut seen: BTreeSet<Name> = BTreeSet::from([SYS, MAP]);
-    let mut names = Vec::new();
-    while names.len() < number {
-        let candidate = name_of(random, h, crowded_key);
-        if seen.insert(candidate) {
+    let mut names = vec![SYS, MAP];
+    while names.len() < number + 2 {
+        let candidate = if random.chance(15) {
+            let other = random.pick(&names);
+            neighbour(random, other)
+        } else {
+            name_of(random, h, crowded_key)
+        };
+        if !names.contains(&candidate) {
             names.push(candidate);
         }
     }
-    names
+    names.split_off(2)
 }
 
 /// A legal name, most of the time of the given key.

@@ -155,11 +155,16 @@ impl Plain {
         found.ok_or(Refused(word, 0))
     }
 
-    /// All names, SYS and MAP among them.
+    /// All names in the order of the listing, SYS and MAP in their places: that of the numbers
+    /// which the three words are, written one after the other.
     pub fn names(&self) -> Vec<String> {
         let mut names: Vec<String> = self.files.keys().cloned().collect();
         names.push("SYS".into());
         names.push("MAP".into());
+        names.sort_by_key(|name| {
+            let [first, second, third] = words_of(name).map(u64::from);
+            (first * 65_536 + second) * 65_536 + third
+        });
         names
     }
 

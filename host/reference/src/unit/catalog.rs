@@ -4,7 +4,7 @@ use super::image::{book, count_free, enter, mark, write_entry};
 use super::slices::{grow, plan, resize};
 use super::{catalog_survey, known, open, standing, Outcome, Question};
 use crate::layout::*;
-use crate::sound::{survey, Survey};
+use crate::sound::{survey, Entry, Survey};
 use crate::types::{Answer, Name, State};
 
 pub(super) fn init(image: &[u16], state: &mut State, unit: u16) -> Outcome {
@@ -116,11 +116,14 @@ pub(super) fn unit_description(
     })
 }
 
+/// All entries by name, first word first, SYS and MAP among them.
 pub(super) fn listing(image: &[u16], state: &State, unit: u16, lent: &mut [u16]) -> Outcome {
-    let entries = catalog_survey(image, state, unit)?.entries;
+    let mut entries = catalog_survey(image, state, unit)?.entries;
     if lent.len() < ENTRY * entries.len() {
         return Err(Question::ListingRoom.into());
     }
+    // Words are unsigned, and a list of words is compared from the first word on.
+    entries.sort_by_key(Entry::name);
     for (page, entry) in lent.chunks_exact_mut(ENTRY).zip(&entries) {
         page.copy_from_slice(&entry.words);
     }

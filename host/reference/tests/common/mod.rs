@@ -195,12 +195,24 @@ pub fn check_refusal(
     }
 }
 
-/// The used entries of an image, sector by sector and place by place.
-fn in_place_order<'a>(image: &'a [u16], plain: &Plain) -> Vec<&'a [u16]> {
+/// The used entries of an image by name: gathered place by place, each put before the first one
+/// whose name is above its own.
+fn in_name_order<'a>(image: &'a [u16], plain: &Plain) -> Vec<&'a [u16]> {
     let blocks = 0..plain.h * plain.layers;
     let sector = |b: usize| plain.f + (plain.sys[b / plain.s] - 1) * plain.s + b % plain.s;
     let words = blocks.flat_map(|b| image[256 * sector(b)..256 * sector(b) + 256].chunks(16));
-    words.filter(|entry| **entry != [0; 16]).collect()
+    let mut entries: Vec<&[u16]> = Vec::new();
+    for entry in words.filter(|entry| **entry != [0; 16]) {
+        let above = entries.iter().position(|other| is_below(entry, other));
+        entries.insert(above.unwrap_or(entries.len()), entry);
+    }
+    entries
+}
+
+/// Whether an entry's name is below another's: the first word that differs decides.
+fn is_below(one: &[u16], other: &[u16]) -> bool {
+    let differing = (0..3).find(|&word| one[word] != other[word]);
+    differing.is_some_and(|word| one[word] < other[word])
 }
 
 /// Puts a call to a sound unit and to its plain unit and compares everything.
@@ -217,17 +229,12 @@ pub fn checked(
     let mut plain_lent = call.lent.clone();
     let plain_answer = plain.step(&call.message, &mut plain_lent);
     assert_eq!(answer, plain_answer, "{:?}", call.message);
+    assert_eq!(lent, plain_lent, "{:?}", call.message);
     if let (Message::Listing { .. }, 0) = (&call.message, answer.result) {
         let words = 16 * answer.entries as usize;
-        assert_eq!(lent[words..], plain_lent[words..]);
-        let mut entries: Vec<&[u16]> = lent[..words].chunks(16).collect();
-        assert_eq!(entries, in_place_order(&unit.image, plain));
-        let mut others: Vec<&[u16]> = plain_lent[..words].chunks(16).collect();
-        entries.sort();
-        others.sort();
-        assert_eq!(entries, others);
-    } else {
-        assert_eq!(lent, plain_lent, "{:?}", call.message);
+        let entries = in_name_order(&unit.image, plain).concat();
+        assert_eq!(lent[..words], entries);
+        assert_eq!(lent[words..], call.lent[words..]);
     }
     let image = image_after(&before.image, &plain_before, plain);
     if image != unit.image {
@@ -374,6 +381,14 @@ impl Pair {
         self.call(message, &[]).0.result
     }
 
+    /// The listing into just enough words, as texts.
+    pub fn listed(&mut self) -> Vec<String> {
+        let words = 16 * (self.plain.files.len() + 2);
+        let (answer, lent) = self.call(Message::Listing { unit: 0 }, &vec![9; words]);
+        assert_eq!((answer.result, answer.entries as usize), (0, words / 16));
+        lent.chunks(16).map(|entry| text_of(&entry[..3])).collect()
+    }
+
     /// A transput of 512 bytes: result, bytes, block, and the lent words afterwards.
     pub fn transput(
         &mut self,
@@ -405,6 +420,12 @@ impl Pair {
     pub fn free(&self) -> u16 {
         self.word(8, 3)
     }
+}
+
+/// The characters in three words, zeros left out.
+fn text_of(name: &[u16]) -> String {
+    let characters = name.iter().flat_map(|word| word.to_be_bytes());
+    characters.filter(|&c| c != 0).map(char::from).collect()
 }
 
 /// Entry words for Set and Change: a name or none, attributes and size.

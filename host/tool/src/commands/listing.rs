@@ -17,7 +17,9 @@ pub const LS: Command = Command {
     operands: &["IMAGE"],
     choices: &[flag("--json", "print JSON in place of a table"), UNIT],
     summary: "List the files",
-    about: "Lengths and reserved lengths are in sectors. The order is that of the names.",
+    about:
+        "Lengths and reserved lengths are in sectors. The order is the listing's: by name, digits\n\
+            before letters, SYS and MAP in their places.",
     run: ls,
 };
 

@@ -1,0 +1,69 @@
+-- `reports::note_entries` meets its contract: the records of the first b blocks are stored. Assumes nothing.
+use mathlib.Core.Path.{_≡_}
+use Prim.Native.Nat.{_-_, _≤_}
+use native.Mathlib.Omega.{arith}
+use Rattle.reports.specs.Listing.{slotRecords, sysSector, blockRecords, Noted}
+use Rattle.reports.proofs.TurnLaws.{turn-room, turn-start, noted-turn, noted-length}
+use Rattle.reports.proofs.note_entries.Statement.{statement}
+use Rattle.reports.proofs.note_entries.Tie as tie
+
+abbrev Inv-loop : tie.InvT-loop
+Inv-loop image n lent₀ start at₀ b₀ lent at b = (b ≤ n) × Noted lent₀ start (blockRecords image b) lent at
+
+abbrev μ-loop : tie.MeasureT-loop
+μ-loop image n lent₀ start at₀ b₀ lent at b = n - b
+
+loop-holds : tie.Need-loop-holds Inv-loop μ-loop
+loop-holds c = (omega arith, turn-start _ _ _)
+
+sector-at-requires : tie.Need-sector-at-requires Inv-loop μ-loop
+sector-at-requires c κs = tt
+
+note-slots-requires : tie.Need-note-slots-requires Inv-loop μ-loop
+note-slots-requires c κs =
+    let sector = c .before in
+    let turn = sector .before in
+    let l = turn .before in
+    let start = l .before .before .before in
+    let image = start .args .image .now in
+    let room = turn-room (λ b. slotRecords image (sysSector image b) 16) (l .loop .b) (start .args .n) (turn .loop-test .taken) in
+    rw (sector .sector-at .ensures)
+    (start .pre .0 .inside (l .loop .b) (turn .loop-test .taken), omega (arith, l .loop .inv .1 .end, noted-length (l .loop .inv .1), start .pre .1))
+
+add-b : tie.Need-add-b Inv-loop μ-loop
+add-b c = omega arith
+
+loop-less : tie.Need-loop-less Inv-loop μ-loop
+loop-less c = omega arith
+
+loop-again : tie.Need-loop-again Inv-loop μ-loop
+loop-again c =
+    let noted = c .before .before in
+    let sector = noted .before .before in
+    let l = sector .before .before in
+    let image = l .before .before .before .args .image .now in
+    (omega arith, noted-turn (λ b. slotRecords image (sysSector image b) 16) (l .loop .b) (l .loop .inv .1) (rw (sector .sector-at .ensures) at (noted .note-slots .ensures)))
+
+same-length : tie.Need-same-length Inv-loop μ-loop
+same-length c = noted-length (c .before .loop .inv .1)
+
+returns : tie.Need-returns Inv-loop μ-loop
+returns c =
+    let l = c .before in
+    let e : l .loop .b ≡ l .before .before .before .args .n = omega arith in
+    rw (← e) (l .loop .inv .1 .stored)
+
+pub note-entries-spec : {M : Type 1} → statement M
+note-entries-spec =
+    tie.close
+    (tie.spec
+    Inv-loop
+    μ-loop
+    loop-holds
+    sector-at-requires
+    note-slots-requires
+    add-b
+    loop-less
+    loop-again
+    same-length
+    returns)
