@@ -114,13 +114,13 @@ enum {
     RUZKEMP_INDEX_FULL = 0x1008,      /* more than 127 stretches in SYS or the file */
     RUZKEMP_FORMAT_RECORD = 0x1080,   /* Format: not 18 bytes, or fewer than 9 words lent */
     /* Unit not known or not initialized; SYS or MAP; operation unknown; Reserve, output: another exclusive writer; Reserve: exclusive use
-       beside another user; position negative; output at the end of a file that is not extendable. */
+       beside another user; position negative; output or input at the end of a file that is not extendable. */
     RUZKEMP_AREA_ILLEGAL = 0x0A00,
     RUZKEMP_AREA_UNSOUND = 0x8800,  /* the image is not sound with the state */
     RUZKEMP_NO_AREA = 0x4800,       /* area create: name not entered; messages: no area process of the name */
     RUZKEMP_AREA_FULL = 0x0900,     /* area create: all eight in use; output: no slice free */
     RUZKEMP_AREA_RESERVED = 0x0200, /* another user is exclusive user */
-    RUZKEMP_NOT_USER_OR_PAST_END = 0x0810, /* sender 0 or no user; position past the length; input at the length */
+    RUZKEMP_NOT_USER_OR_PAST_END = 0x0810, /* sender 0 or no user; position past the length; input at the end of an extendable file */
     RUZKEMP_USERS_OR_INDEX_FULL = 0x0808,  /* Reserve: three users, or 65,535 opens; output: more than 127 stretches */
     RUZKEMP_BLOCK_SIZE = 0x0880,           /* transput: not 512 bytes, or fewer than 256 words lent */
     RUZKEMP_WRITE_PROTECTED_FILE = 0x0C00, /* output: the file is write protected */
@@ -476,14 +476,15 @@ static inline ruzkemp_answer ruzkemp_transput(
     return ruzkemp_send(unit, message, words, RUZKEMP_SECTOR_WORDS);
 }
 
-/* Input at the sender's position. */
+/* Input at the sender's position. At the end of the file it is refused and the position stays: RUZKEMP_AREA_ILLEGAL where the file is of fixed
+   length, RUZKEMP_NOT_USER_OR_PAST_END where it is extendable. */
 static inline ruzkemp_answer ruzkemp_input(
     ruzkemp_unit *unit, ruzkemp_name name, uint16_t sender, uint16_t words[RUZKEMP_SECTOR_WORDS])
 {
     return ruzkemp_transput(unit, name, sender, RUZKEMP_INPUT, 0, words);
 }
 
-/* Position, then input. */
+/* Position, then input, with the refusals of both. */
 static inline ruzkemp_answer ruzkemp_input_at(
     ruzkemp_unit *unit, ruzkemp_name name, uint16_t sender, uint16_t block, uint16_t words[RUZKEMP_SECTOR_WORDS])
 {

@@ -1,7 +1,7 @@
 /*
  * A season's passes on a unit in memory: formats and initializes it, creates a file, appends two blocks through an area process, sees the
- * length booked when the area process is removed, renames the file and removes it. Every answer is checked against the one that document
- * 01 asks for; season.expected holds the output.
+ * length booked when the area process is removed, renames the file and removes it, and reads a file of fixed length to its end. Every answer
+ * is checked against the one that documents 01 and 02 ask for; season.expected holds the output.
  *
  *     cc -std=c99 -I include examples/c/season.c target/staticlib/libexport.a -o season && ./season
  */
@@ -86,9 +86,27 @@ static void check(ruzkemp_unit *unit, ruzkemp_name passes)
     answer = ruzkemp_input_at(unit, passes, GATE, 3, block);
     expect("Input of block 3", answer.result, RUZKEMP_OK);
     printf("  %u bytes of block %u: pass %u\n", answer.bytes, answer.block, block[0]);
-    expect("Input at the length", ruzkemp_input(unit, passes, GATE, block).result, RUZKEMP_NOT_USER_OR_PAST_END);
+    expect("Input at an extendable file's end", ruzkemp_input(unit, passes, GATE, block).result, RUZKEMP_NOT_USER_OR_PAST_END);
     expect("Output beside an exclusive writer", ruzkemp_output_at(unit, passes, GATE, 0, block).result, RUZKEMP_AREA_ILLEGAL);
     expect("Release", ruzkemp_release(unit, passes, GATE).result, RUZKEMP_OK);
+}
+
+/* Reads prices as the till's old program does: block after block until a refusal, which at the end of a file of fixed length is 0A00h. */
+static void read_prices(ruzkemp_unit *unit, ruzkemp_name prices)
+{
+    uint16_t block[RUZKEMP_SECTOR_WORDS];
+    ruzkemp_answer answer;
+    expect("Create of a fixed file", ruzkemp_create(unit, prices, 2, 0).result, RUZKEMP_OK);
+    expect("Create area", ruzkemp_create_area(unit, prices).result, RUZKEMP_OK);
+    expect("Reserve, user", ruzkemp_reserve(unit, prices, TILL, RUZKEMP_RESERVE_USER).result, RUZKEMP_OK);
+    answer = ruzkemp_input(unit, prices, TILL, block);
+    while (answer.result == RUZKEMP_OK) {
+        printf("  %u bytes of block %u\n", answer.bytes, answer.block);
+        answer = ruzkemp_input(unit, prices, TILL, block);
+    }
+    expect("Input at a fixed file's end", answer.result, RUZKEMP_AREA_ILLEGAL);
+    expect("Release", ruzkemp_release(unit, prices, TILL).result, RUZKEMP_OK);
+    expect("Remove area", ruzkemp_remove_area(unit, prices).result, RUZKEMP_OK);
 }
 
 int main(void)
@@ -119,6 +137,7 @@ int main(void)
     expect("Remove of the old name", ruzkemp_remove(&unit, passes).result, RUZKEMP_NO_ENTRY);
     expect("Remove", ruzkemp_remove(&unit, season).result, RUZKEMP_OK);
     show_free(&unit);
+    read_prices(&unit, ruzkemp_name_of("PRICE", UNIT));
     printf("%s\n", ruzkemp_is_sound(&unit) ? "the unit is sound" : "the unit is not sound");
     return EXIT_SUCCESS;
 }

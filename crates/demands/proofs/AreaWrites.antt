@@ -20,7 +20,7 @@ use Rattle.plain.specs.Questions.{Outcome, asks, either, answer}
 use Rattle.plain.specs.Areas.{moved, positioned, stepReserve, stepRelease}
 use Rattle.plain.specs.Transput.{isOutput, refusedAt, input, append, output, stepTransput}
 use Rattle.plain.specs.Step.{reserveCount, userStep, operationStep, stepArea}
-use Rattle.plain.proofs.QuestionLaws.{asks-law, given-law, either-law}
+use Rattle.plain.proofs.QuestionLaws.{asks-law, given-law, either-law, end-law}
 use Rattle.refine.specs.Writes.{replacedImage, appendedImage}
 use Rattle.steps.specs.Units.{appendSlices}
 use Rattle.output.specs.Output.{outputImage}
@@ -109,7 +109,7 @@ module _ (p : Plain) (i lent : List ℕ) (name : Name) (sender : ℕ) where
         (λ high. ask this _ (stop (omega arith) e s) (ask this _ (stop (omega arith) e s) (ask this _ (stop (omega arith) e s) (record {
           at = appended f _ _ (omega (arith, length-append (f .sectors) (take 256 lent ∷ []))) refl found refl (image-is (answer 0 512 k 0) ∙ appended-is k out high);
         })))))
-        (λ in₀. ask this _ (stop (omega arith) e s) (record { at = nothing (image-is (answer 0 512 k 0) ∙ input-is k in₀) refl refl }))
+        (λ in₀. ask this _ (stop (end-law (λ word. word ≢ 0) (f .attributes) (omega arith) (omega arith)) e s) (record { at = nothing (image-is (answer 0 512 k 0) ∙ input-is k in₀) refl refl }))
 
     transput-does : Does this (stepTransput p (named name) sender users u f operation bytes block lent)
     unfolding stepTransput positioned

@@ -60,7 +60,8 @@ pub record PaperOnImage : Type 0 where
   -- after Init every list of calls is answered as from that unit, and leaves what it has become
   pub unit : {calls : List Call} {replies : List Reply} {fresh end : List ℕ} {stop : State} → FromFormat calls replies fresh end stop → LentWords calls
       → (replies ≡ answers paperUnit calls) × Represents end stop (after paperUnit calls)
-  -- so the cases of `Paper` that begin with `paperUnit` hold of these calls: P6 to P8 accepted, "size 8 on the fresh unit, 1100h; size 7, accepted"
+  -- so the cases of `Paper` that begin with `paperUnit` hold of these calls: P6 to P8 accepted, "size 8 on the fresh unit, 1100h; size 7, accepted",
+  -- and the ends of a fixed and of an extendable file
   pub answered : (cases : List Case) {replies : List Reply} {fresh end : List ℕ} {stop : State} → Shows paperUnit cases → LentWords (callsOf cases)
       → FromFormat (callsOf cases) replies fresh end stop → answersIn replies ≡ expected cases
   -- "(P5) fresh map word 0 is 7800h, free 8"

@@ -187,14 +187,14 @@ module _ {image : List ℕ} {state : State} {o : Opened} {j u k : ℕ} {lent : L
 module _ {image : List ℕ} {state : State} {o : Opened} {j u k : ℕ} {area : Area} (own : area ≡ areaAt state j) where
   -- what was found is that of every file that is placed
   module _ {p q : Plain} {n sender : ℕ} {f : File} (at : Placed image state o p q n j sender u f k) where
-    own-size : area .length ≡ length (f .sectors)
+    pub own-size : area .length ≡ length (f .sectors)
     own-size = ap (λ (x : Area). x .length) own ∙ placed-size at
 
     -- block k
-    own-from : k < area .length → BlockFrom image (area .index .0) k p n f
+    pub own-from : k < area .length → BlockFrom image (area .index .0) k p n f
     own-from x = record { on = placed-on at; file = at .seat .file; first = ap (λ (y : Area). y .index .0) own ∙ placed-index at; below = omega (arith, own-size) }
 
-    own-attributes : {a : ℕ} → AttributesOf image o (packed (area .name)) a → a ≡ f .attributes
+    pub own-attributes : {a : ℕ} → AttributesOf image o (packed (area .name)) a → a ≡ f .attributes
     own-attributes {a} h =
         let e : packed (area .name) ≡ n = ap (λ (x : Area). packed (x .name)) own ∙ named-name state n j (at .seat .named) in
         file-attributes (subst (λ (m : ℕ). AttributesOf image o m a) e h) (placed-on at) (at .numbers) (at .seat .file)

@@ -3,6 +3,8 @@
 // the first three words of sector 12, where the index block of the first file stands. The expected lines are derived from document 01.
 // Then the listing by name (document 02, R-1): a line for the call has the result word and the number of entries, and a line for each
 // entry its name and its words 7 to 9. The expected lines are derived from document 02.
+// Then a file of two blocks is read to its end (document 02, R-4), first a fixed one, then an extendable one, each on a fresh unit; the
+// expected lines are derived from document 02. A refused input leaves the words lent.
 
 ghost use Prim.Native.Nat.{_+_, _≤_};
 use types::Message;
@@ -59,12 +61,12 @@ fn pass() -> Name {
     Name(0x5041, 0x5353, 0)
 }
 
-fn create(size: u16) -> Message {
+fn create(size: u16, attributes: u16) -> Message {
     let name = pass();
     Message::Create {
         name: name,
         size: size,
-        attributes: 1,
+        attributes: attributes,
     }
 }
 
@@ -90,28 +92,18 @@ fn transput(operation: u16, block: u16) -> Message {
     }
 }
 
-// P5, size 8 and size 7 on the fresh unit, P6.
-fn sizes(image: &mut Disc) -> State {
-    fresh(image);
-    show(image);
-    let started = call(
+fn init(image: &mut Disc) -> State {
+    call(
         image,
         types::fresh_state(0),
         Message::Init { unit: 0 },
         0,
         b"init:",
-    );
-    let full = call(image, started, create(8), 0, b"size 8:");
-    let made = call(image, full, create(7), 0, b"size 7:");
-    show(image);
-    let removed = call(image, made, Message::Remove { name: pass() }, 0, b"remove:");
-    let again = call(image, removed, create(2), 0, b"size 2:");
-    show(image);
-    again
+    )
 }
 
-// P7: outputs at 2 and 3.
-fn outputs(image: &mut Disc, state: State) -> State {
+// An area process of 'PASS' with the user 1.
+fn open(image: &mut Disc, state: State) -> State {
     let opened = call(
         image,
         state,
@@ -119,7 +111,26 @@ fn outputs(image: &mut Disc, state: State) -> State {
         0,
         b"create area:",
     );
-    let user = call(image, opened, reserve(1), 0, b"reserve:");
+    call(image, opened, reserve(1), 0, b"reserve:")
+}
+
+// P5, size 8 and size 7 on the fresh unit, P6.
+fn sizes(image: &mut Disc) -> State {
+    fresh(image);
+    show(image);
+    let started = init(image);
+    let full = call(image, started, create(8, 1), 0, b"size 8:");
+    let made = call(image, full, create(7, 1), 0, b"size 7:");
+    show(image);
+    let removed = call(image, made, Message::Remove { name: pass() }, 0, b"remove:");
+    let again = call(image, removed, create(2, 1), 0, b"size 2:");
+    show(image);
+    again
+}
+
+// P7: outputs at 2 and 3.
+fn outputs(image: &mut Disc, state: State) -> State {
+    let user = open(image, state);
     let second = call(image, user, transput(7, 2), 0x0222, b"output 2:");
     let third = call(image, second, transput(3, 0), 0x0333, b"output 3:");
     show(image);
@@ -244,6 +255,39 @@ fn listing(image: &mut Disc, state: State) {
     list(image, short, &mut none, b"listing, no words:");
 }
 
+fn position(block: u16) -> Message {
+    let name = pass();
+    Message::AreaMessage {
+        name: name,
+        sender: 1,
+        operation: Operation::Position(block),
+    }
+}
+
+// A file of two blocks with these attributes on a fresh unit, its blocks written by its user, who stands at block 0 again.
+fn two_blocks(image: &mut Disc, attributes: u16) -> State {
+    fresh(image);
+    let started = init(image);
+    let made = call(image, started, create(2, attributes), 0, b"size 2:");
+    let user = open(image, made);
+    let first = call(image, user, transput(3, 0), 0x0111, b"output 0:");
+    let second = call(image, first, transput(3, 0), 0x0222, b"output 1:");
+    call(image, second, position(0), 0, b"position 0:")
+}
+
+// Its end by operation 1, by 5 at block 2, which is the length, and at block 3, which is past it; then where these left the position.
+fn read_to_end(image: &mut Disc, state: State) {
+    let one = call(image, state, transput(1, 0), 9, b"input by 1:");
+    let two = call(image, one, transput(1, 0), 9, b"input by 1:");
+    let ended = call(image, two, transput(1, 0), 9, b"input by 1:");
+    let last = call(image, ended, transput(5, 1), 9, b"input by 5 at 1:");
+    let there = call(image, last, transput(5, 2), 9, b"input by 5 at 2:");
+    let past = call(image, there, transput(5, 3), 9, b"input by 5 at 3:");
+    let again = call(image, past, transput(1, 0), 9, b"input by 1:");
+    let moved = call(image, again, position(3), 9, b"position 3:");
+    call(image, moved, transput(1, 0), 9, b"input by 1:");
+}
+
 fn main() {
     let mut image: Disc = [0; 5120];
     let made = sizes(&mut image);
@@ -251,4 +295,8 @@ fn main() {
     let shared = users(&mut image, written);
     let closed = closing(&mut image, shared);
     listing(&mut image, closed);
+    let fixed = two_blocks(&mut image, 0);
+    read_to_end(&mut image, fixed);
+    let extendable = two_blocks(&mut image, 1);
+    read_to_end(&mut image, extendable);
 }

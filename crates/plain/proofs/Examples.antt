@@ -4,13 +4,13 @@ use Rattle.plain.specs.Unit.{entry}
 use Rattle.plain.specs.Questions.{asks, given, either}
 use Rattle.plain.specs.Catalog.{newFile, changeFile}
 use Rattle.plain.specs.Areas.{stepReserve, stepRelease, positioned}
-use Rattle.plain.specs.Transput.{input, append, output, stepTransput}
+use Rattle.plain.specs.Transput.{endWord, input, append, output, stepTransput}
 use Rattle.plain.specs.Reports.{stepListing, stepDescription}
 use Rattle.plain.specs.Step.{userStep, operationStep}
 use Rattle.plain.specs.Examples.{Examples}
 
 pub examples : Examples
-unfolding entry asks given either newFile changeFile stepReserve stepRelease positioned input append output stepTransput stepListing stepDescription userStep operationStep
+unfolding entry asks given either newFile changeFile stepReserve stepRelease positioned endWord input append output stepTransput stepListing stepDescription userStep operationStep
 examples = record {
   init = refl;
   initNone = refl;
@@ -50,6 +50,7 @@ examples = record {
   input = refl;
   inputWords = refl;
   randomInput = refl;
+  emptyInput = refl;
   output3 = refl;
   output7 = refl;
   output19 = refl;

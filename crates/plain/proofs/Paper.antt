@@ -4,12 +4,12 @@ use Rattle.plain.specs.Unit.{entry}
 use Rattle.plain.specs.Questions.{asks, given, either}
 use Rattle.plain.specs.Catalog.{newFile}
 use Rattle.plain.specs.Areas.{stepReserve, stepRelease, positioned}
-use Rattle.plain.specs.Transput.{input, append, output, stepTransput}
+use Rattle.plain.specs.Transput.{endWord, input, append, output, stepTransput}
 use Rattle.plain.specs.Step.{userStep, operationStep}
 use Rattle.plain.specs.Paper.{Paper}
 
 pub paper : Paper
-unfolding entry asks given either newFile stepReserve stepRelease positioned input append output stepTransput userStep operationStep
+unfolding entry asks given either newFile stepReserve stepRelease positioned endWord input append output stepTransput userStep operationStep
 paper = record {
   p1 = (refl, refl, refl, refl);
   p2 = (refl, refl);
@@ -23,4 +23,6 @@ paper = record {
   size8 = refl;
   size7 = refl;
   fourth = refl;
+  fixedEnd = refl;
+  extendableEnd = refl;
 }

@@ -1,10 +1,13 @@
 -- Laws of the questions: what holds of the refusal and of what follows holds of the question.
 use mathlib.Core.Path.{_≡_, refl}
-use mathlib.Core.Bool.{Bool, true, false, not, _&&_, _||_}
+use mathlib.Core.Bool.{Bool, true, false, cond, not, _&&_, _||_}
 use mathlib.Core.Option.{Option, none, some}
+use Prim.Native.Nat.{ℕ}
 use lib.Dec.{T}
+use Rattle.disc.specs.Attributes.{extendable}
 use Rattle.plain.specs.Table.{isSome}
 use Rattle.plain.specs.Questions.{Outcome, asks, given, either}
+use Rattle.plain.specs.Transput.{endWord}
 
 pub asks-law : (P : Outcome → Type 0) (b : Bool) {refusal next : Outcome} → P refusal → (T b → P next) → P (asks b refusal next)
 unfolding asks
@@ -20,6 +23,15 @@ pub either-law : (P : Outcome → Type 0) (b : Bool) {x y : Outcome} → (T b �
 unfolding either
 either-law P true h k = h tt
 either-law P false h k = k tt
+
+-- what holds of both words of an input at the length holds of the word of every file
+pub end-law : (P : ℕ → Type 0) (attributes : ℕ) → P 0x0810 → P 0x0A00 → P (endWord attributes)
+unfolding endWord
+end-law P attributes h k = go (extendable attributes)
+  where
+    go : (b : Bool) → P (cond b 0x0810 0x0A00)
+    go true = h
+    go false = k
 
 -- ---- tests
 

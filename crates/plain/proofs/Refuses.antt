@@ -25,7 +25,7 @@ use Rattle.plain.specs.Transput.{isOutput, refusedAt, input, append, out
 use Rattle.plain.specs.Reports.{stepListing, stepDescription}
 use Rattle.plain.specs.Step.{Call, reserveCount, userStep, operationStep, stepArea, step, after, answers}
 use Rattle.plain.specs.Claims.{Moves, position, random, Left, everything, butPosition, Refused, NeverShrinks, NeverUnsound, EachNeverUnsound}
-use Rattle.plain.proofs.QuestionLaws.{asks-law, given-law, either-law}
+use Rattle.plain.proofs.QuestionLaws.{asks-law, given-law, either-law, end-law}
 use Rattle.plain.proofs.TakingLaws.{layers-up, sysTaken}
 
 -- ---- SYS
@@ -170,7 +170,7 @@ module _ (p : Plain) (message : Message) (lent : List ℕ) (n : ℕ) (move : ℕ
   -- Input and output from the unit q that Position left.
   inputStays : (q : Plain) (k : ℕ) → Left p message q → Stays p message lent (input q move f k lent)
   unfolding input
-  inputStays q k l = ask _ (leaves _ tt l) (accepts refl (stays _))
+  inputStays q k l = ask _ (leaves _ (end-law (λ word. T (other word)) (f .attributes) tt tt) l) (accepts refl (stays _))
 
   outputStays : (q : Plain) (k : ℕ) → Left p message q → Stays p message lent (output p q move n f k lent)
   unfolding output append

@@ -1,5 +1,5 @@
 -- Small examples in which every result word of every call occurs, but 9000h and 8800h, which never come in the plain
--- unit. The words are worked out by hand from section 'The questions'; a comment names the question that gives each.
+-- unit. The words are worked out by hand from section 'The questions' and document 02; a comment names the question that gives each.
 use mathlib.Core.Path.{_≡_}
 use mathlib.Core.List.{List, [], _∷_, _++_}
 use mathlib.Core.Option.{Option, some}
@@ -342,7 +342,7 @@ inputCases =
     ∷ givesAt (AreaMessage aName 7 (Transput 1 512 0)) (blank 255) 0x0880 0 0  -- 256 words lent?
     ∷ reads 0 512 0
     ∷ givesAt (AreaMessage aName 7 (Transput 1 512 9)) (blank 256) 0 512 1  -- 1 reads no block number
-    ∷ reads 0x0810 0 2  -- below the length?
+    ∷ reads 0x0810 0 2  -- extendable: below the length?
     ∷ givesAt (AreaMessage aName 7 (Transput 1 510 0)) (blank 256) 0x0880 0 2  -- 512 bytes?
     ∷ []
 
@@ -356,9 +356,26 @@ randomInputCases =
     ∷ givesAt (AreaMessage aName 7 (Transput 5 511 1)) (blank 256) 0x0880 0 2  -- asked before Position
     ∷ readsAt 0x8000 0x0A00 0 0  -- Position: not negative? "becomes 0"
     ∷ reads 0 512 0
-    ∷ readsAt 2 0x0810 0 2  -- Input: below the length?
+    ∷ readsAt 2 0x0810 0 2  -- extendable: below the length?
     ∷ readsAt 1 0 512 1
     ∷ []
+
+-- Files without a block, by 1 and by 5: 'A' is extendable, 'B' fixed, 'C' entry only.
+abbrev pub endsAt : Name → ℕ → List Case
+endsAt name word =
+    gives (CreateArea name) [] 0
+    ∷ gives (AreaMessage name 7 (Reserve 3)) [] 0
+    ∷ givesAt (AreaMessage name 7 (Transput 1 512 0)) (blank 256) word 0 0  -- below the length?
+    ∷ givesAt (AreaMessage name 7 (Transput 5 512 0)) (blank 256) word 0 0  -- below the length?
+    ∷ givesAt (AreaMessage name 7 (Transput 5 512 1)) (blank 256) 0x0810 0 0  -- Position: not past the length?
+    ∷ []
+
+abbrev pub emptyInputCases : List Case
+emptyInputCases =
+    gives (Create aName 0 1) [] 0
+    ∷ gives (Create bName 0 0) [] 0
+    ∷ gives (Create cName 0 4) [] 0
+    ∷ endsAt aName 0x0810 ++ (endsAt bName 0x0A00 ++ endsAt cName 0x0A00)
 
 -- Output by user 7 or 8: by 3, 7 and 19 alike, as the block is always the user's position.
 abbrev pub writes : ℕ → Name → ℕ → ℕ → ℕ → ℕ → ℕ → Case
@@ -393,7 +410,7 @@ randomOutputCases =
     ∷ writes 7 aName 7 1 1 0 512
     ∷ gives (AreaMessage cName 7 (Position 0)) [] 0
     ∷ writes 7 cName 7 1 1 0x0A00 0  -- appending: extendable?
-    ∷ givesAt (AreaMessage cName 7 (Transput 1 512 0)) (blank 256) 0x0810 0 1  -- moved, "whatever follows"
+    ∷ givesAt (AreaMessage cName 7 (Transput 1 512 0)) (blank 256) 0x0A00 0 1  -- moved, "whatever follows"; fixed: below the length?
     ∷ givesAt (AreaMessage bName 7 (Transput 7 512 5)) (sectorOf 1) 0x0C00 0 0  -- asked before Position
     ∷ []
 
@@ -491,6 +508,7 @@ pub record Examples : Type 0 where
   pub input : Shows openUnit inputCases
   pub inputWords : wordsAfter openUnit (AreaMessage aName 7 (Transput 1 512 0)) (blank 257) ≡ sectorOf 0xA0 ++ blank 1
   pub randomInput : Shows openUnit randomInputCases
+  pub emptyInput : Shows paperUnit emptyInputCases
   pub output3 : Shows outputUnit (outputCases 3)
   pub output7 : Shows outputUnit (outputCases 7)
   pub output19 : Shows outputUnit (outputCases 19)

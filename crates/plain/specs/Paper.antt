@@ -1,4 +1,4 @@
--- Section 'Worked on paper': P1 to P8 and the cases not marked, as rows of one stated fact.
+-- Section 'Worked on paper': P1 to P8 and the cases not marked, as rows of one stated fact; and the end of a file, of document 02, R-4.
 use mathlib.Core.Path.{_≡_}
 use mathlib.Core.List.{List, [], _∷_, _++_}
 use mathlib.Core.Option.{Option, none, some}
@@ -6,7 +6,7 @@ use Prim.Native.Nat.{ℕ}
 use lib.ListN.{getD, replicate}
 use Rattle.types.specs.declared.Name.{Name}
 use Rattle.types.specs.declared.Operation.{Operation}
-use Rattle.types.specs.declared.Operation.the-variants.{Reserve, Transput}
+use Rattle.types.specs.declared.Operation.the-variants.{Reserve, Position, Transput}
 use Rattle.types.specs.declared.Message.the-variants.{Create, LookUp, CreateArea, RemoveArea, AreaMessage}
 use Rattle.disc.specs.Numbers.{need}
 use Rattle.disc.specs.Names.{named, keyOf, SYS, MAP}
@@ -74,6 +74,28 @@ sevenCalls =
 abbrev pub eightCalls : List Case
 eightCalls = sevenCalls ++ (passArea 9 (Reserve 0) [] 0 ∷ gives (RemoveArea pass) [] 0 ∷ [])
 
+-- Input by operation 1 or 5 from the area 'PASS': result word, byte count and block.
+abbrev pub reads : ℕ → ℕ → ℕ → ℕ → ℕ → Case
+reads operation block result bytes at = givesAt (AreaMessage pass 9 (Transput operation 512 block)) (sectorOf 9) result bytes at
+
+-- 'PASS' with two blocks and these attributes is read to its end, at which input has the result word given: by 1 from block 0 on, by 5
+-- at block 2, which is the length, and by 1 where a 5 and a Position to block 3, past the length, have left the position.
+abbrev pub endCalls : ℕ → ℕ → List Case
+endCalls attributes word =
+    gives (Create pass 2 attributes) [] 0
+    ∷ gives (CreateArea pass) [] 0
+    ∷ passArea 9 (Reserve 3) [] 0
+    ∷ reads 1 0 0 512 0
+    ∷ reads 1 0 0 512 1
+    ∷ reads 1 0 word 0 2
+    ∷ reads 5 1 0 512 1
+    ∷ reads 5 2 word 0 2
+    ∷ reads 5 3 0x0810 0 2  -- Position: not past the length?
+    ∷ reads 1 0 word 0 2
+    ∷ passArea 9 (Position 3) [] 0x0810  -- the same
+    ∷ reads 1 0 word 0 2
+    ∷ []
+
 -- The fresh unit after the calls of P6, P7 and P8.
 abbrev pub sixth : Plain
 sixth = after paperUnit (callsOf sixCalls)
@@ -114,3 +136,7 @@ pub record Paper : Type 0 where
       ∷ passArea 8 (Reserve 3) [] 0
       ∷ passArea 9 (Reserve 3) [] 0x0808
       ∷ [])
+  -- "Input at the length of a file without bit 15 shall answer 0A00h."
+  pub fixedEnd : Shows paperUnit (endCalls 0 0x0A00)
+  -- "An extendable file still gives 0810h there."
+  pub extendableEnd : Shows paperUnit (endCalls 1 0x0810)

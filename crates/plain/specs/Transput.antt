@@ -1,6 +1,6 @@
 -- Transput: "Input (1, 5) hands out the sector there, output (3, 7, 19) replaces it or, at the live length, appends;
 -- both hand back 512 bytes and that block, and add 1 to the position. 5 and 7 do Position first. 19 answers as 3."
-use mathlib.Core.Bool.{Bool, true, false, not, _&&_, _||_}
+use mathlib.Core.Bool.{Bool, true, false, cond, not, _&&_, _||_}
 use mathlib.Core.List.{List, [], _∷_, _++_}
 use Prim.Native.Nat.{ℕ, suc}
 use lib.ListN.{length, take, getD, set}
@@ -49,10 +49,14 @@ rewritten f slices sectors = record {
 abbrev pub withFile : ℕ → File → Plain → Plain
 withFile n f p = withFiles p (tablePut n f (p .files))
 
--- "Input: below the length? 0810h." q is the unit once Position was done, and k the position.
+-- "Input at the length of a file without bit 15 shall answer 0A00h. An extendable file still gives 0810h there." (Document 02, R-4.)
+unfoldable pub endWord : ℕ → ℕ
+endWord attributes = cond (extendable attributes) 0x0810 0x0A00
+
+-- "Input: below the length?" q is the unit once Position was done, and k the position.
 unfoldable pub input : Plain → (ℕ → Plain) → File → ℕ → List ℕ → Outcome
 input q move f k lent =
-    asks (ltb k (length (f .sectors))) (refusedAt q 0x0810 k lent)
+    asks (ltb k (length (f .sectors))) (refusedAt q (endWord (f .attributes)) k lent)
     (transferred (move (suc k)) k (fill (getD (f .sectors) k []) lent))
 
 -- 1 where a test holds, else 0.

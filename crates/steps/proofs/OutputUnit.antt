@@ -12,7 +12,7 @@ use Rattle.plain.specs.Table.{Table}
 use Rattle.plain.specs.Unit.{Plain, File, AreaUser, freeSlices}
 use Rattle.plain.specs.Questions.{Outcome, replies, done, either, fill}
 use Rattle.plain.specs.Areas.{isWriter, other, moved, positioned, stepPosition}
-use Rattle.plain.specs.Transput.{isOutput, isRandom, refusedAt, transferred, rewritten, withFile, input, output, append, slicesToTake, stepTransput}
+use Rattle.plain.specs.Transput.{isOutput, isRandom, refusedAt, transferred, rewritten, withFile, endWord, input, output, append, slicesToTake, stepTransput}
 use Rattle.steps.proofs.AskLaws.{asks-yes, asks-no, either-yes, either-no}
 use Rattle.steps.specs.Units.{appendSlices}
 
@@ -93,7 +93,7 @@ module _ (p : Plain) (n sender : ℕ) (users : Table AreaUser) (u : AreaUser) (f
 
     module _ (q : Plain) (k : ℕ) where
       -- Input
-      pub input-past : isOutput operation ≡ false → ltb k (length (f .sectors)) ≡ false → transputAt q k ≡ refusedAt q 0x0810 k lent
+      pub input-past : isOutput operation ≡ false → ltb k (length (f .sectors)) ≡ false → transputAt q k ≡ refusedAt q (endWord (f .attributes)) k lent
       unfolding input
       input-past out l = either-no _ _ _ out ∙ asks-no _ _ _ l
 

@@ -14,7 +14,7 @@ use Rattle.types.specs.declared.Area.{Area}
 use Rattle.types.specs.declared.State.{State}
 use Rattle.types.specs.State.{areaAt, userAt}
 use Rattle.disc.specs.Numbers.{negative}
-use Rattle.disc.specs.Attributes.{writeProtected}
+use Rattle.disc.specs.Attributes.{writeProtected, extendable}
 use Rattle.words.specs.Store.{sectorWords}
 use Rattle.state.specs.declared.Kind.the-variants.{Writer}
 use Rattle.state.specs.Areas.{packed, anyOther}
@@ -22,7 +22,8 @@ use Rattle.plain.specs.Table.{Table, tableFind}
 use Rattle.plain.specs.Unit.{Plain, File, AreaUser}
 use Rattle.plain.specs.Questions.{Outcome, fill}
 use Rattle.plain.specs.Areas.{isWriter, other, moved}
-use Rattle.plain.specs.Transput.{isOutput, isRandom, refusedAt, input, stepTransput}
+use Rattle.plain.specs.Transput.{isOutput, isRandom, refusedAt, endWord, input, stepTransput}
+use Rattle.plain.proofs.QuestionLaws.{end-law}
 use Rattle.refine.specs.Represents.{Represents}
 use Rattle.refine.proofs.StateLaws.{named-name}
 use Rattle.steps.proofs.Whole.{on-disc, represents}
@@ -37,8 +38,8 @@ use Rattle.sharing.specs.declared.AreaReply.{AreaReply}
 use Rattle.sharing.specs.Sharing.{areaReply, atPosition, positionWord, positionReached}
 use Rattle.sharing.specs.Leaves.{Leaves, Seat, areaUsers, areaUser}
 use Rattle.sharing.proofs.ShareLaws.{leaves, seat-size, position-inside, moved-good, moved-represents, own-position, reached-low}
-use Rattle.output.specs.Output.{BlockSectorOf, Placed, SomePlaced, outputImage, outputState, Outputs}
-use Rattle.output.proofs.OutputLaws.{placed-on, placed-index, placed-size, image-refused, state-refused}
+use Rattle.output.specs.Output.{AttributesOf, BlockSectorOf, Placed, SomePlaced, outputImage, outputState, Outputs}
+use Rattle.output.proofs.OutputLaws.{own-size, own-from, own-attributes, image-refused, state-refused}
 use Rattle.transput.specs.Transput.{refusalWord, RefusalFor, inputState, InputLeaves, Inputs, transputFrom, transputImage, transputState, TransputLeaves, TransputsAt, Seated, Transputs}
 
 -- ---- the questions before the position is moved
@@ -69,6 +70,17 @@ module _ (area : Area) (attributes sender operation bytes count : ℕ) where
       pub word-output : anyOther Writer sender area ≡ false → writeProtected attributes ≡ false → 0 ≡ refusalWord area attributes sender operation bytes count
       unfolding refusalWord
       word-output w t = rw (eq-eqb bytes 512 e, le-leb 256 count x, out, w, t) refl
+
+-- ---- the word of an input at the length
+
+module _ (attributes : ℕ) where
+  pub end-extendable : extendable attributes ≡ true → 0x0810 ≡ endWord attributes
+  unfolding endWord
+  end-extendable e = rw e refl
+
+  pub end-fixed : extendable attributes ≡ false → 0x0A00 ≡ endWord attributes
+  unfolding endWord
+  end-fixed e = rw e refl
 
 -- ---- image and state by the result word
 
@@ -120,11 +132,13 @@ module _ {image : List ℕ} {state : State} {o : Opened} {p q : Plain} {n j send
   is-input : input q (moved p n sender (areaUsers state j) (areaUser state j u)) f k lent ≡ transputAt p n sender (areaUsers state j) (areaUser state j u) f 1 lent q k
   is-input = sym (either-no _ _ _ refl)
 
-  pub input-refused : length (f .sectors) ≤ k → InputLeaves image state p q n j sender u f k lent (areaReply (atPosition state j u k) 0x0810 0 k) lent
-  input-refused x = record {
-    leaves = leaves (is-input ∙ input-past p n sender (areaUsers state j) (areaUser state j u) f 1 lent q k refl (le-ltb k (length (f .sectors)) x)) (at .good) (at .represents);
+  pub input-refused : {w : ℕ} → length (f .sectors) ≤ k → w ≡ endWord (f .attributes) → InputLeaves image state p q n j sender u f k lent (areaReply (atPosition state j u k) w 0 k) lent
+  input-refused {w} x e = record {
+    leaves =
+        leaves (is-input ∙ input-past p n sender (areaUsers state j) (areaUser state j u) f 1 lent q k refl (le-ltb k (length (f .sectors)) x) ∙ ap (λ (y : ℕ). refusedAt q y k lent) (sym e)) (at .good)
+        (at .represents);
     block = refl;
-    reached = refused-state state j u k 0x0810 (λ z. omega arith);
+    reached = refused-state state j u k w (λ z. end-law (λ (y : ℕ). y ≢ 0) (f .attributes) (λ y. omega arith) (λ y. omega arith) (sym e ∙ z));
   }
 
   pub input-handed : k < length (f .sectors) → InputLeaves image state p q n j sender u f k lent (areaReply (atPosition state j u (k + 1)) 0 512 k) (fill (getD (f .sectors) k []) lent)
@@ -136,21 +150,20 @@ module _ {image : List ℕ} {state : State} {o : Opened} {p q : Plain} {n j send
     reached = done-state state j u k;
   }
 
-module _ {image : List ℕ} {state : State} {j u k : ℕ} {area : Area} (own : area ≡ areaAt state j) where
-  own-size : {o : Opened} {p q : Plain} {n sender : ℕ} {f : File} → Placed image state o p q n j sender u f k → area .length ≡ length (f .sectors)
-  own-size at = ap (λ (x : Area). x .length) own ∙ placed-size at
-
-  pub inputs-refused : {lent : List ℕ} {reply : AreaReply} → area .length ≤ k → reply ≡ areaReply (atPosition state j u k) 0x0810 0 k → Inputs image state j u k lent reply lent
-  inputs-refused {lent} x e = record { all = λ o p q n sender f at. rw e (input-refused at lent (omega (arith, own-size at))) }
+module _ {image : List ℕ} {state : State} {o : Opened} {j u k : ℕ} {area : Area} (own : area ≡ areaAt state j) where
+  pub inputs-refused : {lent : List ℕ} {reply : AreaReply} {a w : ℕ} → area .length ≤ k → AttributesOf image o (packed (area .name)) a → w ≡ endWord a
+      → reply ≡ areaReply (atPosition state j u k) w 0 k → Inputs image state o j u k lent reply lent
+  inputs-refused {lent} x attributes word e = record {
+    all = λ p q n sender f at. rw e (input-refused at lent (omega (arith, own-size own at)) (word ∙ ap endWord (own-attributes own at attributes)));
+  }
 
   pub inputs-handed : {lent : List ℕ} {reply : AreaReply} {r : ℕ} {after : List ℕ} → k < area .length → BlockSectorOf image (area .index .0) k r → after ≡ sectorWords image r ++ drop 256 lent
-      → reply ≡ areaReply (atPosition state j u (k + 1)) 0 512 k → Inputs image state j u k lent reply after
+      → reply ≡ areaReply (atPosition state j u (k + 1)) 0 512 k → Inputs image state o j u k lent reply after
   inputs-handed {lent} x h filled e = record {
-    all = λ o p q n sender f at.
-        let below : k < length (f .sectors) = omega (arith, own-size at) in
-        let sector = h .all p n f (record { on = placed-on at; file = at .seat .file; first = ap (λ (y : Area). y .index .0) own ∙ placed-index at; below = below }) in
-        let words = filled ∙ ap (λ (y : ℕ). sectorWords image y ++ drop 256 lent) sector ∙ input-filled (placed-on at) n (at .seat .file) k below lent in
-        rw (e, words) (input-handed at lent below);
+    all = λ p q n sender f at.
+        let from = own-from own at x in
+        let words = filled ∙ ap (λ (y : ℕ). sectorWords image y ++ drop 256 lent) (h .all p n f from) ∙ input-filled (from .on) n (from .file) k (from .below) lent in
+        rw (e, words) (input-handed at lent (from .below));
   }
 
 -- ---- input or output
@@ -167,10 +180,10 @@ module _ {image : List ℕ} {state : State} {o : Opened} {j u operation k : ℕ}
         };
   }
 
-  pub at-input : {filled : List ℕ} → isOutput operation ≡ false → Inputs image state j u k lent reply filled → TransputsAt image state o j u operation k lent reply filled image
+  pub at-input : {filled : List ℕ} → isOutput operation ≡ false → Inputs image state o j u k lent reply filled → TransputsAt image state o j u operation k lent reply filled image
   at-input {filled} out h = record {
     all = λ p q n sender f at.
-        let l = h .all o p q n sender f at in
+        let l = h .all p q n sender f at in
         record {
           leaves = subst (λ (x : Outcome). Leaves x (reply .answer) filled image (reply .state)) (sym (either-no _ _ _ out)) (l .leaves);
           written = rw (l .block) (input-image p f k image lent operation (reply .answer .result) out);

@@ -21,7 +21,7 @@ use Rattle.unit.specs.Opened.{NumbersOf}
 use Rattle.sharing.specs.declared.AreaReply.{AreaReply}
 use Rattle.sharing.specs.Sharing.{atPosition}
 use Rattle.sharing.specs.Leaves.{Leaves, Seat, areaUsers, areaUser}
-use Rattle.output.specs.Output.{Placed, SomePlaced, outputImage, outputState}
+use Rattle.output.specs.Output.{Placed, outputImage, outputState}
 
 -- ---- the questions before the position is moved
 
@@ -39,11 +39,6 @@ pub record RefusalFor (image : List ℕ) (o : Opened) (area : Area) (sender oper
 
 -- ---- input
 
--- What Input starts from: as Output, whatever the unit's numbers.
-pub record SomeHere (image : List ℕ) (state : State) (j u k : ℕ) (lent : List ℕ) : Type 0 where
-  pub o : Opened
-  pub here : SomePlaced image state o j u k lent
-
 -- "Add 1 to the position", where Input is not refused.
 unfoldable pub inputState : State → ℕ → ℕ → ℕ → ℕ → State
 inputState state j u result k = atPosition state j u (cond (eqb result 0) (suc k) k)
@@ -54,8 +49,8 @@ pub record InputLeaves (image : List ℕ) (state : State) (p q : Plain) (n j sen
   pub block : r .answer .block .0 ≡ k
   pub reached : r .state ≡ inputState state j u (r .answer .result) k
 
-pub record Inputs (image : List ℕ) (state : State) (j u k : ℕ) (lent : List ℕ) (r : AreaReply) (after : List ℕ) : Type 0 where
-  pub all : (o : Opened) (p q : Plain) (n sender : ℕ) (f : File) → Placed image state o p q n j sender u f k → InputLeaves image state p q n j sender u f k lent r after
+pub record Inputs (image : List ℕ) (state : State) (o : Opened) (j u k : ℕ) (lent : List ℕ) (r : AreaReply) (after : List ℕ) : Type 0 where
+  pub all : (p q : Plain) (n sender : ℕ) (f : File) → Placed image state o p q n j sender u f k → InputLeaves image state p q n j sender u f k lent r after
 
 -- ---- input or output
 

@@ -1,10 +1,10 @@
 // Transput by a user of an open area: its questions, Position first for 5 and 7, then input or output.
 
 ghost use mathlib.Core.Path.{_≡_};
-ghost use Rattle.plain.specs.Transput.{isOutput, isRandom};
+ghost use Rattle.plain.specs.Transput.{isOutput, isRandom, endWord};
 ghost use Rattle.unit.specs.Opened.{Searchable};
 ghost use Rattle.output.specs.Output.{SomePlaced};
-ghost use Rattle.transput.specs.Transput.{RefusalFor, SomeHere, Inputs, TransputsAt, Seated, Transputs};
+ghost use Rattle.transput.specs.Transput.{RefusalFor, Inputs, TransputsAt, Seated, Transputs};
 use sharing::AreaReply;
 use state::Kind;
 use types::Area;
@@ -66,14 +66,33 @@ fn refusal(
     0
 }
 
-// Input at position k by the user of entry u of area descriptor j.
-fn input(image: &[u16], state: State, j: usize, u: usize, k: Block, lent: &mut [u16]) -> AreaReply
-    requires { ⌜ SomeHere (now image) state j u (k .0) (now lent) ⌝ }
-    ensures { λ r. ⌜ Inputs (now (image .entry)) state j u (k .0) (now (lent .entry)) r (now (lent .exit)) ⌝ }
+// The word of an input at the length of a file with these attributes: an extendable file may yet grow, a fixed one has ended.
+fn end_word(attributes: u16) -> u16
+    ensures { λ r. ⌜ r ≡ endWord attributes ⌝ }
+{
+    if numbers::bit(15, attributes) {
+        return 0x0810;
+    }
+    0x0A00
+}
+
+// Input at position k by the user of entry u of area descriptor j. Only at the length are the file's attributes looked up.
+fn input(
+    image: &[u16],
+    o: Opened,
+    state: State,
+    j: usize,
+    u: usize,
+    k: Block,
+    lent: &mut [u16],
+) -> AreaReply
+    requires { ⌜ SomePlaced (now image) state o j u (k .0) (now lent) ⌝ }
+    ensures { λ r. ⌜ Inputs (now (image .entry)) state o j u (k .0) (now (lent .entry)) r (now (lent .exit)) ⌝ }
 {
     let area = state::area_at(state, j);
     if area.length <= k.0 {
-        return sharing::refused_at(state, j, u, 0x0810, k);
+        let word = end_word(output::attributes_of(image, o, area.name));
+        return sharing::refused_at(state, j, u, word, k);
     }
     let q = output::sector_of(image, area.index, k);
     words::copy_sector(image, q, lent);
@@ -97,7 +116,7 @@ fn transput_at(
     if is_output(operation) {
         return output::output(image, o, state, j, u, k, lent);
     }
-    input(image, state, j, u, k, lent)
+    input(image, o, state, j, u, k, lent)
 }
 
 // Transput by the sender, the user of entry u of area descriptor j. 5 and 7 move the position whatever follows.

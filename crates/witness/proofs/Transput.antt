@@ -52,14 +52,14 @@ module _ {image : List ℕ} {state : State} {j u : ℕ} {p : Plain} {n sender : 
   one-transput l = record { all = λ p′ n′ f′ s num. let e = same-seat s in rw (e .0, e .1, e .3) l }
 
 module _ {image : List ℕ} {state : State} {o : Opened} {p q : Plain} {n j sender u : ℕ} {f : File} {k : ℕ} (at : Placed image state o p q n j sender u f k) where
-  same-unit : {o′ : Opened} {p′ q′ : Plain} {n′ sender′ : ℕ} {f′ : File} → Placed image state o′ p′ q′ n′ j sender′ u f′ k → q′ ≡ q
+  same-unit : {p′ q′ : Plain} {n′ sender′ : ℕ} {f′ : File} → Placed image state o p′ q′ n′ j sender′ u f′ k → q′ ≡ q
   same-unit {q′ = q′} a = sound-represents .unique image (atPosition state j u k) q q′ (at .good) (a .good) (at .represents) (a .represents)
 
   one-output : {lent : List ℕ} {r : AreaReply} {after : List ℕ} → OutputLeaves image state p q n j sender u f k lent r after → Outputs image state o j u k lent r after
   one-output l = record { all = λ p′ q′ n′ sender′ f′ a. let e = same-seat (at .seat) (a .seat) in rw (e .0, same-unit a, e .1, e .2, e .3) l }
 
-  one-input : {lent : List ℕ} {r : AreaReply} {filled : List ℕ} → InputLeaves image state p q n j sender u f k lent r filled → Inputs image state j u k lent r filled
-  one-input l = record { all = λ o′ p′ q′ n′ sender′ f′ a. let e = same-seat (at .seat) (a .seat) in rw (e .0, same-unit a, e .1, e .2, e .3) l }
+  one-input : {lent : List ℕ} {r : AreaReply} {filled : List ℕ} → InputLeaves image state p q n j sender u f k lent r filled → Inputs image state o j u k lent r filled
+  one-input l = record { all = λ p′ q′ n′ sender′ f′ a. let e = same-seat (at .seat) (a .seat) in rw (e .0, same-unit a, e .1, e .2, e .3) l }
 
   -- ---- at a position
 
@@ -91,7 +91,7 @@ module _ {image : List ℕ} {state : State} {o : Opened} {p q : Plain} {n j send
             (λ d. told (refused at lent (roomWord p f) d (no-room at lent x e d)))
 
     input-some : isOutput operation ≡ false → SomeReply (TransputsAt image state o j u operation k lent)
-    input-some out = below-or k (length (f .sectors)) (λ x. told (input-handed at lent x)) (λ x. told (input-refused at lent x))
+    input-some out = below-or k (length (f .sectors)) (λ x. told (input-handed at lent x)) (λ x. told (input-refused at lent x refl))
       where
         told : {r : AreaReply} {filled : List ℕ} → InputLeaves image state p q n j sender u f k lent r filled → SomeReply (TransputsAt image state o j u operation k lent)
         told l = record { reply = _; filled = _; after = _; holds = at-input out (one-input l) }

@@ -21,6 +21,9 @@ const TARGET: f64 = 1.0;
 const LOOKED_UP: usize = 16;
 /// The sender of transputs.
 const SENDER: u16 = 7;
+/// The word of an input at the length of an extendable file, as the generated files are. A library
+/// of before R-4 has it too, and since then a fixed file takes the same steps to its own word.
+const PAST_END: u16 = 0x0810;
 
 const UNITS: [(&str, Shape); 3] = [
     ("small: 100 files", FEW),
@@ -47,11 +50,13 @@ macro_rules! both {
     )};
 }
 
-/// A kind of call: messages sent in turn, how many calls that makes, and the words lent.
+/// A kind of call: messages sent in turn, how many calls that makes, their result word and the words
+/// lent.
 struct Calls {
     title: &'static str,
     messages: Vec<Both>,
     calls: usize,
+    result: u16,
     lent: Vec<u16>,
 }
 
@@ -66,6 +71,7 @@ fn look_up(entries: &[Words]) -> Calls {
         title: "Look-up",
         calls: messages.len(),
         messages,
+        result: 0,
         lent: vec![0; 16],
     }
 }
@@ -83,25 +89,27 @@ fn create_and_remove(name: NameWords) -> Calls {
             both!(Remove { name }),
         ],
         calls: 1,
+        result: 0,
         lent: vec![],
     }
 }
 
-/// Transput of a file's first block.
-fn transput(title: &'static str, name: NameWords, number: u16) -> Calls {
+/// Transput of a block of a file, with its result word.
+fn transput(title: &'static str, name: NameWords, number: u16, block: u16, result: u16) -> Calls {
     let message = both!(AreaMessage {
         name,
         sender: SENDER,
         operation: Operation::Transput {
             operation: number,
             bytes: 512,
-            block: 0
+            block
         }
     });
     Calls {
         title,
         messages: vec![message],
         calls: 1,
+        result,
         lent: vec![1; 256],
     }
 }
@@ -111,6 +119,7 @@ fn listing(entries: &[Words]) -> Calls {
         title: "Listing",
         messages: vec![both!(Listing { unit: 0 })],
         calls: 1,
+        result: 0,
         lent: vec![0; 16 * entries.len()],
     }
 }
@@ -139,7 +148,7 @@ impl Pair {
             operation: Operation::Reserve(count)
         });
         for message in [both!(CreateArea { name }), reserve] {
-            self.send_both(&message, &mut []);
+            self.send_both(&message, 0, &mut []);
         }
     }
 
@@ -152,15 +161,15 @@ impl Pair {
         reference::perform(image, state, &message.1, lent).result
     }
 
-    /// Sends a message to both, which have to obey it and to agree on the image; says whether they
-    /// agree on the lent words too.
-    fn send_both(&mut self, message: &Both, lent: &mut [u16]) -> bool {
+    /// Sends a message to both, which have to answer this result word and to agree on the image;
+    /// says whether they agree on the lent words too.
+    fn send_both(&mut self, message: &Both, result: u16, lent: &mut [u16]) -> bool {
         let mut copy = lent.to_vec();
         let results = (
             self.send_proved(message, lent),
             self.send_second(message, &mut copy),
         );
-        assert_eq!(results, (0, 0), "{:?} is refused", message.0);
+        assert_eq!(results, (result, result), "{:?}", message.0);
         let images = self.proved.image() == self.second.image;
         assert!(images, "{:?} differs", message.0);
         lent == copy
@@ -250,21 +259,23 @@ fn rows_of(random: &mut Random, unit: &'static str, shape: &Shape) -> Vec<Row> {
     let entries = gathered(pair.proved.image());
     let with_block = |entry: &&Words| is_file(*entry) && entry[7] > 0;
     let file = entries.iter().find(with_block);
-    let file = name_in(file.expect("a file with a block"));
+    let file = file.expect("a file with a block");
+    let (file, length) = (name_in(file), file[7]);
     let new = new_name(random, &pair.proved);
     pair.open(file);
     let kinds = [
         look_up(&entries),
         create_and_remove(new),
-        transput("Input", file, 5),
-        transput("Output", file, 7),
+        transput("Input", file, 5, 0, 0),
+        transput("Input at the length", file, 5, length, PAST_END),
+        transput("Output", file, 7, 0, 0),
         listing(&entries),
     ];
     let row = |mut calls: Calls| {
         let mut pair = pair.clone();
         let mut same_words = true;
         for message in &calls.messages {
-            same_words &= pair.send_both(message, &mut calls.lent);
+            same_words &= pair.send_both(message, calls.result, &mut calls.lent);
         }
         Row {
             unit,

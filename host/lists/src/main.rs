@@ -1,7 +1,8 @@
 //! Random lists of calls on the proved library and the second implementation.
 //!
 //! * `lists --seed S --calls N` runs the lists of a seed until N calls were put and prints how
-//!   often each pair of call and result word came up.
+//!   often each pair of call and result word came up, and by which question where several give
+//!   the word.
 //! * `lists --seed S --list K` runs the seed's list K alone and prints each step.
 //! * `lists --store` writes the answers of the second implementation into the stored lists.
 
@@ -72,7 +73,10 @@ fn run(seed: u64, calls: u64) -> Result<(), String> {
     });
     let faults: Vec<String> = faults.collect();
     if faults.is_empty() {
-        println!("every pair of call and result word that is allowed came up, and no other");
+        println!(
+            "every pair of call and result word that is allowed came up, by each of its \
+             questions, and no other"
+        );
         Ok(())
     } else {
         Err(faults.join("\n"))

@@ -71,7 +71,8 @@ impl Row {
 
 type Refusals = &'static [(u16, Question)];
 
-// Groups of questions that calls share, with the words that document 01 writes beside them.
+// Groups of questions that calls share, with the words that documents 01 and 02 write
+// beside them.
 
 const CATALOG: Refusals = &[(0x1200, UnitKnown), (0x9000, UnitSound)];
 const STANDING: Refusals = &[(0x5000, NameStands)];
@@ -94,7 +95,10 @@ const USER_ENTRY: Refusals = &[(0x0808, UserEntry)];
 const USER: Refusals = &[(0x0810, SenderUser)];
 const MOVE: Refusals = &[(0x0A00, PositionNotNegative), (0x0810, PositionNotPast)];
 const ROOM: Refusals = &[(0x0880, TransputRoom)];
-const INPUT: Refusals = &[(0x0810, InputBelowLength)];
+const INPUT: Refusals = &[
+    (0x0A00, InputBelowFixedEnd),
+    (0x0810, InputBelowExtendableEnd),
+];
 const OUTPUT: Refusals = &[
     (0x0A00, OutputAllowed),
     (0x0C00, NotProtected),
@@ -111,8 +115,8 @@ fn row(call: &'static str, accepted: bool, groups: &[Refusals]) -> Row {
     }
 }
 
-/// Every pair of call and result word that document 01 allows, with the questions that give it;
-/// and the one pair of a number that no call has.
+/// Every pair of call and result word that documents 01 and 02 allow, with the questions that
+/// give it; and the one pair of a number that no call has.
 pub fn allowed() -> Vec<Row> {
     let mut rows = catalog_rows();
     rows.extend(area_rows());
@@ -228,10 +232,23 @@ impl Counts {
         let questions = questions.map(|(call, question)| format!("{call} {question:?}"));
         words.chain(questions).collect()
     }
+
+    /// A line for a word that several questions give a call: how often each of them gave it.
+    fn write_questions(&self, f: &mut fmt::Formatter<'_>, row: &Row, word: u16) -> fmt::Result {
+        let questions = row.refusals.iter().filter(|(given, _)| *given == word);
+        let count = |question| self.questions.get(&(row.call, question)).unwrap_or(&0);
+        let counted = questions.map(|(_, question)| format!("{question:?} {}", count(*question)));
+        let counted: Vec<String> = counted.collect();
+        if counted.len() < 2 {
+            return Ok(());
+        }
+        writeln!(f, "{:18}{word:04X}h: {}", "", counted.join(", "))
+    }
 }
 
 impl fmt::Display for Counts {
-    /// A line for each call: its words, and how often each came up.
+    /// A line for each call: its words, and how often each came up. Below it a line for each of
+    /// them that several questions give.
     fn fmt(&self, f: &mut fmt::Formatter<'_>) -> fmt::Result {
         for row in allowed() {
             write!(f, "{:16}", row.call)?;
@@ -240,6 +257,9 @@ impl fmt::Display for Counts {
                 write!(f, "  {word:04X}h {count}")?;
             }
             writeln!(f)?;
+            for word in row.words() {
+                self.write_questions(f, &row, word)?;
+            }
         }
         Ok(())
     }
@@ -275,5 +295,29 @@ mod tests {
         assert_eq!(counts.missing(), ["Create 1100h", "Sense SenderUser"]);
         counts.add("Sense", 0x0880, Some(TransputRoom));
         assert_eq!(counts.foreign(), ["Sense 0880h", "Sense TransputRoom"]);
+    }
+
+    #[test]
+    fn a_word_that_several_questions_give_is_told_by_question() {
+        let mut counts = Counts::default();
+        for question in [AreaUnitKnown, InputBelowFixedEnd, InputBelowFixedEnd] {
+            counts.add("Transput 1", 0x0A00, Some(question));
+        }
+        counts.add("Transput 1", 0x0810, Some(InputBelowExtendableEnd));
+        counts.add("Transput 1", 0x4800, Some(Open));
+        let table = counts.to_string();
+        let lines = table.lines();
+        let mut lines = lines.skip_while(|line| !line.starts_with("Transput 1 "));
+        let words = lines.next().unwrap_or_default();
+        assert!(words.contains("  0810h 1  0880h 0  0A00h 3  4800h 1"));
+        let questions: Vec<&str> = lines.by_ref().take(2).map(str::trim_start).collect();
+        let expected = [
+            "0810h: SenderNotZero 0, SenderUser 0, InputBelowExtendableEnd 1",
+            "0A00h: AreaUnitKnown 1, InputBelowFixedEnd 2",
+        ];
+        assert_eq!(questions, expected);
+        assert!(lines
+            .next()
+            .is_some_and(|line| line.starts_with("Transput 5 ")));
     }
 }

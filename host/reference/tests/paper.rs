@@ -676,13 +676,17 @@ fn open_counts_end_at_65535() {
     assert_eq!(pair.area("A", 9, Operation::Reserve(3)), 0x0808);
 }
 
+/// The position of the first user of the first area process.
+fn position(pair: &Pair) -> u16 {
+    pair.unit.state.areas[0].users[0].position
+}
+
 #[test]
 fn positions() {
     let mut pair = small();
     pair.create("A", 3, 0);
     pair.create_area("A");
     pair.area("A", 1, Operation::Reserve(3));
-    let position = |pair: &Pair| pair.unit.state.areas[0].users[0].position;
     assert_eq!(pair.area("A", 1, Operation::Position(3)), 0);
     assert_eq!(pair.area("A", 1, Operation::Position(2)), 0);
     assert_eq!(pair.area("A", 1, Operation::Position(4)), 0x0810);
@@ -694,10 +698,10 @@ fn positions() {
     assert_eq!(pair.area("A", 2, Operation::Position(0)), 0x0810);
     // A transput hands back the position by then.
     let words = |answer: (u16, u16, u16, Vec<u16>)| (answer.0, answer.1, answer.2);
-    assert_eq!(words(pair.transput("A", 1, 1, 0, 0)), (0x0810, 0, 3));
+    assert_eq!(words(pair.transput("A", 1, 1, 0, 0)), (0x0A00, 0, 3));
     assert_eq!(words(pair.transput("A", 1, 5, 0xFFFF, 0)), (0x0A00, 0, 0));
     assert_eq!(words(pair.transput("A", 1, 5, 9, 0)), (0x0810, 0, 3));
-    assert_eq!(words(pair.transput("A", 1, 5, 3, 0)), (0x0810, 0, 3));
+    assert_eq!(words(pair.transput("A", 1, 5, 3, 0)), (0x0A00, 0, 3));
     assert_eq!(words(pair.transput("A", 1, 5, 2, 0)), (0, 512, 2));
     assert_eq!(position(&pair), 3);
     assert_eq!(words(pair.transput("A", 1, 3, 0, 0)), (0x0A00, 0, 3));
@@ -706,6 +710,131 @@ fn positions() {
     assert_eq!(words(pair.transput("A", 1, 2, 0, 0)), (0x0A00, 0, 0));
     assert_eq!(words(pair.transput("A", 2, 1, 0, 0)), (0x0810, 0, 0));
     assert_eq!(words(pair.transput("A", 0, 1, 0, 0)), (0x0810, 0, 0));
+}
+
+/// Attributes of files of fixed length and of extendable ones, with the word at their ends: bit 15
+/// alone decides (02, R-4).
+const ENDS: [(u16, u16); 9] = [
+    (0x0000, 0x0A00),
+    (0x0008, 0x0A00),
+    (0x0010, 0x0A00),
+    (0x4018, 0x0A00),
+    (0x0001, 0x0810),
+    (0x0009, 0x0810),
+    (0x0011, 0x0810),
+    (0x4001, 0x0810),
+    (0x4019, 0x0810),
+];
+
+/// A unit with one file, A, open for sender 1.
+fn one_open(size: u16, attributes: u16) -> Pair {
+    let mut pair = small();
+    assert_eq!(pair.create("A", size, attributes), 0);
+    open_again(&mut pair);
+    pair
+}
+
+fn open_again(pair: &mut Pair) {
+    assert_eq!(pair.create_area("A"), 0);
+    assert_eq!(pair.area("A", 1, Operation::Reserve(3)), 0);
+}
+
+/// Input from A: result, bytes, block, and the position afterwards.
+fn input(pair: &mut Pair, operation: u16, block: u16) -> [u16; 4] {
+    let (result, bytes, at, _) = pair.transput("A", 1, operation, block, 9);
+    [result, bytes, at, position(pair)]
+}
+
+/// Position of A: result, and the position afterwards.
+fn moved(pair: &mut Pair, block: u16) -> [u16; 2] {
+    let result = pair.area("A", 1, Operation::Position(block));
+    [result, position(pair)]
+}
+
+#[test]
+fn a_fixed_file_ends_otherwise_than_an_extendable_one() {
+    for (attributes, end) in ENDS {
+        let mut pair = one_open(2, attributes);
+        // Blocks 0 and 1, then the end, where the position stays.
+        assert_eq!(input(&mut pair, 1, 0), [0, 512, 0, 1]);
+        assert_eq!(input(&mut pair, 1, 0), [0, 512, 1, 2]);
+        assert_eq!(input(&mut pair, 1, 0), [end, 0, 2, 2]);
+        assert_eq!(input(&mut pair, 1, 0), [end, 0, 2, 2]);
+        // 5 moves first. Block 2 is at the end; at block 3 Position refuses, for both kinds.
+        assert_eq!(input(&mut pair, 5, 0), [0, 512, 0, 1]);
+        assert_eq!(input(&mut pair, 5, 2), [end, 0, 2, 2]);
+        assert_eq!(input(&mut pair, 5, 1), [0, 512, 1, 2]);
+        assert_eq!(moved(&mut pair, 0), [0, 0]);
+        assert_eq!(input(&mut pair, 5, 3), [0x0810, 0, 2, 2]);
+        assert_eq!(moved(&mut pair, 0), [0, 0]);
+        assert_eq!(moved(&mut pair, 3), [0x0810, 2]);
+        assert_eq!(input(&mut pair, 1, 0), [end, 0, 2, 2]);
+        assert_eq!(input(&mut pair, 5, 0x8000), [0x0A00, 0, 0, 0]);
+    }
+}
+
+#[test]
+fn output_past_the_end_is_refused_as_position_is() {
+    for attributes in [0x0000, 0x0001] {
+        let mut pair = one_open(2, attributes);
+        let (result, bytes, block, _) = pair.transput("A", 1, 7, 3, 0);
+        assert_eq!((result, bytes, block), (0x0810, 0, 2));
+        assert_eq!(position(&pair), 2);
+    }
+}
+
+#[test]
+fn a_file_of_no_blocks_ends_where_it_begins() {
+    // An entry-only file has no bit 15 either.
+    for (attributes, end) in ENDS.into_iter().chain([(0x0004, 0x0A00)]) {
+        let mut pair = one_open(0, attributes);
+        assert_eq!(input(&mut pair, 1, 0), [end, 0, 0, 0]);
+        assert_eq!(input(&mut pair, 5, 0), [end, 0, 0, 0]);
+        assert_eq!(input(&mut pair, 5, 1), [0x0810, 0, 0, 0]);
+        assert_eq!(moved(&mut pair, 1), [0x0810, 0]);
+    }
+}
+
+#[test]
+fn the_end_is_that_of_the_file_as_it_stands() {
+    // The live length, not the booked one: a block appended moves an extendable file's end.
+    let mut pair = one_open(1, 0x0001);
+    assert_eq!(input(&mut pair, 5, 1), [0x0810, 0, 1, 1]);
+    assert_eq!(pair.transput("A", 1, 3, 0, 7).0, 0);
+    assert_eq!(input(&mut pair, 5, 1), [0, 512, 1, 2]);
+    assert_eq!(input(&mut pair, 1, 0), [0x0810, 0, 2, 2]);
+    // The attributes of the entry: a Change that takes bit 15 away makes the file a fixed one.
+    assert_eq!(pair.area("A", 1, Operation::Reserve(0)), 0);
+    assert_eq!(pair.remove_area("A"), 0);
+    assert_eq!(pair.change("A", &record("", 0x0000, KEPT)), 0);
+    open_again(&mut pair);
+    assert_eq!(input(&mut pair, 5, 2), [0x0A00, 0, 2, 2]);
+}
+
+#[test]
+fn questions_before_the_end_are_asked_first() {
+    for attributes in [0x0000, 0x0001] {
+        let mut pair = one_open(0, attributes);
+        let message = |sender, bytes| Message::AreaMessage {
+            name: name_of("A", 0),
+            sender,
+            operation: Operation::Transput {
+                operation: 1,
+                bytes,
+                block: 0,
+            },
+        };
+        let cases = [
+            (message(0, 512), 256, 0x0810),
+            (message(2, 512), 256, 0x0810),
+            (message(1, 511), 256, 0x0880),
+            (message(1, 512), 255, 0x0880),
+        ];
+        for (message, lent, word) in cases {
+            let (answer, _) = pair.call(message, &vec![1; lent]);
+            assert_eq!(answer.result, word);
+        }
+    }
 }
 
 #[test]

@@ -32,7 +32,7 @@ pub enum Error {
     FormatRecord,
     /// 0A00h. Areas: the unit is not known or not initialized, the file is SYS or MAP, the
     /// operation is unknown, another user is exclusive writer or is there at all, the position
-    /// is negative, or the file to be appended to is not extendable.
+    /// is negative, or output or input is at the end of a file that is not extendable.
     AreaIllegal,
     /// 8800h. Areas: the image is not sound with the state.
     AreaUnsound,
@@ -43,7 +43,7 @@ pub enum Error {
     /// 0200h. Area messages: another user is exclusive user.
     AreaReserved,
     /// 0810h. Area messages: the sender is 0 or no user, the position is past the length, or
-    /// there is no block to be read at the length.
+    /// input is at the end of an extendable file.
     NotUserOrPastEnd,
     /// 0808h. Reserve: no user entry is vacant or own, or the open count is 65,535. Output: more
     /// than 127 stretches with one slice more.

@@ -1,4 +1,5 @@
-//! The reasons for which a call is refused: those of document 01, and a number that no call has.
+//! The reasons for which a call is refused: those of document 01 as 02 has changed them, and a
+//! number that no call has.
 
 use crate::error::Error::{self, *};
 use crate::message::Call::{self, *};
@@ -165,9 +166,14 @@ pub const REASONS: &[Reason] = &[
         "the position is past the length",
     ),
     (
+        AreaIllegal,
+        &[&[Input]],
+        "the position is at the end of a fixed file",
+    ),
+    (
         NotUserOrPastEnd,
         &[&[Input]],
-        "the position is at the length",
+        "the position is at the end of an extendable file",
     ),
     (
         AreaIllegal,

@@ -218,11 +218,16 @@ impl<I: AsRef<[u16]> + AsMut<[u16]>> Unit<I> {
 
     /// Input at the sender's position (1): reads the block into `words`, moves the position one
     /// further and hands back the block's number.
+    ///
+    /// At the end of the file it is refused, and the position stays: with
+    /// [`AreaIllegal`](crate::Error::AreaIllegal) where the file is of fixed length, with
+    /// [`NotUserOrPastEnd`](crate::Error::NotUserOrPastEnd) where it is extendable.
     pub fn read_block(&mut self, name: Name, sender: u16, words: &mut Block) -> Result<u16> {
         self.transput(name, sender, 1, 0, words)
     }
 
-    /// Input at a block (5): Position, then input there.
+    /// Input at a block (5): [`position`](Unit::position), then
+    /// [`read_block`](Unit::read_block), with the refusals of both.
     pub fn read_block_at(
         &mut self,
         name: Name,

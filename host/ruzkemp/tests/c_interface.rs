@@ -1,5 +1,6 @@
 //! The C side: the header compiles in every C and C++ that it promises, the example prints what
-//! document 01 asks for, and C, Rust and the compiled library agree on where each field stands.
+//! documents 01 and 02 ask for, and C, Rust and the compiled library agree on where each field
+//! stands.
 
 use std::mem::{offset_of, size_of};
 use std::path::{Path, PathBuf};
@@ -49,9 +50,10 @@ fn has_cpp() -> bool {
 }
 
 /// The example's output. Its file was written from document 01's cases P5 to P8 and its
-/// questions, with need(2) = 2, need(4) = 3 and slices of two sectors from sector 10 on.
+/// questions, with need(2) = 2, need(4) = 3 and slices of two sectors from sector 10 on, and from
+/// 02's R-4 for the ends of files.
 #[test]
-fn the_example_prints_what_document_01_asks_for() {
+fn the_example_prints_what_the_documents_ask_for() {
     let source = Path::new(ROOT).join("examples/c/season.c");
     let expected = source.with_extension("expected");
     let expected = std::fs::read_to_string(expected).expect("the expected output is there");

@@ -148,8 +148,8 @@ fn roles_have_the_counts_of_reserve() {
     assert_eq!(Role::from_number(3), Role::ExclusiveUser);
 }
 
-/// The calls with the words that document 01's questions can give them, in ascending order; a
-/// number that no call has gives FFFFh.
+/// The calls with the words that the questions of documents 01 and 02 can give them, in ascending
+/// order; a number that no call has gives FFFFh.
 const WORDS: [(Call, &[u16]); 19] = [
     (Call::Format, &[0x1080, 0x1200]),
     (Call::Init, &[0x1200, 0x9000]),
@@ -223,6 +223,22 @@ fn a_refusal_is_told_in_plain_words() {
     assert_eq!(
         Error::AreaFull.to_string(),
         "refused with 0900h: all eight area processes are in use, or no slice is free"
+    );
+    assert_eq!(
+        Error::AreaIllegal.explain(Call::Input),
+        "refused with 0A00h: the unit is not known or not initialized, or the position is \
+         negative, or the position is at the end of a fixed file"
+    );
+    assert_eq!(
+        Error::NotUserOrPastEnd.explain(Call::Input),
+        "refused with 0810h: the sender is 0, or the sender is no user, or the position is past \
+         the length, or the position is at the end of an extendable file"
+    );
+    // Position asks whether it goes past the length, and the kind of file does not matter.
+    assert_eq!(
+        Error::NotUserOrPastEnd.explain(Call::Position),
+        "refused with 0810h: the sender is 0, or the sender is no user, or the position is past \
+         the length"
     );
     assert_eq!(
         Error::NoSuchCall.explain(Call::Unknown),

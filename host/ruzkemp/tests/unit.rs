@@ -1,4 +1,5 @@
-//! The methods of a unit, obeyed and refused. What is expected is worked out from document 01.
+//! The methods of a unit, obeyed and refused. What is expected is worked out from documents 01
+//! and 02.
 
 use ruzkemp::sys::{call, operation, UnitMessage, NO_SUCH_CALL};
 use ruzkemp::{
@@ -287,6 +288,73 @@ fn a_refused_position_still_moves() -> Result<()> {
         Err(Error::NotUserOrPastEnd)
     );
     assert_eq!(position(&unit, 7), 2);
+    Ok(())
+}
+
+/// Reads a file from its beginning until it is refused: the blocks read, the refusal, and the
+/// position then.
+fn read_to_the_end(unit: &mut Unit<Vec<u16>>, file: Name) -> Result<(Vec<u16>, Error, u16)> {
+    unit.create_area(file)?;
+    unit.reserve(file, 7, Role::Sharing)?;
+    let (mut blocks, words) = (Vec::new(), &mut [0; SECTOR]);
+    let end = loop {
+        match unit.read_block(file, 7, words) {
+            Ok(block) => blocks.push(block),
+            Err(error) => break error,
+        }
+    };
+    let area = unit.state().area(file).expect("the file is open");
+    Ok((blocks, end, area.users[0].position))
+}
+
+/// Document 02, R-4: bit 15 alone decides how a file ends.
+#[test]
+fn a_file_is_read_to_its_end() -> Result<()> {
+    let protected = Attributes::WRITE_PROTECTED | Attributes::PERMANENT;
+    for (attributes, end) in [
+        (Attributes::NONE, Error::AreaIllegal),
+        (protected, Error::AreaIllegal),
+        (Attributes::EXTENDABLE, Error::NotUserOrPastEnd),
+        (protected | Attributes::EXTENDABLE, Error::NotUserOrPastEnd),
+    ] {
+        let mut unit = ready();
+        let (file, empty) = (name("FILE"), name("EMPTY"));
+        unit.create(file, 3, attributes)?;
+        unit.create(empty, 0, attributes)?;
+        let read = read_to_the_end(&mut unit, file)?;
+        assert_eq!(read, (vec![0, 1, 2], end, 3), "{attributes}");
+        let read = read_to_the_end(&mut unit, empty)?;
+        assert_eq!(read, (vec![], end, 0), "{attributes}");
+    }
+    let mut unit = ready();
+    unit.create(name("NOTE"), 0, Attributes::ENTRY_ONLY)?;
+    let read = read_to_the_end(&mut unit, name("NOTE"))?;
+    assert_eq!(read, (vec![], Error::AreaIllegal, 0));
+    Ok(())
+}
+
+#[test]
+fn past_the_end_of_a_file_position_refuses() -> Result<()> {
+    for (attributes, end) in [
+        (Attributes::NONE, Error::AreaIllegal),
+        (Attributes::EXTENDABLE, Error::NotUserOrPastEnd),
+    ] {
+        let mut unit = ready();
+        let (pass, words) = (name("PASS"), &mut [9; SECTOR]);
+        unit.create(pass, 2, attributes)?;
+        unit.create_area(pass)?;
+        unit.reserve(pass, 7, Role::Sharing)?;
+        assert_eq!(unit.read_block_at(pass, 7, 2, words), Err(end));
+        assert_eq!(position(&unit, 7), 2);
+        unit.position(pass, 7, 0)?;
+        let past = Err(Error::NotUserOrPastEnd);
+        assert_eq!(unit.read_block_at(pass, 7, 3, words), past);
+        assert_eq!(position(&unit, 7), 2, "the length");
+        unit.position(pass, 7, 0)?;
+        assert_eq!(unit.position(pass, 7, 3), Err(Error::NotUserOrPastEnd));
+        assert_eq!(position(&unit, 7), 2, "the length");
+        assert_eq!(*words, [9; SECTOR], "nothing was read");
+    }
     Ok(())
 }
 

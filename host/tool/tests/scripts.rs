@@ -218,7 +218,7 @@ fn words_handed_back_are_printed_as_asked_for() {
 fn every_message_can_be_said() {
     let folder = small();
     let script = "\
-# Every verb, with the answers worked out from document 01.
+# Every verb, with the answers worked out from documents 01 and 02.
 init
 expect 1200h init unit=1
 set PASS size=1 attributes=extendable+permanent optional=1,2,3 tail=1,2,3,4,5,6
@@ -267,6 +267,38 @@ format keys=1 slice=5 sectors=20 first=10 words=1,2
         sector(&folder.words("a.img"), 8, 0, 8),
         [1, 5, 20, 5, 10, 20, 1, 2]
     );
+}
+
+/// What is told of an input at the end of a fixed file.
+const FIXED_END: &str = "0A00h bytes=0 block=2 entries=0  # the unit is not known or not \
+                         initialized, or the position is negative, or the position is at the end \
+                         of a fixed file";
+/// What is told of one at the end of an extendable file, and past the end of any file.
+const OTHER_END: &str = "0810h bytes=0 block=2 entries=0  # the sender is 0, or the sender is no \
+                         user, or the position is past the length, or the position is at the end \
+                         of an extendable file";
+
+#[test]
+fn the_end_of_a_file_is_told_by_its_kind() {
+    let folder = small();
+    folder.good(&["create", "a.img", "FIX", "--size", "2"]);
+    folder.good(&["create", "a.img", "LOG", "--size", "2", "--extendable"]);
+    for (name, end) in [("FIX", FIXED_END), ("LOG", OTHER_END)] {
+        let open = format!("init\ncreate-area {name}\nreserve {name}\ninput {name} block=1\n");
+        let inputs =
+            format!("input {name}\ninput {name} block=2\ninput {name} block=3\ninput {name}\n");
+        let script = format!("{open}{inputs}");
+        let done = run(&folder, &script, &["--keep-going", "--close"]);
+        assert_eq!(done.status, 0, "{done:?}");
+        let lines: Vec<&str> = done.out.lines().skip(4).take(4).collect();
+        let line = |number, words| format!("{number} input {name}: result={words}");
+        let expected = [line(5, end), line(6, end), line(7, OTHER_END), line(8, end)];
+        assert_eq!(lines, expected);
+        // Where a script does not expect the end, it stops there.
+        let (word, means) = (&end[..5], end.split_once("# ").expect("it is told").1);
+        let words = format!("line 5, input {name}: refused with {word}: {means}");
+        bad(&folder, &script, &[], 1, &words);
+    }
 }
 
 #[test]

@@ -125,6 +125,11 @@ fn a_file_of_fixed_length_is_replaced_where_the_length_is_known() {
     );
     folder.good(&["get", "a.img", "FIX", "out", "--bytes", "1500"]);
     assert!(folder.read("out") == host);
+    // Without --bytes every block up to the end is got.
+    folder.good(&["get", "a.img", "FIX", "whole"]);
+    let mut padded = host.clone();
+    padded.resize(1_536, 0);
+    assert!(folder.read("whole") == padded);
     let put = ["put", "a.img", "FIX", "-", "--replace"];
     folder.bad(
         &put,

@@ -1,28 +1,36 @@
 -- `transput::input` meets its contract. Assumes nothing.
 use borrow.Author.Needs.{needs}
 use Rattle.sharing.proofs.ShareLaws.{seat-low}
-use Rattle.output.proofs.OutputLaws.{block-there, sector-asks, position-asks}
+use Rattle.output.proofs.OutputLaws.{searches, block-there, sector-asks, position-asks}
 use Rattle.transput.proofs.TransputLaws.{inputs-refused, inputs-handed}
 use Rattle.transput.proofs.input.Statement.{statement}
 use Rattle.transput.proofs.input.Tie as tie
 
 area-at-requires : tie.Need-area-at-requires
-area-at-requires c κs = seat-low (c .before .before .pre .here .placed .seat)
+area-at-requires c κs = seat-low (c .before .before .pre .placed .seat)
+
+attributes-of-requires : tie.Need-attributes-of-requires
+attributes-of-requires c κs = searches (c .before .before .before .before .before .before .pre)
+
+end-word-requires : tie.Need-end-word-requires
+end-word-requires c κs = search needs
 
 refused-at-requires : tie.Need-refused-at-requires
-refused-at-requires c κs = seat-low (c .before .before .before .before .before .before .pre .here .placed .seat)
+refused-at-requires c κs = seat-low (c .before .before .before .before .before .before .before .before .pre .placed .seat)
 
 returns : tie.Need-returns
-returns c = inputs-refused (c .before .before .before .before .area-at .ensures) (c .before .if1 .taken) (c .refused-at .ensures)
+returns c =
+    let end = c .before .before .before in
+    inputs-refused (end .before .before .before .area-at .ensures) (end .if1 .taken) (c .before .before .attributes-of .ensures) (c .before .end-word .ensures) (c .refused-at .ensures)
 
 sector-of-requires : tie.Need-sector-of-requires
-sector-of-requires c κs = block-there (c .before .before .before .area-at .ensures) (c .before .before .before .before .before .before .pre .here) (c .if1 .left)
+sector-of-requires c κs = block-there (c .before .before .before .area-at .ensures) (c .before .before .before .before .before .before .pre) (c .if1 .left)
 
 copy-sector-requires : tie.Need-copy-sector-requires
-copy-sector-requires c κs = (c .before .before .before .before .before .before .before .before .pre .here .long, sector-asks (c .before .before .before .before .before .area-at .ensures) (c .before .before .before .before .before .before .before .before .pre .here) (c .before .sector-of .ensures) (c .before .before .if1 .left))
+copy-sector-requires c κs = (c .before .before .before .before .before .before .before .before .pre .long, sector-asks (c .before .before .before .before .before .area-at .ensures) (c .before .before .before .before .before .before .before .before .pre) (c .before .sector-of .ensures) (c .before .before .if1 .left))
 
 transferred-requires : tie.Need-transferred-requires
-transferred-requires c κs = (seat-low (c .before .before .before .before .before .before .before .before .before .before .before .pre .here .placed .seat), position-asks (c .before .before .before .before .before .before .before .before .area-at .ensures) (c .before .before .before .before .before .before .before .before .before .before .before .pre .here))
+transferred-requires c κs = (seat-low (c .before .before .before .before .before .before .before .before .before .before .before .pre .placed .seat), position-asks (c .before .before .before .before .before .before .before .before .area-at .ensures) (c .before .before .before .before .before .before .before .before .before .before .before .pre))
 
 same-length : tie.Need-same-length
 same-length c = search needs
@@ -35,6 +43,8 @@ input-spec =
     tie.close
     (tie.spec
     area-at-requires
+    attributes-of-requires
+    end-word-requires
     refused-at-requires
     returns
     sector-of-requires

@@ -21,7 +21,7 @@ returns : tie.Need-returns
 returns c = at-output (sym (c .before .before .before .before .before .before .is-output .ensures) ∙ c .before .before .before .before .before .if1 .taken) (c .before .before .output .ensures)
 
 input-requires : tie.Need-input-requires
-input-requires c κs = record { o = c .before .before .before .before .before .before .args .o; here = c .before .before .before .before .before .before .pre }
+input-requires c κs = c .before .before .before .before .before .before .pre
 
 same-length-3 : tie.Need-same-length-3
 same-length-3 c = search needs

@@ -66,10 +66,13 @@ impl Plain {
         Ok(())
     }
 
-    /// Input: below the length?
+    /// Input: below the length? A file of fixed length has a word of its own for its end.
     fn input(&self, name: &str, at: usize, lent: &mut [u16]) -> Result<(), Refused> {
-        let sector = self.files[name].sectors.get(at);
-        lent[..256].copy_from_slice(sector.ok_or(Refused(0x0810, 0))?);
+        let file = &self.files[name];
+        let is_fixed = file.attributes & 1 == 0;
+        let end = if is_fixed { 0x0A00 } else { 0x0810 };
+        let sector = file.sectors.get(at).ok_or(Refused(end, 0))?;
+        lent[..256].copy_from_slice(sector);
         Ok(())
     }
 

@@ -59,8 +59,10 @@ pub enum Question {
     PositionNotNegative,
     /// Position: not past the length.
     PositionNotPast,
-    /// Input: below the length.
-    InputBelowLength,
+    /// Input from a file without bit 15: below the length (02, R-4).
+    InputBelowFixedEnd,
+    /// Input from an extendable file: below the length.
+    InputBelowExtendableEnd,
     /// Appending: extendable.
     Extendable,
     /// Appending: a slice free where one is needed.
@@ -108,7 +110,8 @@ impl Question {
             Question::NotProtected => 0x0C00,
             Question::PositionNotNegative => 0x0A00,
             Question::PositionNotPast => 0x0810,
-            Question::InputBelowLength => 0x0810,
+            Question::InputBelowFixedEnd => 0x0A00,
+            Question::InputBelowExtendableEnd => 0x0810,
             Question::Extendable => 0x0A00,
             Question::SliceFree => 0x0900,
             Question::AppendStretches => 0x0808,

@@ -101,11 +101,20 @@ fn input(
     lent: &mut [u16],
 ) -> Result<(), Question> {
     if position >= area.length {
-        return Err(Question::InputBelowLength);
+        return Err(end_of(entry));
     }
     let sector = kit.file_sector(&entry.slices, position as usize);
     lent[..SECTOR].copy_from_slice(&image[sector * SECTOR..(sector + 1) * SECTOR]);
     Ok(())
+}
+
+/// The question that input at a file's length fails: a fixed file's end has a word of its own.
+fn end_of(entry: &Entry) -> Question {
+    if entry.words[6] & EXTENDABLE == 0 {
+        Question::InputBelowFixedEnd
+    } else {
+        Question::InputBelowExtendableEnd
+    }
 }
 
 /// Output replaces a sector or, at the live length, appends one.

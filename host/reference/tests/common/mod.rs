@@ -171,7 +171,8 @@ pub fn check_refusal(
         question,
         Question::PositionNotNegative
             | Question::PositionNotPast
-            | Question::InputBelowLength
+            | Question::InputBelowFixedEnd
+            | Question::InputBelowExtendableEnd
             | Question::Extendable
             | Question::SliceFree
             | Question::AppendStretches

@@ -113,10 +113,12 @@ fn transput(random: &mut Random, length: usize) -> (Operation, Vec<u16>) {
     } else {
         random.pick(&[0, 511, 513, 256, 0x8200])
     };
+    // Input at a block shall come up often both within files and at their ends.
+    let end = operation != 5 || random.chance(40);
     let transput = Operation::Transput {
         operation,
         bytes,
-        block: block(random, length, operation != 5),
+        block: block(random, length, end),
     };
     (transput, lent)
 }

@@ -1,0 +1,151 @@
+//! A side that has a wrong word at the end of a file is found, by the random lists and by the
+//! stored list of such ends.
+
+use lists::random::Lists;
+use lists::state::StateWords;
+use lists::stored::first_difference;
+use lists::{Second, Side};
+use reference::generate::Unit;
+use reference::pairs::call_name;
+use reference::raw::{message_of, MessageWords};
+use reference::Question::{InputBelowExtendableEnd, InputBelowFixedEnd, PositionNotPast};
+use reference::{explain, perform, Answer, Message, Question};
+
+/// The word of a question that was answered no, by whether the file is extendable.
+type Words = fn(Question, bool) -> u16;
+
+/// The second implementation with other words for one call.
+struct Otherwise {
+    second: Second,
+    call: &'static str,
+    words: Words,
+}
+
+impl Otherwise {
+    fn new(call: &'static str, words: Words) -> Otherwise {
+        Otherwise {
+            second: Second::default(),
+            call,
+            words,
+        }
+    }
+
+    /// The word that this side has for a message which is refused; none for other calls.
+    fn word(&self, message: &Message, lent: &[u16]) -> Option<u16> {
+        let Message::AreaMessage { name, .. } = *message else {
+            return None;
+        };
+        let Unit { image, state } = &mut self.second.current().clone();
+        let mut entry = [0; 16];
+        perform(image, state, &Message::LookUp { name }, &mut entry);
+        let (_, question) = explain(image, state, message, &mut lent.to_vec());
+        let is_other = call_name(message) == self.call;
+        let word = |question| (self.words)(question, entry[6] & 1 == 1);
+        question.filter(|_| is_other).map(word)
+    }
+}
+
+impl Side for Otherwise {
+    fn set(&mut self, unit: &Unit) {
+        self.second.set(unit);
+    }
+
+    fn format(&mut self, bytes: u16, record: &[u16]) -> u16 {
+        self.second.format(bytes, record)
+    }
+
+    fn perform(&mut self, message: &Message, lent: &mut [u16]) -> Answer {
+        let word = self.word(message, lent);
+        let answer = self.second.perform(message, lent);
+        Answer {
+            result: word.unwrap_or(answer.result),
+            ..answer
+        }
+    }
+
+    fn perform_raw(&mut self, message: &MessageWords, lent: &mut [u16]) -> Answer {
+        match message_of(message) {
+            Ok(message) => self.perform(&message, lent),
+            Err(_) => self.second.perform_raw(message, lent),
+        }
+    }
+
+    fn is_sound(&self) -> bool {
+        self.second.is_sound()
+    }
+
+    fn image(&self) -> &[u16] {
+        self.second.image()
+    }
+
+    fn state(&self) -> StateWords {
+        self.second.state()
+    }
+}
+
+/// The stored list of ends.
+const ENDS: &str = include_str!("../stored/ends.list");
+
+/// Says that the random lists and the stored list find the words wrong.
+fn is_found(call: &'static str, words: Words, wrong: u16, right: u16) {
+    let mut lists = Lists::new(Otherwise::new(call, words), 7);
+    let failure = lists.run(100_000).expect_err(call).to_string();
+    let told =
+        format!("result word: {wrong:04X}h from the proved library, {right:04X}h from the second");
+    assert!(failure.contains(&told), "{call}: {failure}");
+    let stored = first_difference(ENDS, &mut Otherwise::new(call, words)).expect_err(call);
+    let (line, replayed) = stored.split_once("  replayed ").expect("both are told");
+    let (line, replayed) = (line.trim_end(), replayed.trim_end());
+    assert!(line.contains(&format!("-> {right:04X}h")), "{stored}");
+    assert!(replayed.contains(&format!("-> {wrong:04X}h")), "{stored}");
+}
+
+#[test]
+fn the_right_words_are_no_difference() {
+    for call in ["Transput 1", "Transput 5", "Transput 7", "Position"] {
+        let side = || Otherwise::new(call, |question, _| question.word());
+        assert!(Lists::new(side(), 7).run(5_000).is_ok());
+        assert_eq!(first_difference(ENDS, &mut side()), Ok(()));
+    }
+}
+
+#[test]
+fn one_word_for_both_ends_is_found() {
+    for call in ["Transput 1", "Transput 5"] {
+        let as_before: Words = |question, _| match question {
+            InputBelowFixedEnd => 0x0810,
+            other => other.word(),
+        };
+        is_found(call, as_before, 0x0810, 0x0A00);
+        let as_fixed: Words = |question, _| match question {
+            InputBelowExtendableEnd => 0x0A00,
+            other => other.word(),
+        };
+        is_found(call, as_fixed, 0x0A00, 0x0810);
+    }
+}
+
+#[test]
+fn the_two_ends_exchanged_are_found() {
+    for call in ["Transput 1", "Transput 5"] {
+        let words: Words = |question, _| match question {
+            InputBelowFixedEnd => 0x0810,
+            InputBelowExtendableEnd => 0x0A00,
+            other => other.word(),
+        };
+        let side = || Otherwise::new(call, words);
+        assert!(Lists::new(side(), 7).run(100_000).is_err());
+        assert!(first_difference(ENDS, &mut side()).is_err());
+    }
+}
+
+#[test]
+fn position_past_a_fixed_end_is_no_end_of_input() {
+    for call in ["Transput 5", "Transput 7", "Position"] {
+        let words: Words = |question, is_extendable| match question {
+            PositionNotPast if !is_extendable => 0x0A00,
+            other => other.word(),
+        };
+        is_found(call, words, 0x0A00, 0x0810);
+    }
+}
