@@ -91,7 +91,8 @@ static void check(ruzkemp_unit *unit, ruzkemp_name passes)
     expect("Release", ruzkemp_release(unit, passes, GATE).result, RUZKEMP_OK);
 }
 
-/* Reads prices as the till's old program does: block after block until a refusal, which at the end of a file of fixed length is 0A00h. */
+/* Reads prices block after block. The till's old program goes on until 0A00h, the word at the end of a file of fixed length; here any refusal
+   ends the loop and is checked. */
 static void read_prices(ruzkemp_unit *unit, ruzkemp_name prices)
 {
     uint16_t block[RUZKEMP_SECTOR_WORDS];

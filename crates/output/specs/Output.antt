@@ -104,7 +104,7 @@ pub record Placed (image : List ℕ) (state : State) (o : Opened) (p q : Plain) 
   pub good : Good q
   pub represents : Represents image (atPosition state j u k) q
 
--- What Output starts from: "at least 256 words lent".
+-- What Input and Output start from: "at least 256 words lent".
 pub record SomePlaced (image : List ℕ) (state : State) (o : Opened) (j u k : ℕ) (lent : List ℕ) : Type 0 where
   pub p : Plain
   pub q : Plain

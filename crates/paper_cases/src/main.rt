@@ -275,16 +275,19 @@ fn two_blocks(image: &mut Disc, attributes: u16) -> State {
     call(image, second, position(0), 0, b"position 0:")
 }
 
-// Its end by operation 1, by 5 at block 2, which is the length, and at block 3, which is past it; then where these left the position.
+// Its end by operation 1, by 5 at block 2, which is the length, and at block 3, which is past it; and where 5 and Position left the
+// position, which was 0 before.
 fn read_to_end(image: &mut Disc, state: State) {
     let one = call(image, state, transput(1, 0), 9, b"input by 1:");
     let two = call(image, one, transput(1, 0), 9, b"input by 1:");
     let ended = call(image, two, transput(1, 0), 9, b"input by 1:");
-    let last = call(image, ended, transput(5, 1), 9, b"input by 5 at 1:");
-    let there = call(image, last, transput(5, 2), 9, b"input by 5 at 2:");
-    let past = call(image, there, transput(5, 3), 9, b"input by 5 at 3:");
+    let begun = call(image, ended, transput(5, 0), 9, b"input by 5 at 0:");
+    let there = call(image, begun, transput(5, 2), 9, b"input by 5 at 2:");
+    let back = call(image, there, position(0), 9, b"position 0:");
+    let past = call(image, back, transput(5, 3), 9, b"input by 5 at 3:");
     let again = call(image, past, transput(1, 0), 9, b"input by 1:");
-    let moved = call(image, again, position(3), 9, b"position 3:");
+    let first = call(image, again, position(0), 9, b"position 0:");
+    let moved = call(image, first, position(3), 9, b"position 3:");
     call(image, moved, transput(1, 0), 9, b"input by 1:");
 }
 

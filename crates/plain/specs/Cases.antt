@@ -1,4 +1,4 @@
--- Worked cases on a plain unit: calls, each with the answer that document 01 gives it.
+-- Worked cases on a plain unit: calls, each with the answer that documents 01 and 02 give it.
 use mathlib.Core.Path.{_≡_}
 use mathlib.Core.List.{List, [], _∷_}
 use Prim.Native.Nat.{ℕ}

@@ -23,7 +23,7 @@ const LOOKED_UP: usize = 16;
 const SENDER: u16 = 7;
 /// The word of an input at the length of an extendable file, as the generated files are. A library
 /// of before R-4 has it too, and since then a fixed file takes the same steps to its own word.
-const PAST_END: u16 = 0x0810;
+const AT_END: u16 = 0x0810;
 
 const UNITS: [(&str, Shape); 3] = [
     ("small: 100 files", FEW),
@@ -251,28 +251,36 @@ impl Timed for Row {
     }
 }
 
-/// The rows of a unit: every kind of call on a copy of it, after both have obeyed it. Files are
-/// taken by their places, so that two libraries get the same calls whatever their listings' order.
+/// The rows of a unit: every kind of call on a copy of it with one file open, after both have
+/// answered it. Files are taken by their places, so that two libraries get the same calls whatever
+/// their listings' order.
 fn rows_of(random: &mut Random, unit: &'static str, shape: &Shape) -> Vec<Row> {
-    let mut pair = Pair::new(random, shape);
-    let parts = needed(pair.proved.image(), shape);
-    let entries = gathered(pair.proved.image());
+    let closed = Pair::new(random, shape);
+    let parts = needed(closed.proved.image(), shape);
+    let entries = gathered(closed.proved.image());
     let with_block = |entry: &&Words| is_file(*entry) && entry[7] > 0;
     let file = entries.iter().find(with_block);
-    let file = file.expect("a file with a block");
-    let (file, length) = (name_in(file), file[7]);
-    let new = new_name(random, &pair.proved);
-    pair.open(file);
+    let file = name_in(file.expect("a file with a block"));
+    // The last file of SYS: its name is sought up to the last layer.
+    let last = entries.iter().rfind(with_block);
+    let (last, length) = last
+        .map(|entry| (name_in(entry), entry[7]))
+        .expect("a file");
+    let new = new_name(random, &closed.proved);
     let kinds = [
-        look_up(&entries),
-        create_and_remove(new),
-        transput("Input", file, 5, 0, 0),
-        transput("Input at the length", file, 5, length, PAST_END),
-        transput("Output", file, 7, 0, 0),
-        listing(&entries),
+        (file, look_up(&entries)),
+        (file, create_and_remove(new)),
+        (file, transput("Input", file, 5, 0, 0)),
+        (
+            last,
+            transput("Input at the length", last, 5, length, AT_END),
+        ),
+        (file, transput("Output", file, 7, 0, 0)),
+        (file, listing(&entries)),
     ];
-    let row = |mut calls: Calls| {
-        let mut pair = pair.clone();
+    let row = |(opened, mut calls): (NameWords, Calls)| {
+        let mut pair = closed.clone();
+        pair.open(opened);
         let mut same_words = true;
         for message in &calls.messages {
             same_words &= pair.send_both(message, calls.result, &mut calls.lent);

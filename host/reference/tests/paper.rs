@@ -813,8 +813,9 @@ fn the_end_is_that_of_the_file_as_it_stands() {
 
 #[test]
 fn questions_before_the_end_are_asked_first() {
-    for attributes in [0x0000, 0x0001] {
-        let mut pair = one_open(0, attributes);
+    for (attributes, end) in [(0x0000, 0x0A00), (0x0001, 0x0810)] {
+        let mut pair = one_open(1, attributes);
+        assert_eq!(input(&mut pair, 5, 1), [end, 0, 1, 1]);
         let message = |sender, bytes| Message::AreaMessage {
             name: name_of("A", 0),
             sender,
@@ -824,15 +825,17 @@ fn questions_before_the_end_are_asked_first() {
                 block: 0,
             },
         };
+        // The block is the sender's position, and 0 where the sender is no user.
         let cases = [
-            (message(0, 512), 256, 0x0810),
-            (message(2, 512), 256, 0x0810),
-            (message(1, 511), 256, 0x0880),
-            (message(1, 512), 255, 0x0880),
+            (message(0, 512), 256, (0x0810, 0)),
+            (message(2, 512), 256, (0x0810, 0)),
+            (message(1, 511), 256, (0x0880, 1)),
+            (message(1, 512), 255, (0x0880, 1)),
+            (message(1, 512), 256, (end, 1)),
         ];
-        for (message, lent, word) in cases {
+        for (message, lent, expected) in cases {
             let (answer, _) = pair.call(message, &vec![1; lent]);
-            assert_eq!(answer.result, word);
+            assert_eq!((answer.result, answer.block), expected);
         }
     }
 }

@@ -128,7 +128,7 @@ impl Error {
     /// The word and these reasons.
     fn text(self, reasons: &[&str]) -> String {
         let reasons = if reasons.is_empty() {
-            "for no reason that document 01 names".into()
+            "for no reason that the documents name".into()
         } else {
             reasons.join(", or ")
         };

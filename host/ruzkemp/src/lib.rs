@@ -1,8 +1,8 @@
 //! The disc side of the RC3600 Catalog System, proved: one unit over a lent image of words.
 //!
 //! Every call goes to the static library of crate `export`, whose functions are proved against
-//! document 01 for every image, state, message and lent words. This crate adds types and names;
-//! it decides nothing itself.
+//! documents 01 and 02 for every image, state, message and lent words. This crate adds types and
+//! names; it decides nothing itself.
 //!
 //! * [`Unit`] is an image with its state, and has a method for each message.
 //! * [`Name`], [`Entry`], [`Attributes`], [`Record`] and [`Description`] are what the messages

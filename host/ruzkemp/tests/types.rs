@@ -246,6 +246,6 @@ fn a_refusal_is_told_in_plain_words() {
     );
     assert_eq!(
         Error::Other(0x0001).to_string(),
-        "refused with 0001h: for no reason that document 01 names"
+        "refused with 0001h: for no reason that the documents name"
     );
 }

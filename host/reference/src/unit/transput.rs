@@ -108,7 +108,8 @@ fn input(
     Ok(())
 }
 
-/// The question that input at a file's length fails: a fixed file's end has a word of its own.
+/// The question that is answered no for an input at a file's length: a fixed file's end has a word
+/// of its own.
 fn end_of(entry: &Entry) -> Question {
     if entry.words[6] & EXTENDABLE == 0 {
         Question::InputBelowFixedEnd
