@@ -4,7 +4,7 @@
 // Then the listing by name (document 02, R-1): a line for the call has the result word and the number of entries, and a line for each
 // entry its name and its words 7 to 9. The expected lines are derived from document 02.
 // Then a file of two blocks is read to its end (document 02, R-4), first a fixed one, then an extendable one, each on a fresh unit; the
-// expected lines are derived from document 02. A refused input leaves the words lent.
+// expected lines are derived from documents 01 and 02. A refused input leaves the words lent.
 
 ghost use Prim.Native.Nat.{_+_, _≤_};
 use types::Message;

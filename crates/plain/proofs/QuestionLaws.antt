@@ -24,14 +24,14 @@ unfolding either
 either-law P true h k = h tt
 either-law P false h k = k tt
 
+pub cond-law : {A : Type 0} (P : A → Type 0) (b : Bool) (x y : A) → P x → P y → P (cond b x y)
+cond-law P true x y h k = h
+cond-law P false x y h k = k
+
 -- what holds of both words of an input at the length holds of the word of every file
 pub end-law : (P : ℕ → Type 0) (attributes : ℕ) → P 0x0810 → P 0x0A00 → P (endWord attributes)
 unfolding endWord
-end-law P attributes h k = go (extendable attributes)
-  where
-    go : (b : Bool) → P (cond b 0x0810 0x0A00)
-    go true = h
-    go false = k
+end-law P attributes h k = cond-law P (extendable attributes) 0x0810 0x0A00 h k
 
 -- ---- tests
 

@@ -75,8 +75,8 @@ abbrev pub eightCalls : List Case
 eightCalls = sevenCalls ++ (passArea 9 (Reserve 0) [] 0 ∷ gives (RemoveArea pass) [] 0 ∷ [])
 
 -- Input by operation 1 or 5 from the area 'PASS': result word, byte count and block.
-abbrev pub reads : ℕ → ℕ → ℕ → ℕ → ℕ → Case
-reads operation block result bytes at = givesAt (AreaMessage pass 9 (Transput operation 512 block)) (sectorOf 9) result bytes at
+abbrev pub passInput : ℕ → ℕ → ℕ → ℕ → ℕ → Case
+passInput operation block result bytes at = givesAt (AreaMessage pass 9 (Transput operation 512 block)) (sectorOf 9) result bytes at
 
 -- 'PASS' with two blocks and these attributes is read to its end, at which input has the result word given: by 1 from block 0 on; by 5
 -- at block 2, which is the length; and by 1 where a 5 and a Position to block 3, past the length, have left the position, which was 0.
@@ -85,17 +85,17 @@ endCalls attributes word =
     gives (Create pass 2 attributes) [] 0
     ∷ gives (CreateArea pass) [] 0
     ∷ passArea 9 (Reserve 3) [] 0
-    ∷ reads 1 0 0 512 0
-    ∷ reads 1 0 0 512 1
-    ∷ reads 1 0 word 0 2
-    ∷ reads 5 0 0 512 0
-    ∷ reads 5 2 word 0 2
+    ∷ passInput 1 0 0 512 0
+    ∷ passInput 1 0 0 512 1
+    ∷ passInput 1 0 word 0 2
+    ∷ passInput 5 0 0 512 0
+    ∷ passInput 5 2 word 0 2
     ∷ passArea 9 (Position 0) [] 0
-    ∷ reads 5 3 0x0810 0 2  -- Position: not past the length?
-    ∷ reads 1 0 word 0 2
+    ∷ passInput 5 3 0x0810 0 2  -- Position: not past the length?
+    ∷ passInput 1 0 word 0 2
     ∷ passArea 9 (Position 0) [] 0
     ∷ passArea 9 (Position 3) [] 0x0810  -- the same
-    ∷ reads 1 0 word 0 2
+    ∷ passInput 1 0 word 0 2
     ∷ []
 
 -- The fresh unit after the calls of P6, P7 and P8.

@@ -20,6 +20,7 @@ use Rattle.plain.specs.Table.{Table, tableFind, tablePut, isSome}
 use Rattle.plain.specs.Unit.{Plain, AreaUser, withAreas}
 use Rattle.plain.specs.Questions.{Outcome, asks, replies, done}
 use Rattle.plain.specs.Areas as plain
+use Rattle.plain.proofs.QuestionLaws.{cond-law}
 use Rattle.state.specs.declared.Found.{Found}
 use Rattle.state.specs.declared.Found.the-variants.{At, Absent}
 use Rattle.state.specs.declared.Kind.the-variants.{AnyUser, Writer}
@@ -136,8 +137,7 @@ module _ (a : Area) (sender count : ℕ) (P : Area → Type 0) (as-is : P a)
     (again : (u : ℕ) → entryOf sender a ≡ At u → P (setUser a u (openedAgain count (userAt a u))))
     (new : (v : ℕ) → entryOf sender a ≡ Absent → P (setUser a v (inserted sender count))) where
   one-of : (b : Bool) (x y : Reserved) → P (x .area) → P (y .area) → P (cond b x y .area)
-  one-of true x y f g = f
-  one-of false x y f g = g
+  one-of = cond-law (λ (x : Reserved). P (x .area))
 
   placed-keeps : (own vacant : Found) → entryOf sender a ≡ own → P (placedAt a sender count own vacant .area)
   placed-keeps (At u) vacant e = one-of (ltb (userAt a u .opens) 65535) (answered 0 (setUser a u (openedAgain count (userAt a u)))) (answered 0x0808 a) (again u e) as-is

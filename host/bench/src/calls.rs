@@ -263,9 +263,8 @@ fn rows_of(random: &mut Random, unit: &'static str, shape: &Shape) -> Vec<Row> {
     let file = name_in(file.expect("a file with a block"));
     // The last file of SYS: its name is sought up to the last layer.
     let last = entries.iter().rfind(with_block);
-    let (last, length) = last
-        .map(|entry| (name_in(entry), entry[7]))
-        .expect("a file");
+    let last = last.expect("a file with a block");
+    let (last, length) = (name_in(last), last[7]);
     let new = new_name(random, &closed.proved);
     let kinds = [
         (file, look_up(&entries)),
