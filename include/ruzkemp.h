@@ -162,7 +162,7 @@ typedef struct ruzkemp_user {
 /* An area process; the descriptor is vacant if live is 0. */
 typedef struct ruzkemp_area {
     uint16_t live;
-    uint16_t name[3]; /* in capitals, sixth character 0 */
+    uint16_t name[3]; /* sixth character 0 */
     uint16_t index;   /* live index sector, 0 while the file has no slice */
     uint16_t length;  /* live length in sectors */
     ruzkemp_user users[RUZKEMP_USERS];
@@ -290,7 +290,8 @@ static inline ruzkemp_unit ruzkemp_fresh_unit(uint16_t unit, uint16_t *image, si
     return fresh;
 }
 
-/* The name of a text of one to five characters on a unit. A longer or empty text gives a name that no file can have. */
+/* The name of a text of one to five characters on a unit, each as given: 'pass' and 'PASS' are two names. A legal one has a letter (A to Z or a to
+   z) and then letters or digits. A longer or empty text gives a name that no file can have. */
 static inline ruzkemp_name ruzkemp_name_of(const char *text, uint16_t unit)
 {
     unsigned char characters[6] = {0, 0, 0, 0, 0, 0};

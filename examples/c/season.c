@@ -1,7 +1,7 @@
 /*
  * A season's passes on a unit in memory: formats and initializes it, creates a file, appends two blocks through an area process, sees the
- * length booked when the area process is removed, renames the file and removes it, and reads a file of fixed length to its end. Every answer
- * is checked against the one that documents 01 and 02 ask for; season.expected holds the output.
+ * length booked when the area process is removed, renames the file and removes it, reads a file of fixed length to its end and keeps two files
+ * whose names differ in case only. Every answer is checked against the one that documents 01 and 02 ask for; season.expected holds the output.
  *
  *     cc -std=c99 -I include examples/c/season.c target/staticlib/libexport.a -o season && ./season
  */
@@ -110,6 +110,18 @@ static void read_prices(ruzkemp_unit *unit, ruzkemp_name prices)
     expect("Remove area", ruzkemp_remove_area(unit, prices).result, RUZKEMP_OK);
 }
 
+/* Keeps PASS and Pass as two files: a name is another one as soon as one of its characters is. */
+static void keep_both(ruzkemp_unit *unit, ruzkemp_name large, ruzkemp_name small)
+{
+    uint16_t entry[RUZKEMP_ENTRY_WORDS];
+    expect("Create of PASS", ruzkemp_create(unit, large, 1, 0).result, RUZKEMP_OK);
+    expect("Look-up of Pass", ruzkemp_look_up(unit, small, entry).result, RUZKEMP_NO_ENTRY);
+    expect("Create of Pass", ruzkemp_create(unit, small, 0, RUZKEMP_EXTENDABLE).result, RUZKEMP_OK);
+    expect("Change of Pass to PASS", ruzkemp_rename(unit, small, large).result, RUZKEMP_ENTRY_EXISTS);
+    expect("Change of Pass to pass", ruzkemp_rename(unit, small, ruzkemp_name_of("pass", UNIT)).result, RUZKEMP_OK);
+    show_all(unit);
+}
+
 int main(void)
 {
     ruzkemp_unit unit = ruzkemp_fresh_unit(UNIT, image, sizeof image / sizeof *image);
@@ -139,6 +151,7 @@ int main(void)
     expect("Remove", ruzkemp_remove(&unit, season).result, RUZKEMP_OK);
     show_free(&unit);
     read_prices(&unit, ruzkemp_name_of("PRICE", UNIT));
+    keep_both(&unit, passes, ruzkemp_name_of("Pass", UNIT));
     printf("%s\n", ruzkemp_is_sound(&unit) ? "the unit is sound" : "the unit is not sound");
     return EXIT_SUCCESS;
 }

@@ -136,7 +136,7 @@ pub fn area_message(
     requires { ⌜ Meant (now image) state o (unitIn name) ⌝ }
     ensures { λ r. ⌜ AreaMessages (now (image .entry)) state o name sender operation (now (lent .entry)) r (now (lent .exit)) (now (image .exit)) ⌝ }
 {
-    let Found::At(j) = state::find_area(state, names::fold(name)) else {
+    let Found::At(j) = state::find_area(state, names::stored(name)) else {
         return sharing::reply(state, 0x4800, 0, Block(0));
     };
     let area = state::area_at(state, j);

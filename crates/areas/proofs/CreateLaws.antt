@@ -115,10 +115,10 @@ module _ {image : List ℕ} {o : Opened} {n : ℕ} {r : Found} (state : State) (
         }
 
         -- the lowest vacant descriptor, with the words of the entry
-        pub creates-done : {j : ℕ} {folded : Name} {size sector : ℕ} {next : State} → vacantAreaOf state ≡ At j → NameIs folded (named name)
-            → size ≡ entryWord image at 7 → sector ≡ entryWord image at 8 → next ≡ areaOpened state j folded (record { 0 = sector }) size
+        pub creates-done : {j : ℕ} {stored : Name} {size sector : ℕ} {next : State} → vacantAreaOf state ≡ At j → NameIs stored (named name)
+            → size ≡ entryWord image at 7 → sector ≡ entryWord image at 8 → next ≡ areaOpened state j stored (record { 0 = sector }) size
             → CreatesArea image o state name (record { result = 0; state = next })
-        creates-done {j} {folded} {size} {sector} {next} vacant capitals long first opens = record {
+        creates-done {j} {stored} {size} {sector} {next} vacant means long first opens = record {
           all = λ p g rep num. record {
             step = λ lent.
                 let a = stands p g rep num in
@@ -134,10 +134,10 @@ module _ {image : List ℕ} {o : Opened} {n : ℕ} {r : Found} (state : State) (
                   absent = name-absent (named name) state not-open;
                   j = j;
                   vacant = vacant;
-                  name = folded;
-                  is = capitals;
+                  name = stored;
+                  is = means;
                   unit = refl;
-                  left = opens ∙ ap₂ (λ (x y : ℕ). areaOpened state j folded (record { 0 = x }) y) index live;
+                  left = opens ∙ ap₂ (λ (x y : ℕ). areaOpened state j stored (record { 0 = x }) y) index live;
                 }));
           };
         }

@@ -21,7 +21,7 @@ pub fn create_area(image: &[u16], o: Opened, state: State, name: Name) -> AreaDo
     requires { ⌜ Meant (now image) state o (unitIn name) ⌝ }
     ensures { λ r. ⌜ CreatesArea (now (image .entry)) o state name r ⌝ }
 {
-    let n = names::fold(name);
+    let n = names::stored(name);
     let Found::At(place) = unit::find_name(image, o, n) else {
         return AreaDone {
             result: 0x4800,
@@ -75,7 +75,7 @@ pub fn remove_area(image: &mut [u16], o: Opened, state: State, name: Name) -> Ar
     requires { ⌜ Meant (now image) state o (unitIn name) ⌝ }
     ensures { λ r. ⌜ RemovesArea (now (image .entry)) o state name (now (image .exit)) r ⌝ }
 {
-    let n = names::fold(name);
+    let n = names::stored(name);
     if names::is_system(n) {
         return AreaDone {
             result: 0x0A00,

@@ -1,7 +1,7 @@
 // Bad inputs. Each line of the standard input is a case: a name, and after ':' the numbers in which image, state and call differ
 // from those of a sound unit. The case's line of output has Init's result word, whether image and state are sound, and what
 // became of the image, of the state's unit number and areas, and of 'initialized'. The expected lines are derived from
-// document 01 and not taken from a run.
+// documents 01 and 02 and not taken from a run.
 //
 // PLACE.WORD=VALUE sets one number, in base 10 or, with an h behind it, in base 16.
 //   PLACE 0 to 20 is a sector of the image.

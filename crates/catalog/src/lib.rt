@@ -92,7 +92,7 @@ pub fn unused_slot(image: &[u16], q: Sector) -> u16
     16
 }
 
-// The place of a name, which is in capitals.
+// The place of a name.
 pub fn find(image: &[u16], c: Catalog, name: Name) -> Found
     requires { ⌜ 1 ≤ c .keys ⌝ }
     ensures { λ r. ⌜ NamePlace (now (image .entry)) c (pack (name .0) (name .1) (name .2)) r ⌝ }

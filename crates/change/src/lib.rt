@@ -58,7 +58,7 @@ fn new_name(n: Name, lent: &[u16]) -> Name
     if lent[0] == 0 {
         return n;
     }
-    names::fold(Name(lent[0], lent[1], lent[2]))
+    names::stored(Name(lent[0], lent[1], lent[2]))
 }
 
 // The slices after the message: a length that is kept touches none.
@@ -195,7 +195,7 @@ pub fn change(image: &mut [u16], o: Opened, state: State, name: Name, lent: &[u1
     requires { ⌜ Meant (now image) state o (unitIn name) ⌝ }
     ensures { λ r. ⌜ Changes (now (image .entry)) o state name (now (lent .entry)) (now (image .exit)) r ⌝ }
 {
-    let n = names::fold(name);
+    let n = names::stored(name);
     let Found::At(place) = unit::find_name(image, o, n) else {
         return 0x5000;
     };

@@ -147,7 +147,7 @@ fn create_grown(
     0
 }
 
-// A new file under a name in capitals; optional and tail are those of the words.
+// A new file under a name as it is stored; optional and tail are those of the words.
 fn new_file(
     image: &mut [u16],
     o: Opened,
@@ -177,7 +177,7 @@ pub fn create(image: &mut [u16], o: Opened, name: Name, size: u16, attributes: u
     ensures { λ r. ⌜ Creates (now (image .entry)) o name size attributes (now (image .exit)) r ⌝ }
 {
     let words = [0u16; 16];
-    new_file(image, o, names::fold(name), size, attributes, &words)
+    new_file(image, o, names::stored(name), size, attributes, &words)
 }
 
 // Set from question 4 on, under the name in a message that means this unit: the result word. Size, attributes, optional and tail are
@@ -189,5 +189,5 @@ pub fn set(image: &mut [u16], o: Opened, name: Name, lent: &[u16]) -> u16
     if lent.len() < 16 {
         return 0x1200;
     }
-    new_file(image, o, names::fold(name), lent[9], lent[6], lent)
+    new_file(image, o, names::stored(name), lent[9], lent[6], lent)
 }

@@ -3,6 +3,7 @@ pub mod DecideLaws
 pub mod NumberLaws
 pub mod WordLaws
 pub mod NameLaws
+pub mod CapitalLaws
 pub mod SliceLaws
 pub mod StretchLaws
 pub mod Geometry

@@ -1,11 +1,14 @@
--- Laws of names: three words come back from the number that they make, whole and by their characters; capitals.
+-- Laws of names: three words come back from the number that they make, whole and by their characters; a legal name begins with a
+-- letter.
 use mathlib.Core.Path.{_≡_, ap}
-use mathlib.Core.Bool.{Bool, true, false, _&&_, cond}
+use mathlib.Core.Bool.{Bool, true, false, _&&_}
 use mathlib.Core.List.{[], _∷_}
-use Prim.Native.Nat.{ℕ, _+_, _-_, _/_, _%_, _≤_, _<_}
+use Prim.Native.Nat.{ℕ, _+_, _/_, _%_, _≤_, _<_}
 use native.Mathlib.Omega.{arith}
-use lib.Dec.{leb}
-use Rattle.disc.specs.Names.{pack, nameWords, capital, keyOf}
+use lib.Dec.{T}
+use borrow.Author.Tests.{le-leb, lt-leb}
+use Rattle.disc.specs.Names.{pack, nameWords, letter, legalName, keyOf}
+use Rattle.disc.proofs.Compare.{below-or}
 
 -- the three words
 pub pack-first : (a b c : ℕ) → b < 65536 → c < 65536 → pack a b c / 0x100000000 ≡ a
@@ -34,14 +37,23 @@ pack-small a b c p q r = omega arith
 pub key-pack : (a b c H : ℕ) → b < 65536 → c < 65536 → keyOf H (pack a b c) ≡ (a + b + c) % 65536 % H
 key-pack a b c H p q = ap (λ (n : ℕ). n % 65536 % H) (omega arith)
 
--- ---- capitals
+-- ---- letters
 
-pub capital-le : (c : ℕ) → capital c ≤ c
-capital-le c = go (leb 97 c && leb c 122)
+pub letter-range : (c : ℕ) → T (letter c) → (65 ≤ c) × (c ≤ 122)
+letter-range c t =
+    below-or c 65
+    (λ h. absurd (rw (lt-leb 65 c h, lt-leb 97 c (omega arith)) at t))
+    (λ h. below-or 122 c
+    (λ k. absurd (rw (le-leb 65 c h, le-leb 97 c (omega arith), lt-leb c 90 (omega arith), lt-leb c 122 k) at t))
+    (λ k. (h, k)))
+
+-- a legal name begins with a letter
+pub legal-begins : (n : ℕ) → T (legalName n) → (65 ≤ n / 0x10000000000) × (n / 0x10000000000 ≤ 122)
+legal-begins n t = letter-range (n / 0x10000000000) (first (letter (n / 0x10000000000)) _ _ t)
   where
-    go : (b : Bool) → cond b (c - 32) c ≤ c
-    go true = omega arith
-    go false = omega arith
+    first : (a b c : Bool) → T (a && b && c) → T a
+    first true b c u = tt
+    first false b c u = u
 
 -- ---- the six characters
 

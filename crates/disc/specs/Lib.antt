@@ -2,6 +2,7 @@ pub mod Decide
 pub mod Numbers
 pub mod Words
 pub mod Names
+pub mod Capitals
 pub mod Attributes
 pub mod Slices
 pub mod Stretches

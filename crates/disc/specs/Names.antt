@@ -1,8 +1,8 @@
 -- Names: "five characters, high half first, sixth stored 0: a letter, then letters or digits, then zeros".
 -- A name is three words in an image or a message, and here the one number that the three words make.
-use mathlib.Core.Bool.{Bool, true, _&&_, _||_, cond}
+use mathlib.Core.Bool.{Bool, true, _&&_, _||_}
 use mathlib.Core.List.{List, [], _∷_}
-use Prim.Native.Nat.{ℕ, _+_, _-_, _*_, _/_, _%_}
+use Prim.Native.Nat.{ℕ, _+_, _*_, _/_, _%_}
 use lib.Dec.{leb, eqb}
 use Rattle.types.specs.declared.Name.{Name}
 
@@ -14,8 +14,9 @@ pack a b c = (a * 65536 + b) * 65536 + c
 abbrev pub nameWords : ℕ → List ℕ
 nameWords n = (n / 0x100000000) ∷ (n / 65536 % 65536) ∷ (n % 65536) ∷ []
 
+-- "Small letters are legal" (document 02, R-8) beside the capital ones.
 abbrev pub letter : ℕ → Bool
-letter c = leb 65 c && leb c 90
+letter c = (leb 65 c && leb c 90) || (leb 97 c && leb c 122)
 
 abbrev pub digit : ℕ → Bool
 digit c = leb 48 c && leb c 57
@@ -29,23 +30,17 @@ abbrev pub restLegal : List ℕ → Bool
 restLegal [] = true
 restLegal (c ∷ l) = ((letter c || digit c) && restLegal l) || (eqb c 0 && zeros l)
 
--- A legal name in capitals, its sixth character 0.
+-- A legal name, its sixth character 0.
 abbrev pub legalName : ℕ → Bool
 legalName n =
     letter (n / 0x10000000000)
     && restLegal ((n / 0x100000000 % 256) ∷ (n / 0x1000000 % 256) ∷ (n / 65536 % 256) ∷ (n / 256 % 256) ∷ [])
     && eqb (n % 256) 0
 
--- "Small letters count as their capitals".
-abbrev pub capital : ℕ → ℕ
-capital c = cond (leb 97 c && leb c 122) (c - 32) c
-
-abbrev pub capitals : ℕ → ℕ
-capitals w = capital (w / 256) * 256 + capital (w % 256)
-
--- The name that three words mean: in capitals, its sixth character ignored (the unit number, or nothing).
+-- The name that three words mean: five characters "as given" (document 02, R-8), the sixth ignored (the unit number, or
+-- nothing). "Names are equal only when all five characters are."
 abbrev pub nameOf : ℕ → ℕ → ℕ → ℕ
-nameOf a b c = pack (capitals a) (capitals b) (capital (c / 256) * 256)
+nameOf a b c = pack a b (c / 256 * 256)
 
 -- The name and the unit number of a message's name: "in a message's name the sixth is the unit number".
 abbrev pub named : Name → ℕ

@@ -39,7 +39,7 @@ pub record SystemLegal (P : ℕ → ℕ → ℕ) (sys : List ℕ) (t : ℕ) : Ty
   pub sysWords : nameAt P t ≡ SYS → HoldsEntry P t sys
   pub mapWords : nameAt P t ≡ MAP → HoldsEntry P t mapEntry
 
--- Place t, in a sector of key k: "Every used entry has a legal name in capitals, .. in a sector of its key".
+-- Place t, in a sector of key k: "Every used entry has a legal name .. in a sector of its key".
 pub record PlaceLegal (P : ℕ → ℕ → ℕ) (H k : ℕ) (sys : List ℕ) (t : ℕ) : Type 0 where
   pub name : Used P t → T (legalName (nameAt P t))
   pub key : Used P t → k ≡ keyOf H (nameAt P t)

@@ -1,8 +1,9 @@
 -- When a name is legal, by the classes of its characters: no class is above the one before it.
 use mathlib.Core.Path.{_≡_, refl, sym, ap, _∙_}
-use mathlib.Core.Bool.{Bool, true, false, _&&_, _||_}
+use mathlib.Core.Bool.{Bool, true, false, _&&_, _||_, cond}
 use mathlib.Core.List.{List, [], _∷_}
 use Prim.Native.Nat.{ℕ, _/_, _%_, _≤_, _<_}
+use native.Mathlib.Omega.{arith}
 use lib.Dec.{leb, eqb}
 use borrow.Author.Tests.{eq-eqb, ne-eqb, le-leb, lt-leb}
 use Rattle.disc.specs.Names.{pack, letter, digit, zeros, restLegal, legalName}
@@ -12,18 +13,45 @@ use Rattle.names.specs.Classes.{classOf}
 
 -- ---- the three classes
 
-pub class-zero : (c : ℕ) → c ≡ 0 → classOf c ≡ 0
+class-zero : (c : ℕ) → c ≡ 0 → classOf c ≡ 0
 unfolding classOf
 class-zero c e = rw (eq-eqb c 0 e)
 
 module _ (c : ℕ) (d : c ≡ 0 → ⊥) where
-  pub class-one : letter c || digit c ≡ true → classOf c ≡ 1
+  class-one : letter c || digit c ≡ true → classOf c ≡ 1
   unfolding classOf
   class-one e = rw (ne-eqb c 0 d, e)
 
-  pub class-two : letter c || digit c ≡ false → classOf c ≡ 2
+  class-two : letter c || digit c ≡ false → classOf c ≡ 2
   unfolding classOf
   class-two e = rw (ne-eqb c 0 d, e)
+
+-- from 'A' on a character is a letter exactly if it is of class 1
+from-A : (c : ℕ) → 65 ≤ c → classOf c ≡ cond (letter c) 1 2
+unfolding classOf
+from-A c h = rw (ne-eqb c 0 (λ e. absurd (omega arith)), le-leb 48 c (omega arith), lt-leb c 57 (omega arith)) (go (letter c))
+  where
+    go : (b : Bool) → _≡_ {A = ℕ} (cond (b || false) 1 2) (cond b 1 2)
+    go true = refl
+    go false = refl
+
+pub letter-low : (c : ℕ) → c < 65 → letter c ≡ false
+letter-low c h = rw (lt-leb 65 c h, lt-leb 97 c (omega arith))
+
+module _ (c : ℕ) (h : 65 ≤ c) where
+  pub letter-one : classOf c ≤ 1 → letter c ≡ true
+  letter-one k = go (letter c) (from-A c h)
+    where
+      go : (b : Bool) → classOf c ≡ cond b 1 2 → b ≡ true
+      go true e = refl
+      go false e = absurd (omega arith)
+
+  pub letter-two : 1 < classOf c → letter c ≡ false
+  letter-two k = go (letter c) (from-A c h)
+    where
+      go : (b : Bool) → classOf c ≡ cond b 1 2 → b ≡ false
+      go true e = absurd (omega arith)
+      go false e = refl
 
 -- the three cases
 data Class (c : ℕ) : Type 0 where

@@ -1,3 +1,4 @@
 mod LegalLaws
 mod ClassLaws
+mod RangeLaws
 pub mod NameIsLaws

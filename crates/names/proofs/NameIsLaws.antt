@@ -1,9 +1,8 @@
--- Laws of `NameIs`: at most one name is a number's, its words are the number's words, and a folded name ends in 0.
+-- Laws of `NameIs`: at most one name is a number's, and its words are the number's words.
 use mathlib.Core.Path.{_≡_, sym, _∙_}
 use Prim.Native.Nat.{ℕ, _/_, _%_}
 use native.Mathlib.Omega.{arith}
 use Rattle.types.specs.declared.Name.{Name}
-use Rattle.disc.specs.Names.{named}
 use Rattle.disc.proofs.NameLaws.{pack-injective}
 use Rattle.names.specs.NameIs.{NameIs}
 
@@ -13,7 +12,3 @@ nameIs-words k = omega arith
 pub nameIs-unique : {a b : Name} {n : ℕ} → NameIs a n → NameIs b n → (a .0 ≡ b .0) × (a .1 ≡ b .1) × (a .2 ≡ b .2)
 nameIs-unique {a} {b} j k =
     pack-injective (a .0) (a .1) (a .2) (b .0) (b .1) (b .2) (j .second) (j .third) (k .second) (k .third) (j .packed ∙ sym (k .packed))
-
--- the sixth character of a folded name
-pub folded-sixth : {name : Name} (m : Name) → NameIs name (named m) → name .2 % 256 ≡ 0
-folded-sixth m k = omega arith

@@ -1,11 +1,13 @@
-// Names: their number, capitals, legal names, the unit character, SYS and MAP. All comparing and folding of names is here.
+// Names: their number, the five characters and the unit character, legal names, SYS and MAP. All comparing of names is here.
 
 ghost use mathlib.Core.Path.{_≡_};
 ghost use mathlib.Core.Bool.{_||_};
+ghost use Prim.Native.Nat.{_≤_, _<_};
+ghost use lib.ListN.{length};
 ghost use lib.Dec.{eqb};
-ghost use Rattle.disc.specs.Names.{pack, letter, digit, legalName, capital, capitals, named, unitIn, SYS, MAP, isSystem};
+ghost use Rattle.disc.specs.Names.{pack, letter, digit, legalName, named, unitIn, SYS, MAP, isSystem};
 ghost use Rattle.names.specs.NameIs.{NameIs};
-ghost use Rattle.names.specs.Classes.{classOf, ClassesOf};
+ghost use Rattle.names.specs.Classes.{ClassesOf, RangeClassed};
 use types::Name;
 
 // 'SYS' and 'MAP' as numbers.
@@ -52,35 +54,11 @@ pub fn is_system(name: Name) -> bool
     n == MAP_NUMBER
 }
 
-// A small letter's capital; any other character as it is.
-pub fn capital(c: u16) -> u16
-    ensures { λ r. ⌜ r ≡ capital c ⌝ }
-{
-    if c < 97 {
-        return c;
-    }
-    if 122 < c {
-        return c;
-    }
-    c - 32
-}
-
-// Both characters of a word in capitals.
-pub fn capitals(w: u16) -> u16
-    ensures { λ r. ⌜ r ≡ capitals w ⌝ }
-{
-    capital(w / 256) * 256 + capital(w % 256)
-}
-
-// The name that three words mean: in capitals, the sixth character 0.
-pub fn fold(name: Name) -> Name
+// The name that three words mean, as it is stored: the five characters as given, the sixth 0.
+pub fn stored(name: Name) -> Name
     ensures { λ r. ⌜ NameIs r (named name) ⌝ }
 {
-    Name(
-        capitals(name.0),
-        capitals(name.1),
-        capital(name.2 / 256) * 256,
-    )
+    Name(name.0, name.1, name.2 / 256 * 256)
 }
 
 // The unit number in a message's name.
@@ -90,17 +68,23 @@ pub fn unit_of(name: Name) -> u16
     name.2 % 256
 }
 
-// Whether a character is a capital letter.
+// Whether a character is a letter, capital or small.
 pub fn is_letter(c: u16) -> bool
     ensures { λ r. ⌜ r ≡ letter c ⌝ }
 {
     if c < 65 {
         return false;
     }
-    c <= 90
+    if c <= 90 {
+        return true;
+    }
+    if c < 97 {
+        return false;
+    }
+    c <= 122
 }
 
-// Whether a character is a capital letter or a digit.
+// Whether a character is a letter or a digit.
 pub fn is_letter_or_digit(c: u16) -> bool
     ensures { λ r. ⌜ r ≡ letter c || digit c ⌝ }
 {
@@ -113,7 +97,7 @@ pub fn is_letter_or_digit(c: u16) -> bool
     c <= 57
 }
 
-// Whether a name is legal and in capitals: a letter, letters or digits, then zeros to the sixth character.
+// Whether a name is legal: a letter, letters or digits, then zeros to the sixth character.
 pub fn legal(name: Name) -> bool
     ensures { λ r. ⌜ r ≡ legalName (pack (name .0) (name .1) (name .2)) ⌝ }
 {
@@ -136,45 +120,48 @@ pub fn legal(name: Name) -> bool
     n % 256 == 0
 }
 
-// What a character is in a name: 0 for the character 0, 1 for a capital letter or a digit, 2 for any other.
-fn class_of(c: u16) -> u8
-    ensures { λ r. ⌜ r ≡ classOf c ⌝ }
+// Puts the characters from `first` to `last` into class 1.
+fn class_range(table: &mut [u8; 256], first: usize, last: usize)
+    requires { ⌜ (first ≤ last) × (last < 256) × (length (now table) ≡ 256) ⌝ }
+    ensures { λ _. ⌜ RangeClassed (now (table .entry)) first last (now (table .exit)) ⌝ }
 {
-    if c == 0 {
-        return 0;
+    let mut c = first;
+    while c <= last {
+        table[c] = 1;
+        c += 1;
     }
-    if is_letter_or_digit(c) {
-        return 1;
-    }
-    2
 }
 
 // The classes of all characters, to be filled once and lent while many names are judged.
 pub fn classes() -> [u8; 256]
     ensures { λ r. ⌜ ClassesOf r ⌝ }
 {
-    let mut table = [0u8; 256];
-    let mut c = 0;
-    while c < 256 {
-        table[c] = class_of(c as u16);
-        c += 1;
-    }
+    let mut table = [2u8; 256];
+    table[0] = 0;
+    class_range(&mut table, 48, 57);
+    class_range(&mut table, 65, 90);
+    class_range(&mut table, 97, 122);
     table
 }
 
-// As `legal`, by the classes of the characters: no class is above the one before it. No test goes another way in one legal name
-// than in the next, so that a processor guesses each of them rightly.
+// As `legal`, by the classes of the characters: no class is above the one before it, and the first character, of class 1, is no digit.
+// No test goes another way in one legal name than in the next, so that a processor guesses each of them rightly.
 pub fn legal_by(name: Name, table: &[u8; 256]) -> bool
     requires { ⌜ ClassesOf (now table) ⌝ }
     ensures { λ r. ⌜ r ≡ legalName (pack (name .0) (name .1) (name .2)) ⌝ }
 {
-    if !is_letter(name.0 / 256) {
+    let initial = name.0 / 256;
+    if initial < 65 {
         return false;
     }
+    let first = table[initial as usize];
     let second = table[(name.0 % 256) as usize];
     let third = table[(name.1 / 256) as usize];
     let fourth = table[(name.1 % 256) as usize];
     let fifth = table[(name.2 / 256) as usize];
+    if 1 < first {
+        return false;
+    }
     if 1 < second {
         return false;
     }

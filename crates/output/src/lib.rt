@@ -22,7 +22,7 @@ use types::Sector;
 use types::State;
 use unit::Opened;
 
-// The attributes of a name, which is in capitals; 0 if it is not entered.
+// The attributes of a name as it is stored; 0 if it is not entered.
 pub fn attributes_of(image: &[u16], o: Opened, name: Name) -> u16
     requires { ⌜ Searchable (now image) o ⌝ }
     ensures { λ r. ⌜ AttributesOf (now (image .entry)) o (pack (name .0) (name .1) (name .2)) r ⌝ }

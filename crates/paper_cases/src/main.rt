@@ -5,6 +5,9 @@
 // entry its name and its words 7 to 9. The expected lines are derived from document 02.
 // Then a file of two blocks is read to its end (document 02, R-4), first a fixed one, then an extendable one, each on a fresh unit; the
 // expected lines are derived from documents 01 and 02. A refused input leaves the words lent.
+// Then 'PASS' and 'Pass' stand beside each other on a fresh unit with H = 3 (document 02, R-8). A line for a rename has the result word; a
+// line for the names has the first two words of the first place of key 1, in sector 11, and of the first two places of key 2, in sector
+// 12. The expected lines are derived from documents 01 and 02.
 
 ghost use Prim.Native.Nat.{_+_, _≤_};
 use types::Message;
@@ -15,9 +18,9 @@ use types::State;
 // The image, 256 times N words.
 type Disc = [u16; 5120];
 
-// A fresh unit.
-fn fresh(image: &mut Disc) {
-    let lent = [0, 1, 2, 20, 10, 10, 20, 0, 0];
+// A fresh unit with this H.
+fn fresh(image: &mut Disc, keys: u16) {
+    let lent = [0, keys, 2, 20, 10, 10, 20, 0, 0];
     format::format(image, types::fresh_state(0), 18, &lent);
 }
 
@@ -56,13 +59,20 @@ fn show(image: &Disc) {
     io::write_all(1, b"\n");
 }
 
-// 'PASS' on unit 0.
+// 'PASS', 'Pass' and 'pass' on unit 0.
 fn pass() -> Name {
     Name(0x5041, 0x5353, 0)
 }
 
-fn create(size: u16, attributes: u16) -> Message {
-    let name = pass();
+fn mixed() -> Name {
+    Name(0x5061, 0x7373, 0)
+}
+
+fn small() -> Name {
+    Name(0x7061, 0x7373, 0)
+}
+
+fn create_named(name: Name, size: u16, attributes: u16) -> Message {
     Message::Create {
         name: name,
         size: size,
@@ -70,26 +80,33 @@ fn create(size: u16, attributes: u16) -> Message {
     }
 }
 
-fn reserve(sender: u16) -> Message {
-    let name = pass();
+fn create(size: u16, attributes: u16) -> Message {
+    create_named(pass(), size, attributes)
+}
+
+fn to_area(name: Name, sender: u16, operation: Operation) -> Message {
     Message::AreaMessage {
         name: name,
         sender: sender,
-        operation: Operation::Reserve(3),
+        operation: operation,
     }
 }
 
+fn reserve(sender: u16) -> Message {
+    to_area(pass(), sender, Operation::Reserve(3))
+}
+
+fn transput_named(name: Name, operation: u16, block: u16) -> Message {
+    let asked = Operation::Transput {
+        operation: operation,
+        bytes: 512,
+        block: block,
+    };
+    to_area(name, 1, asked)
+}
+
 fn transput(operation: u16, block: u16) -> Message {
-    let name = pass();
-    Message::AreaMessage {
-        name: name,
-        sender: 1,
-        operation: Operation::Transput {
-            operation: operation,
-            bytes: 512,
-            block: block,
-        },
-    }
+    transput_named(pass(), operation, block)
 }
 
 fn init(image: &mut Disc) -> State {
@@ -102,21 +119,26 @@ fn init(image: &mut Disc) -> State {
     )
 }
 
-// An area process of 'PASS' with the user 1.
-fn open(image: &mut Disc, state: State) -> State {
+// An area process of a name with the user 1.
+fn open_named(image: &mut Disc, state: State, name: Name) -> State {
     let opened = call(
         image,
         state,
-        Message::CreateArea { name: pass() },
+        Message::CreateArea { name: name },
         0,
         b"create area:",
     );
-    call(image, opened, reserve(1), 0, b"reserve:")
+    let joined = to_area(name, 1, Operation::Reserve(3));
+    call(image, opened, joined, 0, b"reserve:")
+}
+
+fn open(image: &mut Disc, state: State) -> State {
+    open_named(image, state, pass())
 }
 
 // P5, size 8 and size 7 on the fresh unit, P6.
 fn sizes(image: &mut Disc) -> State {
-    fresh(image);
+    fresh(image, 1);
     show(image);
     let started = init(image);
     let full = call(image, started, create(8, 1), 0, b"size 8:");
@@ -154,12 +176,7 @@ fn users(image: &mut Disc, state: State) -> State {
 
 // Release by a sender.
 fn release(sender: u16) -> Message {
-    let name = pass();
-    Message::AreaMessage {
-        name: name,
-        sender: sender,
-        operation: Operation::Reserve(0),
-    }
+    to_area(pass(), sender, Operation::Reserve(0))
 }
 
 // P8: the area removed once it has no user.
@@ -187,12 +204,7 @@ fn closing(image: &mut Disc, state: State) -> State {
 
 // A file of no sectors.
 fn empty(image: &mut Disc, state: State, name: Name) -> State {
-    let message = Message::Create {
-        name: name,
-        size: 0,
-        attributes: 0,
-    };
-    call(image, state, message, 0, b"size 0:")
+    call(image, state, create_named(name, 0, 0), 0, b"size 0:")
 }
 
 // Files whose places are in another order than their names: two that differ in the third word only, one after SYS, one before MAP.
@@ -256,17 +268,12 @@ fn listing(image: &mut Disc, state: State) {
 }
 
 fn position(block: u16) -> Message {
-    let name = pass();
-    Message::AreaMessage {
-        name: name,
-        sender: 1,
-        operation: Operation::Position(block),
-    }
+    to_area(pass(), 1, Operation::Position(block))
 }
 
 // A file of two blocks with these attributes on a fresh unit, its blocks written by its user, who stands at block 0 again.
 fn two_blocks(image: &mut Disc, attributes: u16) -> State {
-    fresh(image);
+    fresh(image, 1);
     let started = init(image);
     let made = call(image, started, create(2, attributes), 0, b"size 2:");
     let user = open(image, made);
@@ -291,6 +298,87 @@ fn read_to_end(image: &mut Disc, state: State) {
     call(image, moved, transput(1, 0), 9, b"input by 1:");
 }
 
+// The line of the names.
+fn show_names(image: &Disc) {
+    io::write_all(1, b"names:");
+    number(image[2816]);
+    number(image[2817]);
+    number(image[3072]);
+    number(image[3073]);
+    number(image[3088]);
+    number(image[3089]);
+    io::write_all(1, b"\n");
+}
+
+// Look-up of a name over lent words of which the first is 9.
+fn look_up(image: &mut Disc, state: State, name: Name, text: &[u8]) -> State {
+    call(image, state, Message::LookUp { name: name }, 9, text)
+}
+
+// Both files entered; 'Pass' once more, and 'pass' looked up.
+fn both(image: &mut Disc) -> State {
+    fresh(image, 3);
+    let started = init(image);
+    let one = call(image, started, create(1, 1), 0, b"PASS, size 1:");
+    let two = call(image, one, create_named(mixed(), 1, 1), 0, b"Pass, size 1:");
+    let again = call(image, two, create_named(mixed(), 1, 1), 0, b"Pass, size 1:");
+    let unseen = look_up(image, again, small(), b"look-up pass:");
+    show_names(image);
+    unseen
+}
+
+// One block is written of 'PASS' and two of 'Pass', by area processes open at once.
+fn both_open(image: &mut Disc, state: State) -> State {
+    let one = open(image, state);
+    let two = open_named(image, one, mixed());
+    let area = Message::CreateArea { name: small() };
+    let none = call(image, two, area, 0, b"create area pass:");
+    let first = call(image, none, transput(3, 0), 0x0111, b"output to PASS:");
+    let message = transput_named(mixed(), 3, 0);
+    let second = call(image, first, message, 0x0222, b"output to Pass:");
+    let third = call(image, second, message, 0x0333, b"output to Pass:");
+    let read = call(image, third, transput(5, 0), 9, b"input from PASS:");
+    let again = transput_named(mixed(), 5, 0);
+    call(image, read, again, 9, b"input from Pass:")
+}
+
+// A Change of the name alone: attributes and length are kept. Its line.
+fn rename(image: &mut Disc, state: State, name: Name, to: Name, text: &[u8]) -> State {
+    let mut lent = [0u16; 16];
+    lent[0] = to.0;
+    lent[1] = to.1;
+    lent[2] = to.2;
+    lent[6] = 0xFFFF;
+    lent[9] = 0xFFFF;
+    let done = lent::drive(state, image, &mut lent, Message::Change { name: name });
+    let answer = done.answer;
+    io::write_all(1, text);
+    number(answer.result);
+    io::write_all(1, b"\n");
+    let next = done.state;
+    next
+}
+
+// The area process of 'Pass' loses its user and is removed.
+fn close_mixed(image: &mut Disc, state: State) -> State {
+    let leaves = to_area(mixed(), 1, Operation::Reserve(0));
+    let left = call(image, state, leaves, 0, b"release:");
+    let area = Message::RemoveArea { name: mixed() };
+    call(image, left, area, 0, b"remove area:")
+}
+
+// 'Pass' is not renamed while it has an area process; then it cannot become 'PASS', and becomes 'pass'.
+fn renamed(image: &mut Disc, state: State) {
+    let used = rename(image, state, mixed(), small(), b"Pass to pass:");
+    let shut = close_mixed(image, used);
+    let stays = rename(image, shut, mixed(), pass(), b"Pass to PASS:");
+    let moved = rename(image, stays, mixed(), small(), b"Pass to pass:");
+    show_names(image);
+    let gone = look_up(image, moved, mixed(), b"look-up Pass:");
+    let new = look_up(image, gone, small(), b"look-up pass:");
+    look_up(image, new, pass(), b"look-up PASS:");
+}
+
 fn main() {
     let mut image: Disc = [0; 5120];
     let made = sizes(&mut image);
@@ -302,4 +390,7 @@ fn main() {
     read_to_end(&mut image, fixed);
     let extendable = two_blocks(&mut image, 1);
     read_to_end(&mut image, extendable);
+    let entered = both(&mut image);
+    let written = both_open(&mut image, entered);
+    renamed(&mut image, written);
 }

@@ -2,14 +2,14 @@
 use mathlib.Core.Path.{refl}
 use Rattle.plain.specs.Unit.{entry}
 use Rattle.plain.specs.Questions.{asks, given, either}
-use Rattle.plain.specs.Catalog.{newFile}
+use Rattle.plain.specs.Catalog.{newFile, changeFile}
 use Rattle.plain.specs.Areas.{stepReserve, stepRelease, positioned}
 use Rattle.plain.specs.Transput.{endWord, input, append, output, stepTransput}
 use Rattle.plain.specs.Step.{userStep, operationStep}
 use Rattle.plain.specs.Paper.{Paper}
 
 pub paper : Paper
-unfolding entry asks given either newFile stepReserve stepRelease positioned endWord input append output stepTransput userStep operationStep
+unfolding entry asks given either newFile changeFile stepReserve stepRelease positioned endWord input append output stepTransput userStep operationStep
 paper = record {
   p1 = (refl, refl, refl, refl);
   p2 = (refl, refl);
@@ -25,4 +25,11 @@ paper = record {
   fourth = refl;
   fixedEnd = refl;
   extendableEnd = refl;
+  mixedKey = (refl, refl);
+  smallKey = (refl, refl);
+  besideAnswers = refl;
+  besideSlices = (refl, refl);
+  besideWords = (refl, refl);
+  renameAnswers = refl;
+  renamedWords = (refl, refl);
 }

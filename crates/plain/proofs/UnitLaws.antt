@@ -1,30 +1,28 @@
 -- Laws of a plain unit's parts: entries by name, the slices of all files, and the legal names.
 use mathlib.Core.Path.{_≡_, refl, sym, ap, _∙_}
-use mathlib.Core.Bool.{Bool, true, false, not, _&&_, _||_}
+use mathlib.Core.Bool.{Bool, true, false, not, _||_}
 use mathlib.Core.List.{List, [], _∷_, _++_}
 use mathlib.Core.Logic.{_≢_}
 use mathlib.Core.Option.{Option, none, some}
-use Prim.Native.Nat.{ℕ, zero, suc, _+_, _/_, _≤_, _<_, compare, Ordering}
+use Prim.Native.Nat.{ℕ, zero, suc, _+_, _≤_, _<_, compare, Ordering}
 use native.Mathlib.Omega.{arith}
-use lib.Dec.{T, leb, eqb, leb→le, eqb→eq, eqb-refl}
-use Rattle.disc.specs.Names.{SYS, MAP, isSystem, legalName, letter}
+use lib.Dec.{T, eqb, eqb→eq, eqb-refl}
+use Rattle.disc.specs.Names.{SYS, MAP, isSystem, legalName}
 use Rattle.disc.specs.Slices.{occurrences}
 use Rattle.disc.specs.Entries.{sysEntry, mapEntry}
 use Rattle.disc.proofs.Compare.{Tri, less, same, more, tri, same-or}
+use Rattle.disc.proofs.NameLaws.{legal-begins}
 use Rattle.disc.proofs.SliceLaws.{occurrences-append}
 use Rattle.plain.specs.Table.{Row, Table, findBy, tableFind, tablePut, tableMap, total, isSome, SortedFrom}
 use Rattle.plain.specs.Unit.{Plain, File, AreaUser, slicesOf, held, fileEntry, entries, entry}
 use Rattle.plain.specs.Good.{Good}
 use Rattle.plain.proofs.TableLaws.{some≢none, some-inj, find-put, find-put-other}
-use Rattle.plain.proofs.QuestionLaws.{and-left, not-some, is-some}
+use Rattle.plain.proofs.QuestionLaws.{not-some, is-some}
 
 -- ---- names
 
 pub legal-positive : (n : ℕ) → T (legalName n) → 0 < n
-legal-positive n t =
-    let c : ℕ = n / 0x10000000000 in
-    let first : T (letter c) = and-left (letter c) _ (and-left (letter c && _) _ t) in
-    omega (arith, leb→le 65 c (and-left (leb 65 c) (leb c 90) first))
+legal-positive n t = omega (arith, legal-begins n t .0)
 
 -- ---- entries
 

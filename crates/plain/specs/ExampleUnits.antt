@@ -31,7 +31,7 @@ dName = char 0x44
 abbrev pub zName : Name
 zName = char 0x5A
 
--- 'a', which counts as 'A', and '1' and '[', which are illegal.
+-- 'a', which is another name than 'A', and '1' and '[', which are illegal.
 abbrev pub smallA : Name
 smallA = char 0x61
 
@@ -49,6 +49,13 @@ sysName = record { 0 = 0x5359; 1 = 0x5300; 2 = 0 }
 
 abbrev pub mapName : Name
 mapName = record { 0 = 0x4D41; 1 = 0x5000; 2 = 0 }
+
+-- 'sys' and 'Map', which are ordinary names.
+abbrev pub smallSys : Name
+smallSys = record { 0 = 0x7379; 1 = 0x7300; 2 = 0 }
+
+abbrev pub mixedMap : Name
+mixedMap = record { 0 = 0x4D61; 1 = 0x7000; 2 = 0 }
 
 -- 'CAXZ', whose words have the sum of the crowd's names below.
 abbrev pub crowdName : Name
@@ -115,7 +122,7 @@ abbrev pub alternate : ℕ → ℕ → List ℕ
 alternate x zero = []
 alternate x (suc n) = x ∷ alternate (suc (suc x)) n
 
--- ---- units with s = 2, F = 10 and five slices, as on paper; H = 1 but for one
+-- ---- units with s = 2, F = 10 and five slices, as on paper; H = 1 but for two
 
 abbrev pub smallUnit : ℕ → ℕ → Table File → Table (Table AreaUser) → Plain
 smallUnit unit layers files areas = record {
@@ -157,6 +164,20 @@ heldUnit = record {
 -- 'A' has two blocks, A0h and A1h, in slices 2 and 3.
 abbrev pub twoBlocks : File
 twoBlocks = fileWith 1 (2 ∷ 3 ∷ []) (sectorOf 0xA0 ∷ sectorOf 0xA1 ∷ [])
+
+-- H = 3: SYS and MAP are of key 0, and sixteen files take all places of key 1. Slices 3, 4 and 5 are free.
+abbrev pub keyFull : Plain
+keyFull = record {
+  unit = 0;
+  H = 3;
+  s = 2;
+  F = 10;
+  N = 20;
+  layers = 1;
+  sys = 1 ∷ 2 ∷ [];
+  files = crowd 0x4141 0x5A5A 16;
+  areas = [];
+}
 
 -- Areas 'A', with one user, and 'B', with an exclusive user; 'C' is not open.
 abbrev pub openUnit : Plain

@@ -3,8 +3,8 @@
 use mathlib.Core.Path.{_≡_}
 use mathlib.Core.List.{List, [], _∷_, _++_}
 use mathlib.Core.Option.{Option, some}
-use Prim.Native.Nat.{ℕ}
-use lib.ListN.{take, replicate}
+use Prim.Native.Nat.{ℕ, _+_}
+use lib.ListN.{take, drop, replicate}
 use Rattle.types.specs.declared.Name.{Name}
 use Rattle.types.specs.declared.Role.the-variants.{Sharing, ExclusiveWriter}
 use Rattle.types.specs.declared.Operation.{Operation}
@@ -15,8 +15,8 @@ use Rattle.plain.specs.Table.{Table, tableFind}
 use Rattle.plain.specs.Unit.{Plain, File, AreaUser, freeSectors}
 use Rattle.plain.specs.Step.{after}
 use Rattle.plain.specs.Cases.{Case, gives, givesAt, givesCounts, callsOf, Shows, wordsAfter}
-use Rattle.plain.specs.Paper.{paperUnit, sectorOf, slicesIn}
-use Rattle.plain.specs.ExampleUnits.{aName, bName, cName, dName, zName, char, smallA, oneName, bracketName, elsewhere, sysName, mapName, crowdName, lentEntry, setEntry, keptName, keep, blank, userRow, smallUnit, nineFiles, fullLayer, twoLayers, heldUnit, openUnit, countedUnit, outputUnit, scattered, crowded, areaRow}
+use Rattle.plain.specs.Paper.{paperUnit, pass, mixedPass, smallPass, sectorOf, slicesIn}
+use Rattle.plain.specs.ExampleUnits.{aName, bName, cName, dName, zName, char, smallA, oneName, bracketName, elsewhere, sysName, mapName, smallSys, mixedMap, crowdName, lentEntry, setEntry, keptName, keep, blank, userRow, smallUnit, nineFiles, fullLayer, twoLayers, heldUnit, keyFull, openUnit, countedUnit, outputUnit, scattered, crowded, areaRow}
 
 -- The unit after the calls of some cases; a file of it, its slices, and the users of an area.
 abbrev pub afterCases : Plain → List Case → Plain
@@ -56,7 +56,8 @@ setCases =
     ∷ gives (Set sysName) (setEntry 1 2) 0x1010  -- 6
     ∷ gives (Set aName) (setEntry 1 8) 0x1100  -- 7: five slices of four
     ∷ gives (Set aName) (setEntry 0x4019 3) 0
-    ∷ gives (Set smallA) (setEntry 1 0) 0x1010  -- 6: 'a' is 'A'
+    ∷ gives (Set aName) (setEntry 1 0) 0x1010  -- 6
+    ∷ gives (Set smallA) (setEntry 1 0) 0  -- 'a' is another name
     ∷ gives (Set bName) (setEntry 4 0) 0
     ∷ gives (Set cName) (setEntry 0 4) 0x1100  -- 7: three slices of two
     ∷ []
@@ -72,9 +73,63 @@ createCases =
     ∷ gives (Create mapName 2 1) [] 0x1010  -- 6
     ∷ gives (Create aName 8 1) [] 0x1100  -- 7
     ∷ gives (Create aName 2 1) [] 0
-    ∷ gives (Create smallA 0 1) [] 0x1010  -- 6
+    ∷ gives (Create aName 0 1) [] 0x1010  -- 6
+    ∷ gives (Create smallA 0 1) [] 0  -- 'a' is another name
     ∷ gives (Create bName 0 4) [] 0
     ∷ gives (Create cName 4 0) [] 0x1100  -- 7
+    ∷ []
+
+-- The letters' and digits' ends and the characters next to them, as first and as second character of a name.
+abbrev pub characters : List ℕ
+characters = 0x30 ∷ 0x39 ∷ 0x41 ∷ 0x5A ∷ 0x61 ∷ 0x7A ∷ []
+
+abbrev pub nextCharacters : List ℕ
+nextCharacters = 0x2F ∷ 0x3A ∷ 0x40 ∷ 0x5B ∷ 0x60 ∷ 0x7B ∷ []
+
+abbrev pub afterA : ℕ → Name
+afterA c = record { 0 = 0x4100 + c; 1 = 0; 2 = 0 }
+
+abbrev pub createEach : (ℕ → Name) → List ℕ → ℕ → List Case
+createEach name [] result = []
+createEach name (c ∷ rest) result = gives (Create (name c) 0 0) [] result ∷ createEach name rest result
+
+abbrev pub characterCases : List Case
+characterCases =
+    createEach char nextCharacters 0x1200  -- 4: name
+    ++ (createEach afterA nextCharacters 0x1200  -- 4: name
+    ++ (createEach char (take 2 characters) 0x1200  -- 4: a digit
+    ++ (createEach char (drop 2 characters) 0
+    ++ createEach afterA characters 0)))
+
+-- 'sys' and 'Map' beside SYS and MAP.
+abbrev pub systemCases : List Case
+systemCases =
+    gives (Create smallSys 0 0) [] 0
+    ∷ gives (Set mixedMap) (setEntry 0 0) 0
+    ∷ gives (Create sysName 0 0) [] 0x1010  -- 6
+    ∷ gives (Set mapName) (setEntry 0 0) 0x1010  -- 6
+    ∷ gives (CreateArea smallSys) [] 0
+    ∷ gives (CreateArea sysName) [] 0x0A00  -- not SYS or MAP?
+    ∷ gives (RemoveArea smallSys) [] 0
+    ∷ gives (RemoveArea mapName) [] 0x0A00  -- not SYS or MAP?
+    ∷ gives (Change mixedMap) (lentEntry mapName keep keep) 0x1010  -- 6
+    ∷ gives (Change mapName) (lentEntry smallPass keep keep) 0x1200  -- 5: MAP
+    ∷ gives (Change mixedMap) (lentEntry smallPass keep keep) 0
+    ∷ gives (Remove sysName) [] 0x1200  -- 5: SYS
+    ∷ gives (Remove smallSys) [] 0
+    ∷ gives (Remove smallPass) [] 0
+    ∷ []
+
+-- Of 'Pass', 'PASS' and 'pass' the last alone is of key 1, for which SYS takes a slice more. A rename by case is a rename.
+abbrev pub keyedCases : List Case
+keyedCases =
+    gives (Create smallPass 5 1) [] 0x1100  -- 7: three slices and one of SYS, of three
+    ∷ gives (Create pass 5 1) [] 0
+    ∷ gives (Change pass) (lentEntry smallPass keep keep) 0x1100  -- 7: one of SYS, of none
+    ∷ gives (Change pass) (lentEntry mixedPass keep keep) 0
+    ∷ gives (Change mixedPass) (lentEntry mixedPass keep 3) 0  -- "equal is no change"
+    ∷ gives (Change mixedPass) (lentEntry smallPass 0x0011 keep) 0
+    ∷ gives (Change smallPass) (lentEntry pass keep keep) 0x1200  -- 5: permanent, name
     ∷ []
 
 -- SYS grows in its slice or takes one, and "for SYS and file together" counts both.
@@ -95,7 +150,8 @@ lookUpCases =
     ∷ gives (LookUp oneName) (blank 16) 0x5000  -- 3: an illegal name stands nowhere
     ∷ gives (LookUp bName) (blank 15) 0x5000  -- 3, before 4
     ∷ gives (LookUp aName) (blank 15) 0x1200  -- 4: lent record
-    ∷ gives (LookUp smallA) (blank 16) 0
+    ∷ gives (LookUp smallA) (blank 16) 0x5000  -- 3: 'a' is another name
+    ∷ gives (LookUp aName) (blank 16) 0
     ∷ gives (LookUp sysName) (blank 16) 0
     ∷ gives (LookUp mapName) (blank 16) 0
     ∷ []
@@ -169,7 +225,8 @@ removeCases =
     ∷ gives (CreateArea aName) [] 0
     ∷ gives (Remove aName) [] 0x1200  -- 5: area process
     ∷ gives (RemoveArea aName) [] 0
-    ∷ gives (Remove smallA) [] 0
+    ∷ gives (Remove smallA) [] 0x5000  -- 3: 'a' is another name
+    ∷ gives (Remove aName) [] 0
     ∷ gives (Remove aName) [] 0x5000  -- 3
     ∷ []
 
@@ -470,6 +527,11 @@ pub record Examples : Type 0 where
   pub create : Shows paperUnit createCases
   pub createWords : wordsAfter (afterCases paperUnit createCases) (LookUp bName) (blank 16)
       ≡ 0x4200 ∷ 0 ∷ 0 ∷ 0 ∷ 0 ∷ 0 ∷ 4 ∷ 0 ∷ 0 ∷ 0 ∷ noTail
+  pub character : Shows paperUnit characterCases
+  pub system : Shows paperUnit systemCases
+  pub keyed : Shows keyFull keyedCases
+  -- 'PASS' had slices 3, 4 and 5; SYS took slice 5 when 'Pass', shortened to two slices, became 'pass'
+  pub keyedSys : (afterCases keyFull keyedCases .sys ≡ 1 ∷ 2 ∷ 5 ∷ []) × (slicesIn (fileIn smallPass (afterCases keyFull keyedCases)) ≡ 3 ∷ 4 ∷ [])
   pub grow : Shows twoLayers growCases
   pub grownSys : (afterCases twoLayers growCases .sys ≡ 1 ∷ 2 ∷ []) × (afterCases twoLayers growCases .layers ≡ 3)
   pub grownFile : slicesIn (fileIn zName (afterCases twoLayers growCases)) ≡ 3 ∷ 4 ∷ 5 ∷ []

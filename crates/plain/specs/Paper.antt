@@ -1,4 +1,5 @@
--- Section 'Worked on paper': P1 to P8 and the cases not marked, as rows of one stated fact; and the end of a file, of document 02, R-4.
+-- Section 'Worked on paper': P1 to P8 and the cases not marked, as rows of one stated fact; and of document 02 the end of a file (R-4)
+-- and names that differ in small letters (R-8).
 use mathlib.Core.Path.{_≡_}
 use mathlib.Core.List.{List, [], _∷_, _++_}
 use mathlib.Core.Option.{Option, none, some}
@@ -7,7 +8,7 @@ use lib.ListN.{getD, replicate}
 use Rattle.types.specs.declared.Name.{Name}
 use Rattle.types.specs.declared.Operation.{Operation}
 use Rattle.types.specs.declared.Operation.the-variants.{Reserve, Position, Transput}
-use Rattle.types.specs.declared.Message.the-variants.{Create, LookUp, CreateArea, RemoveArea, AreaMessage}
+use Rattle.types.specs.declared.Message.the-variants.{Create, LookUp, Change, CreateArea, RemoveArea, AreaMessage}
 use Rattle.disc.specs.Numbers.{need}
 use Rattle.disc.specs.Names.{named, keyOf, SYS, MAP}
 use Rattle.disc.specs.Stretches.{indexWords}
@@ -28,6 +29,13 @@ pass = record { 0 = 0x5041; 1 = 0x5353; 2 = 0 }
 
 abbrev pub zzzzz : Name
 zzzzz = record { 0 = 0x5A5A; 1 = 0x5A5A; 2 = 0x5A00 }
+
+-- 'Pass' and 'pass'.
+abbrev pub mixedPass : Name
+mixedPass = record { 0 = 0x5061; 1 = 0x7373; 2 = 0 }
+
+abbrev pub smallPass : Name
+smallPass = record { 0 = 0x7061; 1 = 0x7373; 2 = 0 }
 
 -- "Sums to": a key before it is taken modulo H, which 65,536 leaves as it is.
 abbrev pub sumOf : ℕ → ℕ
@@ -98,6 +106,49 @@ endCalls attributes word =
     ∷ passInput 1 0 word 0 2
     ∷ []
 
+-- H = 3, s = 2, N = 20, F = 10, fresh: SYS has slices 1 and 2.
+abbrev pub threeKeys : Plain
+threeKeys = freshUnit 0 3 2 10 20
+
+-- The record for a Change of the name alone: attributes and length are kept.
+abbrev pub renameTo : Name → List ℕ
+renameTo name = name .0 ∷ name .1 ∷ name .2 ∷ replicate 3 0 ++ (0xFFFF ∷ 0 ∷ 0 ∷ 0xFFFF ∷ replicate 6 0)
+
+-- 'PASS' and 'Pass' beside each other, each with an area process of its own: user 9 writes one block of 'PASS' and two of 'Pass'.
+abbrev pub besideCalls : List Case
+besideCalls =
+    gives (Create pass 1 1) [] 0
+    ∷ gives (Create mixedPass 1 1) [] 0
+    ∷ gives (Create mixedPass 1 1) [] 0x1010  -- 6
+    ∷ gives (LookUp smallPass) (replicate 16 0xFFFF) 0x5000  -- 3
+    ∷ gives (CreateArea pass) [] 0
+    ∷ gives (CreateArea mixedPass) [] 0
+    ∷ gives (CreateArea smallPass) [] 0x4800  -- entered?
+    ∷ passArea 9 (Reserve 3) [] 0
+    ∷ gives (AreaMessage mixedPass 9 (Reserve 3)) [] 0
+    ∷ givesAt (AreaMessage pass 9 (Transput 3 512 0)) (sectorOf 1) 0 512 0
+    ∷ givesAt (AreaMessage mixedPass 9 (Transput 3 512 0)) (sectorOf 2) 0 512 0
+    ∷ givesAt (AreaMessage mixedPass 9 (Transput 3 512 0)) (sectorOf 3) 0 512 1
+    ∷ []
+
+-- The area of 'Pass' is removed, and 'Pass' becomes 'pass' while that of 'PASS' is open.
+abbrev pub renameCalls : List Case
+renameCalls =
+    besideCalls
+    ++ (gives (Change mixedPass) (renameTo smallPass) 0x1200  -- 5: area process
+    ∷ gives (AreaMessage mixedPass 9 (Reserve 0)) [] 0
+    ∷ gives (RemoveArea mixedPass) [] 0
+    ∷ gives (Change mixedPass) (renameTo pass) 0x1010  -- 6
+    ∷ gives (Change mixedPass) (renameTo smallPass) 0
+    ∷ gives (LookUp mixedPass) (replicate 16 0xFFFF) 0x5000  -- 3
+    ∷ gives (Change pass) (renameTo mixedPass) 0x1200  -- 5: area process
+    ∷ [])
+
+-- The entry of a name with attributes 0001h and these length, index sector and reserved sectors, over lent words 9.
+abbrev pub passEntry : ℕ → ℕ → ℕ → ℕ → ℕ → List ℕ
+passEntry first second size index reserved =
+    first ∷ second ∷ 0 ∷ 0 ∷ 0 ∷ 0 ∷ 1 ∷ size ∷ index ∷ reserved ∷ 0 ∷ 0 ∷ 0 ∷ 0 ∷ 0 ∷ 0 ∷ replicate 240 9
+
 -- The fresh unit after the calls of P6, P7 and P8.
 abbrev pub sixth : Plain
 sixth = after paperUnit (callsOf sixCalls)
@@ -107,6 +158,13 @@ seventh = after paperUnit (callsOf sevenCalls)
 
 abbrev pub eighth : Plain
 eighth = after paperUnit (callsOf eightCalls)
+
+-- The unit of three keys after the calls on 'PASS' and 'Pass', and after the rename.
+abbrev pub beside : Plain
+beside = after threeKeys (callsOf besideCalls)
+
+abbrev pub renamed : Plain
+renamed = after threeKeys (callsOf renameCalls)
 
 pub record Paper : Type 0 where
   -- "(P1) need with s = 2: 1 gives 1, 2 gives 2, 3 gives 2, 4 gives 3."
@@ -142,3 +200,16 @@ pub record Paper : Type 0 where
   pub fixedEnd : Shows paperUnit (endCalls 0 0x0A00)
   -- "An extendable file still gives 0810h there."
   pub extendableEnd : Shows paperUnit (endCalls 1 0x0810)
+  -- "Small letters .. enter the key as given": for H = 3 'Pass' has the key of 'PASS' and 'pass' another
+  pub mixedKey : (sumOf (named mixedPass) ≡ 0xC3D4) × (keyOf 3 (named mixedPass) ≡ 2)
+  pub smallKey : (sumOf (named smallPass) ≡ 0xE3D4) × (keyOf 3 (named smallPass) ≡ 1)
+  -- "'Pass' and 'PASS' as separate files": slice 3, and slices 4 and 5
+  pub besideAnswers : Shows threeKeys besideCalls
+  pub besideSlices : (passSlices beside ≡ 3 ∷ []) × (slicesIn (tableFind (named mixedPass) (beside .files)) ≡ 4 ∷ 5 ∷ [])
+  pub besideWords : (wordsAfter beside (AreaMessage pass 9 (Transput 5 512 0)) (sectorOf 9) ≡ sectorOf 1)
+      × (wordsAfter beside (AreaMessage mixedPass 9 (Transput 5 512 0)) (sectorOf 9) ≡ sectorOf 2)
+  -- "Names are equal only when all five characters are": 'Pass' cannot become 'PASS', and can become 'pass'
+  pub renameAnswers : Shows threeKeys renameCalls
+  -- "stored as given": name, attributes 0001h, length, index sector and reserved sectors; of 'PASS' as booked
+  pub renamedWords : (wordsAfter renamed (LookUp smallPass) (sectorOf 9) ≡ passEntry 0x7061 0x7373 2 16 4)
+      × (wordsAfter renamed (LookUp pass) (sectorOf 9) ≡ passEntry 0x5041 0x5353 1 14 2)

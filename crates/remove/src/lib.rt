@@ -28,7 +28,7 @@ pub fn remove(image: &mut [u16], o: Opened, state: State, name: Name) -> u16
     requires { ⌜ Meant (now image) state o (unitIn name) ⌝ }
     ensures { λ r. ⌜ Removes (now (image .entry)) o state name (now (image .exit)) r ⌝ }
 {
-    let n = names::fold(name);
+    let n = names::stored(name);
     let Found::At(place) = unit::find_name(image, o, n) else {
         return 0x5000;
     };

@@ -25,8 +25,7 @@ pub record SoundKit (image : List ℕ) (H s F N : ℕ) : Type 0 where
   pub limits : Limits H s F N
   pub mapIndex : Holds image mapIndexSector (1 ∷ 1 ∷ 9 ∷ [])
 
--- The names: "Every used entry has a legal name in capitals, alone of that name, in a sector of its key"; SYS and MAP are
--- entered.
+-- The names: "Every used entry has a legal name .., alone of that name, in a sector of its key"; SYS and MAP are entered.
 pub record SoundNames (H s L : ℕ) (sys : List ℕ) (P : ℕ → ℕ → ℕ) (count : ℕ) : Type 0 where
   pub sysEntered : Entered P count (sysEntry H s L sys)
   pub mapEntered : Entered P count mapEntry

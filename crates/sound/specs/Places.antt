@@ -26,8 +26,7 @@ pub record Entered (P : ℕ → ℕ → ℕ) (count : ℕ) (entry : List ℕ) : 
   pub inside : place < count
   pub holds : (w : ℕ) → w < 16 → P place w ≡ getD entry w 0
 
--- "Every used entry has a legal name in capitals, .. in a sector of its key": "key k lives in sectors k, k + H, k + 2H
--- and so on".
+-- "Every used entry has a legal name .. in a sector of its key": "key k lives in sectors k, k + H, k + 2H and so on".
 pub record LegalPlace (P : ℕ → ℕ → ℕ) (H t : ℕ) : Type 0 where
   pub name : T (legalName (nameAt P t))
   pub key : t / 16 % H ≡ keyOf H (nameAt P t)

@@ -56,9 +56,9 @@ pub record SoundAreas (state : State) (P : ℕ → ℕ → ℕ) (count : ℕ) : 
   pub ordinary : (j : ℕ) → j < 8 → IsOpen state j → T (isSystem (areaName (areaAt state j))) → ⊥
   pub users : (j : ℕ) → j < 8 → IsOpen state j → LegalUsers (areaAt state j)
 
--- The entries: "Every used entry has a legal name in capitals, alone of that name, in a sector of its key. Every other file
--- has legal attributes, length at most 32,767, at least need(length) slices, an index as above"; "Where an area process is
--- open, index sector and length are the process's".
+-- The entries: "Every used entry has a legal name .., alone of that name, in a sector of its key" (no longer "in capitals":
+-- document 02, R-8). "Every other file has legal attributes, length at most 32,767, at least need(length) slices, an index as
+-- above"; "Where an area process is open, index sector and length are the process's".
 pub record SoundEntries (image : List ℕ) (state : State) (H s F : ℕ) (P : ℕ → ℕ → ℕ) (count : ℕ) : Type 0 where
   pub legal : (t : ℕ) → t < count → Used P t → LegalPlace P H t
   pub alone : (t u : ℕ) → t < count → u < count → Used P t → Used P u → nameAt P t ≡ nameAt P u → t ≡ u

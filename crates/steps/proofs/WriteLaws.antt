@@ -1,17 +1,17 @@
 -- Laws of the writes that the messages share: what each stores, what it leaves, and that words stay words.
 use mathlib.Core.Path.{_≡_, refl, sym, ap, _∙_}
-use mathlib.Core.Bool.{Bool, true, false, not, _&&_}
+use mathlib.Core.Bool.{Bool, true, false, not}
 use mathlib.Core.List.{List, [], _∷_, _++_, append-nil}
 use mathlib.Core.Logic.{_≢_, ⊎-elim}
 use mathlib.Core.Option.{Option, some}
 use Prim.Native.Nat.{ℕ, zero, suc, _+_, _*_, _/_, _%_, _≤_, _<_}
 use native.Mathlib.Omega.{arith}
 use native.Mathlib.Nat.{mul-le-mul-left}
-use lib.Dec.{T, leb, eqb, leb→le, eqb→eq}
+use lib.Dec.{T, eqb, eqb→eq}
 use lib.ListN.{length, replicate}
 use Rattle.disc.specs.Numbers.{bit}
 use Rattle.disc.specs.Words.{word, Words, Holds}
-use Rattle.disc.specs.Names.{SYS, letter, legalName, isSystem, keyOf}
+use Rattle.disc.specs.Names.{SYS, legalName, isSystem, keyOf}
 use Rattle.disc.specs.Attributes.{wordIf, legalAttributes}
 use Rattle.disc.specs.Slices.{occurrences, oneIfNone, freeCount}
 use Rattle.disc.specs.Stretches.{sectorIn, indexWords, stretchCount, sysFrom}
@@ -19,6 +19,7 @@ use Rattle.disc.specs.Kit.{kitSector}
 use Rattle.disc.specs.Map.{onesInMap, MapOf}
 use Rattle.disc.specs.Entries.{entryWords, indexSector, sysEntry, placeWord, placeCount, nameAt}
 use Rattle.disc.proofs.Compare.{same-or, below-or}
+use Rattle.disc.proofs.NameLaws.{legal-begins}
 use Rattle.disc.proofs.WordLaws.{words-none, words-cons, words-append, words-replicate}
 use Rattle.disc.proofs.SliceLaws.{inUnit-mono, sum-law}
 use Rattle.disc.proofs.Geometry.{in-range, need-cover}
@@ -33,7 +34,7 @@ use Rattle.index.proofs.BlockLaws.{length-wholeIndex, words-wholeIndex, holds-s
 use Rattle.plain.specs.Table.{Table, tableFind}
 use Rattle.plain.specs.Unit.{Plain, File, AreaUser, M, held, freeSectors, fileEntry, entry, withTables}
 use Rattle.plain.specs.Good.{Good}
-use Rattle.plain.proofs.QuestionLaws.{and-left, and-right}
+use Rattle.plain.proofs.QuestionLaws.{and-left}
 use Rattle.plain.proofs.UnitLaws.{mapSome, entry-sys, entry-map, entry-other, not-system, system-cases}
 use Rattle.sound.specs.Places.{Unused}
 use Rattle.refine.specs.Represents.{PlaceOf, CatalogOf, Layout}
@@ -185,10 +186,7 @@ module _ (p : Plain) (g : Ground p) where
 -- ---- the words of an entry
 
 legal-small : (n : ℕ) → T (legalName n) → n < 0x1000000000000
-legal-small n t =
-    let c : ℕ = n / 0x10000000000 in
-    let first : T (letter c) = and-left (letter c) _ (and-left (letter c && _) _ t) in
-    omega (arith, leb→le c 90 (and-right (leb 65 c) (leb c 90) first))
+legal-small n t = omega (arith, legal-begins n t .1)
 
 attributes-small : (a : ℕ) → T (legalAttributes a) → a < 65536
 attributes-small a t =

@@ -55,7 +55,7 @@ pub fn sys_catalog(o: Opened) -> Catalog
     }
 }
 
-// The place of a name, which is in capitals. Unused places have the name 0, and no entry has it.
+// The place of a name as it is stored. Unused places have the name 0, and no entry has it.
 pub fn find_name(image: &[u16], o: Opened, name: Name) -> Found
     requires { ⌜ Searchable (now image) o ⌝ }
     ensures { λ r. ⌜ FindsName (now (image .entry)) o (pack (name .0) (name .1) (name .2)) r ⌝ }
@@ -86,7 +86,7 @@ pub fn file_block(image: &[u16], index: Sector) -> IndexBlock
     index::read_block(image, index)
 }
 
-// Whether a name, which is in capitals, has an area process.
+// Whether a name, as it is stored, has an area process.
 pub fn is_open(state: State, name: Name) -> bool
     ensures { λ r. ⌜ r ≡ nameOpen (pack (name .0) (name .1) (name .2)) state ⌝ }
 {
@@ -102,7 +102,7 @@ pub fn look_up(image: &[u16], o: Opened, name: Name, lent: &mut [u16]) -> u16
     requires { ⌜ MeantOn (now image) o (unitIn name) ⌝ }
     ensures { λ r. ⌜ LooksUp (now (image .entry)) o name (now (lent .entry)) r (now (lent .exit)) ⌝ }
 {
-    let Found::At(place) = find_name(image, o, names::fold(name)) else {
+    let Found::At(place) = find_name(image, o, names::stored(name)) else {
         return 0x5000;
     };
     if lent.len() < 16 {

@@ -176,10 +176,10 @@ impl Pair {
     }
 }
 
-/// A name that is not entered and for which SYS need not grow.
+/// A name that is not entered and for which SYS need not grow, in capitals as the others are.
 fn new_name(random: &mut Random, unit: &Unit<Vec<u16>>) -> NameWords {
     loop {
-        let name = Name::from_words(generate::name(random));
+        let name = Name::from_words(generate::name_in_capitals(random));
         let mut copy = unit.clone();
         let before = copy.look_up(Name::SYS);
         let created = copy.create(name, 1, ruzkemp::Attributes::EXTENDABLE);

@@ -3,6 +3,7 @@
 use reference::generate::Unit;
 use reference::Answer;
 
+use crate::cases::Cases;
 use crate::{compare, Difference, Second, Seen, Side, Step};
 
 /// A unit as the proved library and as the second implementation have it.
@@ -10,6 +11,7 @@ pub struct Both<P> {
     proved: P,
     second: Second,
     sound: bool,
+    cases: Cases,
 }
 
 impl<P: Side> Both<P> {
@@ -19,7 +21,13 @@ impl<P: Side> Both<P> {
             proved,
             second: Second::default(),
             sound: false,
+            cases: Cases::default(),
         }
+    }
+
+    /// The names that differ in case only, as they came up so far.
+    pub fn cases(&self) -> &Cases {
+        &self.cases
     }
 
     /// The second implementation.
@@ -36,6 +44,9 @@ impl<P: Side> Both<P> {
 
     /// Puts a step to both sides and compares them.
     pub fn put(&mut self, step: &Step) -> Result<(Answer, Vec<u16>), Difference> {
+        if self.sound {
+            self.cases.add(step, self.second.current());
+        }
         let (proved_answer, proved_lent) = self.proved.put(step);
         let (answer, lent) = self.second.put(step);
         let proved = Seen::of(&self.proved, proved_answer, &proved_lent);

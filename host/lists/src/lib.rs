@@ -3,11 +3,15 @@
 //! * [`random`] makes units and lists from a seed; [`Both`] puts each call to both sides and
 //!   compares answer, lent words, image, every word of the state and soundness after it.
 //! * [`stored`] replays lists that stand in files, with the answers that they shall have.
+//! * [`images`] has images of before a request, which are to be read as they were then.
+//! * [`cases`] counts how often calls met names that differ in case only.
 
 #![warn(missing_docs)]
 
 mod both;
+pub mod cases;
 mod compare;
+pub mod images;
 mod proved;
 pub mod random;
 mod side;

@@ -8,6 +8,7 @@ use reference::pairs::Counts;
 use reference::random::Random;
 use reference::{soundness, Answer, Message};
 
+use crate::cases::Cases;
 use crate::text::{outcome_text, step_text};
 use crate::{Both, Difference, Side, Step};
 
@@ -110,6 +111,11 @@ impl<P: Side> Lists<P> {
     /// What came up so far.
     pub fn counts(&self) -> &Counts {
         &self.both.second().counts
+    }
+
+    /// The names that differ in case only, as they came up so far.
+    pub fn cases(&self) -> &Cases {
+        self.both.cases()
     }
 
     /// Runs the lists from number 0 on until so many calls were put; the number of lists.

@@ -87,7 +87,7 @@ fn lent_text(what: &str, words: &[u16]) -> String {
 }
 
 /// Words, with a number before a word that is repeated, if that takes few parts.
-fn words_text(words: &[u16]) -> Option<String> {
+pub(crate) fn words_text(words: &[u16]) -> Option<String> {
     let mut parts = Vec::new();
     for run in words.chunk_by(|one, next| one == next) {
         let word = match run[0] {
@@ -103,7 +103,7 @@ fn words_text(words: &[u16]) -> Option<String> {
 }
 
 /// A digest of words: FNV-1a of 64 bits, folded.
-fn digest_text(words: &[u16]) -> String {
+pub(crate) fn digest_text(words: &[u16]) -> String {
     let bytes = words.iter().flat_map(|word| word.to_be_bytes());
     let mix = |digest: u64, byte: u8| (digest ^ u64::from(byte)).wrapping_mul(0x0100_0000_01B3);
     let digest = bytes.fold(0xCBF2_9CE4_8422_2325, mix);
@@ -231,7 +231,7 @@ fn parse_operation(operation: &str, numbers: &[&str]) -> Result<Operation, Strin
 }
 
 /// A decimal number, or one of base 16 with an h behind it.
-fn number(text: &str) -> Result<u16, String> {
+pub(crate) fn number(text: &str) -> Result<u16, String> {
     let parsed = match text.strip_suffix('h') {
         Some(digits) => u16::from_str_radix(digits, 16),
         None => text.parse(),
@@ -239,7 +239,7 @@ fn number(text: &str) -> Result<u16, String> {
     parsed.map_err(|_| format!("{text} is no word"))
 }
 
-fn parse_words(tokens: &[&str]) -> Result<Vec<u16>, String> {
+pub(crate) fn parse_words(tokens: &[&str]) -> Result<Vec<u16>, String> {
     let mut words = Vec::new();
     for token in tokens {
         let (times, word) = token.split_once('*').unwrap_or(("1", token));

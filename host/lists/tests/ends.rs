@@ -1,41 +1,31 @@
 //! A side that has a wrong word at the end of a file is found, by the random lists and by the
 //! stored list of such ends.
 
-use lists::random::Lists;
-use lists::state::StateWords;
-use lists::stored::first_difference;
+mod common;
+
+use common::{found, is_right, Otherwise};
 use lists::{Second, Side};
 use reference::generate::Unit;
 use reference::pairs::call_name;
-use reference::raw::{message_of, MessageWords};
 use reference::Question::{InputBelowExtendableEnd, InputBelowFixedEnd, PositionNotPast};
 use reference::{explain, perform, Answer, Message, Question};
 
 /// The word of a question that was answered no, by whether the file is extendable.
 type Words = fn(Question, bool) -> u16;
 
-/// The second implementation with other words for one call.
-struct Otherwise {
-    second: Second,
+/// Other words for one call.
+struct OtherWords {
     call: &'static str,
     words: Words,
 }
 
-impl Otherwise {
-    fn new(call: &'static str, words: Words) -> Otherwise {
-        Otherwise {
-            second: Second::default(),
-            call,
-            words,
-        }
-    }
-
-    /// The word that this side has for a message of its call which is refused; none for others.
-    fn word(&self, message: &Message, lent: &[u16]) -> Option<u16> {
+impl OtherWords {
+    /// The word for a message of the call which is refused; none for others.
+    fn word(&self, unit: &Unit, message: &Message, lent: &[u16]) -> Option<u16> {
         let Message::AreaMessage { name, .. } = *message else {
             return None;
         };
-        let Unit { image, state } = &mut self.second.current().clone();
+        let Unit { image, state } = &mut unit.clone();
         let mut entry = [0; 16];
         perform(image, state, &Message::LookUp { name }, &mut entry);
         let (_, question) = explain(image, state, message, &mut lent.to_vec());
@@ -45,41 +35,14 @@ impl Otherwise {
     }
 }
 
-impl Side for Otherwise {
-    fn set(&mut self, unit: &Unit) {
-        self.second.set(unit);
-    }
-
-    fn format(&mut self, bytes: u16, record: &[u16]) -> u16 {
-        self.second.format(bytes, record)
-    }
-
-    fn perform(&mut self, message: &Message, lent: &mut [u16]) -> Answer {
-        let word = self.word(message, lent);
-        let answer = self.second.perform(message, lent);
+impl Otherwise for OtherWords {
+    fn put(&self, second: &mut Second, message: &Message, lent: &mut [u16]) -> Answer {
+        let word = self.word(second.current(), message, lent);
+        let answer = second.perform(message, lent);
         Answer {
             result: word.unwrap_or(answer.result),
             ..answer
         }
-    }
-
-    fn perform_raw(&mut self, message: &MessageWords, lent: &mut [u16]) -> Answer {
-        match message_of(message) {
-            Ok(message) => self.perform(&message, lent),
-            Err(_) => self.second.perform_raw(message, lent),
-        }
-    }
-
-    fn is_sound(&self) -> bool {
-        self.second.is_sound()
-    }
-
-    fn image(&self) -> &[u16] {
-        self.second.image()
-    }
-
-    fn state(&self) -> StateWords {
-        self.second.state()
     }
 }
 
@@ -106,11 +69,9 @@ fn is_shown(failure: &str, (wrong, right): Difference) -> bool {
 
 /// Says that the random lists and the stored list find the words wrong, by one of the differences.
 fn is_found(call: &'static str, words: Words, differences: &[Difference]) {
-    let mut lists = Lists::new(Otherwise::new(call, words), 7);
-    let failure = lists.run(100_000).expect_err(call).to_string();
-    let told = differences.iter().any(|pair| is_told(&failure, *pair));
-    assert!(told, "{call}: {failure}");
-    let stored = first_difference(ENDS, &mut Otherwise::new(call, words)).expect_err(call);
+    let [random, stored] = found(call, || OtherWords { call, words }, ENDS);
+    let told = differences.iter().any(|pair| is_told(&random, *pair));
+    assert!(told, "{call}: {random}");
     let shown = differences.iter().any(|pair| is_shown(&stored, *pair));
     assert!(shown, "{call}: {stored}");
 }
@@ -118,9 +79,8 @@ fn is_found(call: &'static str, words: Words, differences: &[Difference]) {
 #[test]
 fn the_right_words_are_no_difference() {
     for call in ["Transput 1", "Transput 5", "Transput 7", "Position"] {
-        let side = || Otherwise::new(call, |question, _| question.word());
-        assert!(Lists::new(side(), 7).run(5_000).is_ok());
-        assert_eq!(first_difference(ENDS, &mut side()), Ok(()));
+        let words: Words = |question, _| question.word();
+        is_right(|| OtherWords { call, words }, ENDS);
     }
 }
 

@@ -1,102 +1,42 @@
 //! Wrong outcomes are reported: each test gives the comparison one wrong word.
 
+mod common;
+
+use common::{Otherwise, Put, Shown, Wrong};
 use lists::random::Lists;
-use lists::state::{state_of, words_of, StateWords};
+use lists::state::{state_of, words_of};
 use lists::stored::{filled, first_difference};
-use lists::{compare, Both, Difference, Second, Seen, Side, Step};
+use lists::{compare, Both, Difference, Second, Seen, Step};
 use reference::generate::{Call, RawCall, Unit};
-use reference::raw::MessageWords;
 use reference::{Answer, Message, State};
 
 /// Changes what the second implementation shows after a call.
 type Fault = fn(&mut Answer, &mut [u16], &mut Shown);
 
-/// Image, words of the state and verdict.
-struct Shown {
-    image: Vec<u16>,
-    state: StateWords,
-    sound: bool,
-}
-
-impl Shown {
-    fn of(second: &Second) -> Shown {
-        Shown {
-            image: second.image().to_vec(),
-            state: second.state(),
-            sound: second.is_sound(),
-        }
-    }
-}
-
-/// The second implementation with a fault that shows from some call on.
-struct Faulty {
-    second: Second,
-    shown: Shown,
+/// A fault that shows from some call on.
+struct Late {
     calls_before: u64,
     fault: Fault,
 }
 
-impl Faulty {
-    fn new(calls_before: u64, fault: Fault) -> Faulty {
-        let second = Second::default();
-        Faulty {
-            shown: Shown::of(&second),
-            second,
-            calls_before,
-            fault,
-        }
-    }
-
-    fn show(&mut self, answer: &mut Answer, lent: &mut [u16]) {
-        self.shown = Shown::of(&self.second);
-        if self.second.counts.calls > self.calls_before {
-            (self.fault)(answer, lent, &mut self.shown);
+impl Otherwise for Late {
+    fn show(&self, put: &Put, answer: &mut Answer, lent: &mut [u16], shown: &mut Shown) {
+        if put.calls > self.calls_before {
+            (self.fault)(answer, lent, shown);
         }
     }
 }
 
-impl Side for Faulty {
-    fn set(&mut self, unit: &Unit) {
-        self.second.set(unit);
-    }
-
-    fn format(&mut self, bytes: u16, record: &[u16]) -> u16 {
-        let mut answer = Answer {
-            result: self.second.format(bytes, record),
-            ..Answer::default()
-        };
-        self.show(&mut answer, &mut []);
-        answer.result
-    }
-
-    fn perform(&mut self, message: &Message, lent: &mut [u16]) -> Answer {
-        let mut answer = self.second.perform(message, lent);
-        self.show(&mut answer, lent);
-        answer
-    }
-
-    fn perform_raw(&mut self, message: &MessageWords, lent: &mut [u16]) -> Answer {
-        let mut answer = self.second.perform_raw(message, lent);
-        self.show(&mut answer, lent);
-        answer
-    }
-
-    fn is_sound(&self) -> bool {
-        self.shown.sound
-    }
-
-    fn image(&self) -> &[u16] {
-        &self.shown.image
-    }
-
-    fn state(&self) -> StateWords {
-        self.shown.state
-    }
+fn faulty(calls_before: u64, fault: Fault) -> Wrong<Late> {
+    Wrong::new(Late {
+        calls_before,
+        fault,
+    })
 }
 
 /// A listing of a fresh unit, put to the faulty side and to the second implementation.
 fn listing(fault: Fault) -> Result<(), Difference> {
-    let mut both = Both::new(Faulty::new(2, fault));
+    let mut both = Both::new(faulty(2, fault));
     both.set(&Unit {
         image: vec![0; 256 * 20],
         state: State::new(0),
@@ -135,7 +75,7 @@ fn one_wrong_word_is_reported() {
 
 /// A number that no call has, put to a unit whose state has other words for yes.
 fn no_call(fault: Fault) -> Result<(), Difference> {
-    let mut both = Both::new(Faulty::new(0, fault));
+    let mut both = Both::new(faulty(0, fault));
     let mut state = State::new(0);
     state.initialized = true;
     both.set(&Unit {
@@ -195,7 +135,7 @@ fn random_lists_find_two_entries_exchanged() {
             lent[end - 32..end].rotate_left(16);
         }
     };
-    let mut lists = Lists::new(Faulty::new(0, fault), 6);
+    let mut lists = Lists::new(faulty(0, fault), 6);
     let failure = lists.run(100_000).expect_err("a difference").to_string();
     for part in ["the call: listing ", "lent word "] {
         assert!(failure.contains(part), "{failure}");
@@ -231,7 +171,7 @@ fn random_lists_find_a_fault_and_say_where() {
             shown.image[256 * 9] ^= 1;
         }
     };
-    let mut lists = Lists::new(Faulty::new(0, fault), 5);
+    let mut lists = Lists::new(faulty(0, fault), 5);
     let failure = lists.run(100_000).expect_err("a difference").to_string();
     for part in [
         "seed 5, list ",
@@ -244,7 +184,7 @@ fn random_lists_find_a_fault_and_say_where() {
     // The list alone shows it again.
     let list: u64 = failure.split("--list ").nth(1).unwrap().parse().unwrap();
     assert_ne!(list, 0, "{failure}");
-    let again = Lists::new(Faulty::new(0, fault), 5).run_list(list);
+    let again = Lists::new(faulty(0, fault), 5).run_list(list);
     assert_eq!(again.expect_err("a difference").to_string(), failure);
 }
 

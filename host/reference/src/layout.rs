@@ -164,9 +164,10 @@ pub fn need(length: usize, s: usize) -> usize {
     }
 }
 
-/// The name in capitals with the sixth character 0, if its five characters are legal.
+/// The name with the sixth character 0, if its five characters are legal: a letter, then letters or
+/// digits, then zeros. Letters are as given, capital or small (02, R-8).
 pub fn legal(name: Name) -> Option<Name> {
-    let mut characters = [
+    let characters = [
         (name[0] >> 8) as u8,
         name[0] as u8,
         (name[1] >> 8) as u8,
@@ -177,19 +178,14 @@ pub fn legal(name: Name) -> Option<Name> {
         return None;
     }
     let mut ended = false;
-    for character in characters.iter_mut() {
-        if *character == 0 {
+    for character in characters {
+        if character == 0 {
             ended = true;
         } else if ended || !character.is_ascii_alphanumeric() {
             return None;
         }
-        *character = character.to_ascii_uppercase();
     }
-    Some([
-        u16::from_be_bytes([characters[0], characters[1]]),
-        u16::from_be_bytes([characters[2], characters[3]]),
-        u16::from_be_bytes([characters[4], 0]),
-    ])
+    Some([name[0], name[1], name[2] & 0xFF00])
 }
 
 /// The sum of a name's words, carry dropped.
@@ -197,7 +193,7 @@ pub fn sum(name: Name) -> u16 {
     name[0].wrapping_add(name[1]).wrapping_add(name[2])
 }
 
-/// The key of a name.
+/// The key of a name, which its letters enter as given.
 pub fn key(name: Name, h: usize) -> usize {
     sum(name) as usize % h
 }

@@ -49,7 +49,7 @@ pub enum Unsound {
     MapIndex(usize),
     /// A word of SYS's or MAP's entry is not what it has to be.
     CatalogWord(Name, usize),
-    /// A used entry's name is not legal, or not in capitals, or its sixth character is not 0.
+    /// A used entry's name is not legal, or its sixth character is not 0.
     EntryName(Name),
     /// A name stands in two entries.
     EntryTwice(Name),
@@ -142,7 +142,7 @@ pub(crate) struct Survey {
 }
 
 impl Survey {
-    /// The entry of a name in capitals.
+    /// The entry of a legal name, sixth character 0.
     pub fn find(&self, name: Name) -> Option<&Entry> {
         self.entries.iter().find(|entry| entry.name() == name)
     }
@@ -334,7 +334,7 @@ fn check_catalog(image: &[u16], kit: &Kit, sys: &[usize]) -> Result<usize, Unsou
     Ok(layers)
 }
 
-/// The used entries: each has a legal name in capitals, in a sector of its key.
+/// The used entries: each has a legal name, in a sector of its key.
 fn used_entries(
     image: &[u16],
     kit: &Kit,

@@ -12,11 +12,7 @@ pub fn is_sound(image: &[u16], state: &State) -> bool {
         return false;
     };
     let mut owned = vec![false; kit.slices() + 1];
-    let mut sys = Vec::new();
-    if !read_index(image, &kit, SYS_INDEX, &mut sys, &mut owned) || sys[0] != 1 {
-        return false;
-    }
-    let Some(length) = sys_length(image, &kit, &sys) else {
+    let Some((sys, length)) = read_sys(image, &kit, &mut owned) else {
         return false;
     };
     let sys_entry = system_entry(SYS, length, SYS_INDEX, kit.s * sys.len());
@@ -55,6 +51,30 @@ pub fn is_sound(image: &[u16], state: &State) -> bool {
         && image[MAP_INDEX * SECTOR..][..3] == [1, 1, MAP_SECTOR as u16]
         && (1..=kit.slices()).all(|slice| marked_free(image, slice) != owned[slice])
         && sound_areas(state, &names)
+}
+
+/// The names in the used places of SYS, place by place; none where kit, index or length of SYS are
+/// not sound.
+pub fn entered(image: &[u16]) -> Vec<Name> {
+    let Some(kit) = sound_kit(image) else {
+        return Vec::new();
+    };
+    let mut owned = vec![false; kit.slices() + 1];
+    let (sys, length) = read_sys(image, &kit, &mut owned).unwrap_or_default();
+    let sectors = (0..length).map(|block| kit.sys_sector(&sys, block) * SECTOR);
+    let entries = sectors.flat_map(|from| image[from..from + SECTOR].chunks_exact(ENTRY));
+    let used = entries.filter(|entry| entry.iter().any(|&word| word != 0));
+    used.map(|entry| [entry[0], entry[1], entry[2]]).collect()
+}
+
+/// SYS's slices, which are taken, and its length.
+fn read_sys(image: &[u16], kit: &Kit, owned: &mut [bool]) -> Option<(Vec<usize>, usize)> {
+    let mut sys = Vec::new();
+    if !read_index(image, kit, SYS_INDEX, &mut sys, owned) || sys[0] != 1 {
+        return None;
+    }
+    let length = sys_length(image, kit, &sys)?;
+    Some((sys, length))
 }
 
 /// The kit, if image length, limits, free sectors and the map past M are as they have to be.

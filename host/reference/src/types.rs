@@ -2,6 +2,7 @@
 
 /// A name of five characters in three words, the high half of a word first.
 /// In a message the sixth character is the unit number, in the state it is 0.
+/// Names are equal only when all five characters are (02, R-8).
 pub type Name = [u16; 3];
 
 /// What a user of an area process may do; a role only rises.
@@ -49,7 +50,7 @@ impl User {
 pub struct Area {
     /// Whether the descriptor is in use.
     pub live: bool,
-    /// The file's name in capitals, sixth character 0.
+    /// The file's name, sixth character 0.
     pub name: Name,
     /// The live index sector, 0 while the file has no slice.
     pub index: u16,
@@ -182,6 +183,25 @@ pub enum Message {
         /// The unit listed.
         unit: u16,
     },
+}
+
+impl Message {
+    /// The name and unit of the file or area process that the call is about, if it names one.
+    pub fn name_mut(&mut self) -> Option<&mut Name> {
+        match self {
+            Message::Set { name }
+            | Message::Create { name, .. }
+            | Message::LookUp { name }
+            | Message::Change { name }
+            | Message::Remove { name }
+            | Message::CreateArea { name }
+            | Message::RemoveArea { name }
+            | Message::AreaMessage { name, .. } => Some(name),
+            Message::Init { .. } | Message::UnitDescription { .. } | Message::Listing { .. } => {
+                None
+            }
+        }
+    }
 }
 
 /// What a call answers.

@@ -142,10 +142,8 @@ impl<'a> Rules<'a> {
             let rest = characters[text.len()..].iter().all(|&c| c == 0);
             let total: usize = words[..3].iter().map(|&word| word as usize).sum();
             rest && (1..=5).contains(&text.len())
-                && text[0].is_ascii_uppercase()
-                && text
-                    .iter()
-                    .all(|c| c.is_ascii_uppercase() || c.is_ascii_digit())
+                && text[0].is_ascii_alphabetic()
+                && text.iter().all(|c| c.is_ascii_alphanumeric())
                 && (total & 0xFFFF) % self.h == block % self.h
         });
         if !seated {

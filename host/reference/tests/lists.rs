@@ -118,7 +118,7 @@ fn numbers_of_no_call(random: &mut Random, tally: &mut Tally) {
 }
 
 /// What accepted calls must have done at least once.
-const EVENTS: [&str; 27] = [
+const EVENTS: [&str; 30] = [
     "Change: SYS takes, file gives back",
     "Change: SYS takes, file takes",
     "Change: longer, gives back",
@@ -126,12 +126,15 @@ const EVENTS: [&str; 27] = [
     "Change: longer, takes",
     "Change: of a permanent file",
     "Change: renamed, SYS grows",
+    "Change: renamed, in case only",
     "Change: renamed, other key",
     "Change: renamed, same key",
     "Change: same length",
     "Change: shorter, gives back",
     "Change: shorter, no slice",
     "Change: to nothing",
+    "Create area: beside one in another case",
+    "Create: beside a name in another case",
     "Create: no slices",
     "Create: one slice",
     "Create: one stretch",

@@ -215,16 +215,21 @@ fn format_questions_in_order() {
 
 #[test]
 fn names() {
-    assert_eq!(legal(name_of("pAs9z", 7)), Some(name_of("PAS9Z", 0)));
+    // As given, with any sixth character; from A to Z, from a to z and from 0 to 9.
+    assert_eq!(legal(name_of("pAs9z", 7)), Some(name_of("pAs9z", 0)));
+    assert_eq!(legal(name_of("AZaz0", 0)), Some(name_of("AZaz0", 0)));
     for illegal in ["", "9A", "A B", "A\0B", "A[", "a{", "\x7F", "A\x01", " "] {
         assert_eq!(legal(name_of(illegal, 0)), None, "{illegal:?}");
     }
+    // The characters next to the letters and digits, in the first place and behind it.
+    for outside in ["@", "[", "`", "{", "/", ":"] {
+        assert_eq!(legal(name_of(outside, 0)), None, "{outside:?}");
+        let behind = format!("a{outside}");
+        assert_eq!(legal(name_of(&behind, 0)), None, "{behind:?}");
+    }
     let mut pair = small();
-    assert_eq!(pair.create("pass", 0, 0), 0);
-    assert_eq!(pair.create("PaSS", 0, 0), 0x1010);
-    assert_eq!(pair.entry("pasS")[..3], [0x5041, 0x5353, 0]);
-    assert_eq!(pair.create("sys", 0, 0), 0x1010);
     assert_eq!(pair.create("9A", 0, 0), 0x1200);
+    assert_eq!(pair.create("a{", 0, 0), 0x1200);
     assert_eq!(pair.remove("9A"), 0x5000);
     assert_eq!(pair.change("9A", &[]), 0x5000);
     assert_eq!(pair.create_area("9A"), 0x4800);
@@ -293,25 +298,25 @@ fn set_takes_its_words_from_the_right_places() {
     let mut entry: Vec<u16> = (100..120).collect();
     entry[6] = 0x4001;
     entry[9] = 3;
-    assert_eq!(pair.set("new", &entry), 0);
+    assert_eq!(pair.set("NEW", &entry), 0);
     let found = pair.entry("NEW");
     let wanted = [
         0x4E45, 0x5700, 0, 103, 104, 105, 0x4001, 3, 12, 4, 110, 111, 112, 113, 114, 115,
     ];
     assert_eq!(found, wanted);
-    assert_eq!(pair.set("two", &entry[..15]), 0x1200);
+    assert_eq!(pair.set("TWO", &entry[..15]), 0x1200);
     entry[9] = 0x8000;
-    assert_eq!(pair.set("two", &entry), 0x1200);
+    assert_eq!(pair.set("TWO", &entry), 0x1200);
     entry[9] = 0;
     entry[6] = 0x8001;
-    assert_eq!(pair.set("two", &entry), 0x1200);
+    assert_eq!(pair.set("TWO", &entry), 0x1200);
     entry[6] = 0x0004;
-    assert_eq!(pair.set("two", &entry), 0);
+    assert_eq!(pair.set("TWO", &entry), 0);
     entry[9] = 1;
-    assert_eq!(pair.set("three", &entry), 0x1200);
-    assert_eq!(pair.set("two", &entry), 0x1200);
+    assert_eq!(pair.set("THREE", &entry), 0x1200);
+    assert_eq!(pair.set("TWO", &entry), 0x1200);
     entry[9] = 0;
-    assert_eq!(pair.set("two", &entry), 0x1010);
+    assert_eq!(pair.set("TWO", &entry), 0x1010);
 }
 
 #[test]
@@ -340,7 +345,7 @@ fn change_keeps_and_changes() {
     entry[10..].fill(0x77);
     pair.set("ONE", &entry);
     // All kept: optional and tail are replaced all the same.
-    assert_eq!(pair.change("one", &record("", KEPT, KEPT)), 0);
+    assert_eq!(pair.change("ONE", &record("", KEPT, KEPT)), 0);
     let found = pair.entry("ONE");
     assert_eq!(found[6..10], [1, 3, 12, 4]);
     assert!(found[3..6]
@@ -350,37 +355,37 @@ fn change_keeps_and_changes() {
     // Words 1 and 2 are not looked at where word 0 is 0.
     let mut kept = record("", KEPT, KEPT);
     kept[1] = 0x1234;
-    assert_eq!(pair.change("one", &kept), 0);
+    assert_eq!(pair.change("ONE", &kept), 0);
     kept[0] = 0x0041;
-    assert_eq!(pair.change("one", &kept), 0x1200);
-    // A name equal after folding is kept, with any sixth character.
-    let mut same = record("one", KEPT, KEPT);
+    assert_eq!(pair.change("ONE", &kept), 0x1200);
+    // The same name is no new one, with any sixth character.
+    let mut same = record("ONE", KEPT, KEPT);
     same[2] |= 0x00EE;
-    assert_eq!(pair.change("one", &same), 0);
-    assert_eq!(pair.change("one", &record("sys", KEPT, KEPT)), 0x1010);
-    assert_eq!(pair.change("one", &record("two", KEPT, KEPT)), 0);
-    assert_eq!(pair.change("one", &record("two", KEPT, KEPT)), 0x5000);
-    assert_eq!(pair.change("sys", &record("", KEPT, KEPT)), 0x1200);
-    assert_eq!(pair.change("map", &record("", 0, KEPT)), 0x1200);
-    assert_eq!(pair.change("two", &record("", 0x0002, KEPT)), 0x1200);
-    assert_eq!(pair.change("two", &record("", KEPT, KEPT)[..15]), 0x1200);
+    assert_eq!(pair.change("ONE", &same), 0);
+    assert_eq!(pair.change("ONE", &record("SYS", KEPT, KEPT)), 0x1010);
+    assert_eq!(pair.change("ONE", &record("TWO", KEPT, KEPT)), 0);
+    assert_eq!(pair.change("ONE", &record("TWO", KEPT, KEPT)), 0x5000);
+    assert_eq!(pair.change("SYS", &record("", KEPT, KEPT)), 0x1200);
+    assert_eq!(pair.change("MAP", &record("", 0, KEPT)), 0x1200);
+    assert_eq!(pair.change("TWO", &record("", 0x0002, KEPT)), 0x1200);
+    assert_eq!(pair.change("TWO", &record("", KEPT, KEPT)[..15]), 0x1200);
     // Length: down, to nothing, and up again.
-    assert_eq!(pair.change("two", &record("", KEPT, 1)), 0);
-    assert_eq!(pair.entry("two")[6..10], [1, 1, 12, 2]);
-    assert_eq!(pair.change("two", &record("", 0x0004, 1)), 0x1200);
-    assert_eq!(pair.change("two", &record("", 0x0004, 0)), 0);
-    assert_eq!(pair.entry("two")[6..10], [4, 0, 0, 0]);
+    assert_eq!(pair.change("TWO", &record("", KEPT, 1)), 0);
+    assert_eq!(pair.entry("TWO")[6..10], [1, 1, 12, 2]);
+    assert_eq!(pair.change("TWO", &record("", 0x0004, 1)), 0x1200);
+    assert_eq!(pair.change("TWO", &record("", 0x0004, 0)), 0);
+    assert_eq!(pair.entry("TWO")[6..10], [4, 0, 0, 0]);
     assert_eq!(pair.word(12, 0), 1);
-    assert_eq!(pair.change("two", &record("", KEPT, 1)), 0x1200);
-    assert_eq!(pair.change("two", &record("", 0x0001, 5)), 0);
-    assert_eq!(pair.entry("two")[6..10], [1, 5, 12, 6]);
-    assert_eq!(pair.change("two", &record("", KEPT, 1000)), 0x1100);
+    assert_eq!(pair.change("TWO", &record("", KEPT, 1)), 0x1200);
+    assert_eq!(pair.change("TWO", &record("", 0x0001, 5)), 0);
+    assert_eq!(pair.entry("TWO")[6..10], [1, 5, 12, 6]);
+    assert_eq!(pair.change("TWO", &record("", KEPT, 1000)), 0x1100);
     // No area process.
-    assert_eq!(pair.create_area("two"), 0);
-    assert_eq!(pair.change("two", &record("", KEPT, KEPT)), 0x1200);
-    assert_eq!(pair.remove("two"), 0x1200);
-    assert_eq!(pair.remove_area("two"), 0);
-    assert_eq!(pair.remove("two"), 0);
+    assert_eq!(pair.create_area("TWO"), 0);
+    assert_eq!(pair.change("TWO", &record("", KEPT, KEPT)), 0x1200);
+    assert_eq!(pair.remove("TWO"), 0x1200);
+    assert_eq!(pair.remove_area("TWO"), 0);
+    assert_eq!(pair.remove("TWO"), 0);
 }
 
 #[test]
@@ -394,7 +399,7 @@ fn change_of_a_permanent_file() {
     assert_eq!(pair.change("P", &record("Q", KEPT, KEPT)), 0x1200);
     assert_eq!(pair.change("P", &record("", KEPT, 2)), 0x1200);
     // Equal is no change; optional and tail stay.
-    assert_eq!(pair.change("P", &record("p", KEPT, 3)), 0);
+    assert_eq!(pair.change("P", &record("P", KEPT, 3)), 0);
     let found = pair.entry("P");
     assert!(found[3..6].iter().all(|&word| word == 0x33));
     assert!(found[10..].iter().all(|&word| word == 0x77));
@@ -566,13 +571,13 @@ fn blocks_that_join_are_zero_and_slack_keeps_its_words() {
 fn areas_open_and_close() {
     let mut pair = Pair::new(1, 2, 60, 10);
     assert_eq!(pair.create_area("A0"), 0x4800);
-    assert_eq!(pair.create_area("sys"), 0x0A00);
-    assert_eq!(pair.remove_area("map"), 0x0A00);
+    assert_eq!(pair.create_area("SYS"), 0x0A00);
+    assert_eq!(pair.remove_area("MAP"), 0x0A00);
     for number in 0..9 {
         assert_eq!(pair.create(&format!("A{number}"), 1, 0x0001), 0);
     }
     for number in 0..8 {
-        assert_eq!(pair.create_area(&format!("a{number}")), 0);
+        assert_eq!(pair.create_area(&format!("A{number}")), 0);
     }
     assert_eq!(pair.create_area("A8"), 0x0900);
     assert_eq!(pair.create_area("A3"), 0);
@@ -968,9 +973,15 @@ fn the_listing_goes_by_the_first_word_that_differs() {
     assert_eq!(first, ["ABZZZ", "ACAAA", "MAP", "SYS"]);
     // Within a word the high half, the character that comes first, is asked first.
     assert_eq!(listed(1, &["BA", "AZ"]), ["AZ", "BA", "MAP", "SYS"]);
-    // The end of a name is below digits, and digits are below letters.
+    // The end of a name is below digits, digits are below letters, and all capitals below all small
+    // letters.
     let digits = listed(1, &["AA", "A9", "A", "A0", "AA0"]);
     assert_eq!(digits, ["A", "A0", "A9", "AA", "AA0", "MAP", "SYS"]);
+    let small_letters = listed(1, &["aB", "b", "Aa", "AZ", "sys", "Zz", "a", "A9", "Map"]);
+    let wanted = [
+        "A9", "AZ", "Aa", "MAP", "Map", "SYS", "Zz", "a", "aB", "b", "sys",
+    ];
+    assert_eq!(small_letters, wanted);
 }
 
 #[test]
@@ -1147,4 +1158,253 @@ fn old_discs_come_in() {
     image[256 * 11 + 32 + 7] = 1;
     let found = soundness(&image, &state);
     assert!(matches!(found, Err(Unsound::SysInSlack)), "{found:?}");
+}
+
+/// Places 0 and 1 of a sector.
+fn places(pair: &Pair, sector: usize) -> [&[u16]; 2] {
+    [0, 16].map(|from| &pair.unit.image[256 * sector + from..][..16])
+}
+
+const UNUSED: [u16; 16] = [0; 16];
+
+/// The entry of an extendable file whose optional and tail are zero.
+fn extendable(name: [u16; 2], length: u16, index: u16, reserved: u16) -> [u16; 16] {
+    let mut entry = [0; 16];
+    entry[..2].copy_from_slice(&name);
+    entry[6..10].copy_from_slice(&[1, length, index, reserved]);
+    entry
+}
+
+/// PASS and Pass with H = 3, s = 2 and F = 10: SYS has slices 1 and 2, so that keys 0, 1 and 2 live
+/// in sectors 10, 11 and 12. PASS of two blocks gets slices 3 and 4 from sector 14 on, Pass of one
+/// block slice 5, sector 18.
+fn pass_twice() -> Pair {
+    let mut pair = Pair::new(3, 2, 60, 10);
+    assert_eq!(pair.create("PASS", 2, 0x0001), 0);
+    assert_eq!(pair.create("Pass", 1, 0x0001), 0);
+    pair
+}
+
+/// PASS as it is entered in [`pass_twice`].
+fn pass() -> [u16; 16] {
+    extendable([0x5041, 0x5353], 2, 14, 4)
+}
+
+#[test]
+fn names_that_differ_in_case_only_have_their_own_keys() {
+    // 'PASS' 5041h + 5353h = A394h, 'Pass' 5061h + 7373h = C3D4h, 'pass' 7061h + 7373h = E3D4h:
+    // 41,876, 50,132 and 58,324, of which 3 leaves 2, 2 and 1.
+    let keys = |text| (sum(name_of(text, 0)), key(name_of(text, 0), 3));
+    assert_eq!(keys("PASS"), (0xA394, 2));
+    assert_eq!(keys("Pass"), (0xC3D4, 2));
+    assert_eq!(keys("pass"), (0xE3D4, 1));
+    // 'sys' 7379h + 7300h = E679h, 59,001, and 'Map' 4D61h + 7000h = BD61h, 48,481.
+    assert_eq!(keys("sys"), (0xE679, 0));
+    assert_eq!(keys("Map"), (0xBD61, 1));
+}
+
+#[test]
+fn names_that_differ_in_case_only_stand_beside_each_other() {
+    let mut pair = pass_twice();
+    let pass_mixed = extendable([0x5061, 0x7373], 1, 18, 2);
+    assert_eq!(places(&pair, 12), [pass(), pass_mixed]);
+    assert_eq!(places(&pair, 11), [UNUSED; 2]);
+    assert_eq!(pair.entry("PASS"), pass());
+    assert_eq!(pair.entry("Pass"), pass_mixed);
+    let name = name_of("pass", 0);
+    let (answer, lent) = pair.call(Message::LookUp { name }, &[9; 16]);
+    assert_eq!((answer.result, lent), (0x5000, vec![9; 16]));
+    // Each of them is used.
+    for taken in ["PASS", "Pass"] {
+        assert_eq!(pair.create(taken, 0, 0), 0x1010);
+        assert_eq!(pair.set(taken, &record("", 0, 0)), 0x1010);
+    }
+    for absent in ["pass", "pASS", "PASs"] {
+        assert_eq!(pair.change(absent, &record("", KEPT, KEPT)), 0x5000);
+        assert_eq!(pair.remove(absent), 0x5000);
+    }
+    // One goes, the other stays.
+    assert_eq!(pair.remove("PASS"), 0);
+    assert_eq!(places(&pair, 12), [UNUSED, pass_mixed]);
+    assert_eq!(pair.create("pASS", 0, 0x0001), 0);
+    assert_eq!(pair.listed(), ["MAP", "Pass", "SYS", "pASS"]);
+}
+
+#[test]
+fn a_rename_that_changes_case_only_is_a_rename() {
+    let mut pair = pass_twice();
+    let pass_mixed = extendable([0x5061, 0x7373], 1, 18, 2);
+    // Question 6: the other name is used. The own name is no new one.
+    assert_eq!(pair.change("Pass", &record("PASS", KEPT, KEPT)), 0x1010);
+    assert_eq!(pair.change("PASS", &record("Pass", KEPT, KEPT)), 0x1010);
+    assert_eq!(pair.change("Pass", &record("Pass", KEPT, KEPT)), 0);
+    assert_eq!(places(&pair, 12), [pass(), pass_mixed]);
+    // 'pass' has key 1: the entry leaves key 2's sector.
+    assert_eq!(pair.change("Pass", &record("pass", KEPT, KEPT)), 0);
+    assert_eq!(places(&pair, 12), [pass(), UNUSED]);
+    let renamed = extendable([0x7061, 0x7373], 1, 18, 2);
+    assert_eq!(places(&pair, 11), [renamed, UNUSED]);
+    assert_eq!(pair.entry("pass"), renamed);
+    assert_eq!(pair.change("Pass", &record("", KEPT, KEPT)), 0x5000);
+    assert_eq!(pair.listed(), ["MAP", "PASS", "SYS", "pass"]);
+    // 'Pass' has PASS's key: the place that PASS leaves counts as unused, and it is the first.
+    assert_eq!(pair.change("PASS", &record("Pass", KEPT, KEPT)), 0);
+    let renamed = extendable([0x5061, 0x7373], 2, 14, 4);
+    assert_eq!(places(&pair, 12), [renamed, UNUSED]);
+}
+
+#[test]
+fn question_5_is_asked_of_a_rename_that_changes_case_only() {
+    let mut pair = pass_twice();
+    // PASS is open, which says nothing of Pass.
+    assert_eq!(pair.create_area("PASS"), 0);
+    assert_eq!(pair.change("PASS", &record("pass", KEPT, KEPT)), 0x1200);
+    assert_eq!(pair.change("Pass", &record("pass", KEPT, KEPT)), 0);
+    assert_eq!(pair.change("pass", &record("", 0x0010, KEPT)), 0);
+    // A permanent file: question 5 comes before 6, where PASS would be used.
+    for new in ["Pass", "PASS", "PASs"] {
+        assert_eq!(pair.change("pass", &record(new, KEPT, KEPT)), 0x1200);
+    }
+    assert_eq!(pair.change("pass", &record("pass", KEPT, KEPT)), 0);
+}
+
+/// The name, index sector, live length and first position of each open area process.
+fn open_areas(pair: &Pair) -> Vec<([u16; 3], u16, u16, u16)> {
+    let open = pair.unit.state.areas.iter().filter(|area| area.live);
+    open.map(|area| (area.name, area.index, area.length, area.users[0].position))
+        .collect()
+}
+
+#[test]
+fn both_are_open_at_once_each_with_its_own_blocks() {
+    let mut pair = pass_twice();
+    for name in ["PASS", "Pass"] {
+        assert_eq!(pair.create_area(name), 0);
+        assert_eq!(pair.area(name, 7, Operation::Reserve(3)), 0);
+    }
+    assert_eq!(pair.create_area("pass"), 0x4800);
+    assert_eq!(pair.area("pass", 7, Operation::Sense), 0x4800);
+    let [pass, pass_mixed] = [[0x5041, 0x5353, 0], [0x5061, 0x7373, 0]];
+    let fresh = [(pass, 14, 2, 0), (pass_mixed, 18, 1, 0)];
+    assert_eq!(open_areas(&pair), fresh);
+    // Block 0 of each, then each is appended to: blocks 2 and 1.
+    assert_eq!(pair.transput("PASS", 7, 3, 0, 0x1111).2, 0);
+    assert_eq!(pair.area("PASS", 7, Operation::Position(2)), 0);
+    assert_eq!(pair.transput("PASS", 7, 3, 0, 0x2222).2, 2);
+    assert_eq!(open_areas(&pair), [(pass, 14, 3, 3), fresh[1]]);
+    assert_eq!(pair.transput("Pass", 7, 3, 0, 0x3333).2, 0);
+    assert_eq!(pair.transput("Pass", 7, 3, 0, 0x4444).2, 1);
+    let grown = [(pass, 14, 3, 3), (pass_mixed, 18, 2, 2)];
+    assert_eq!(open_areas(&pair), grown);
+    // PASS has sectors 14 to 17 and Pass 18 to 21, each its index first.
+    let firsts = [15, 16, 17, 19, 20].map(|sector| pair.word(sector, 0));
+    assert_eq!(firsts, [0x1111, 0, 0x2222, 0x3333, 0x4444]);
+    // What one appended is not in the other.
+    assert_eq!(pair.transput("Pass", 7, 5, 1, 9).3[0], 0x4444);
+    assert_eq!(pair.transput("Pass", 7, 5, 2, 9).0, 0x0810);
+    assert_eq!(pair.transput("PASS", 7, 5, 2, 9).3[0], 0x2222);
+    // One is closed and booked, the other stays open.
+    assert_eq!(pair.area("PASS", 7, Operation::Reserve(0)), 0);
+    assert_eq!(pair.remove_area("PASS"), 0);
+    assert_eq!(pair.entry("PASS")[7..10], [3, 14, 4]);
+    assert_eq!(pair.entry("Pass")[7..10], [1, 18, 2]);
+    assert_eq!(open_areas(&pair), [grown[1]]);
+    assert_eq!(pair.area("PASS", 7, Operation::Sense), 0x4800);
+}
+
+#[test]
+fn an_area_of_a_name_in_another_case_is_another_area() {
+    let mut pair = pass_twice();
+    assert_eq!(pair.create_area("PASS"), 0);
+    // None of these is open: no message reaches PASS, and nothing is removed.
+    for other in ["Pass", "pass", "PAss"] {
+        assert_eq!(pair.area(other, 7, Operation::Reserve(4)), 0x4800);
+        assert_eq!(pair.remove_area(other), 0);
+    }
+    assert_eq!(open_areas(&pair).len(), 1);
+    assert_eq!(pair.area("PASS", 7, Operation::Reserve(4)), 0);
+    // An exclusive user of PASS keeps nobody from Pass.
+    assert_eq!(pair.create_area("Pass"), 0);
+    assert_eq!(pair.area("Pass", 8, Operation::Reserve(2)), 0);
+    assert_eq!(pair.area("PASS", 8, Operation::Reserve(2)), 0x0200);
+}
+
+#[test]
+fn only_the_capital_ones_are_sys_and_map() {
+    let mut pair = Pair::new(3, 2, 60, 10);
+    // 'sys' stands behind SYS and MAP in key 0's sector, 'Map' in key 1's.
+    assert_eq!(pair.create("sys", 1, 0x0001), 0);
+    assert_eq!(pair.create("Map", 0, 0x0001), 0);
+    assert_eq!(pair.unit.image[256 * 10 + 32..][..3], [0x7379, 0x7300, 0]);
+    assert_eq!(pair.entry("sys"), extendable([0x7379, 0x7300], 1, 14, 2));
+    assert_eq!(pair.entry("Map"), extendable([0x4D61, 0x7000], 0, 0, 0));
+    assert_eq!(pair.entry("SYS")[6..10], [0x8010, 3, 6, 4]);
+    assert_eq!(pair.listed(), ["MAP", "Map", "SYS", "sys"]);
+    // Opened and written.
+    for (name, block) in [("sys", 1), ("Map", 0)] {
+        assert_eq!(pair.create_area(name), 0);
+        assert_eq!(pair.area(name, 7, Operation::Reserve(3)), 0);
+        assert_eq!(pair.transput(name, 7, 7, block, 0x5A5A).0, 0);
+        assert_eq!(pair.area(name, 7, Operation::Reserve(0)), 0);
+        assert_eq!(pair.remove_area(name), 0);
+    }
+    assert_eq!(pair.entry("sys")[7..10], [2, 14, 4]);
+    // Changed, renamed, but not to a name that is used, and removed.
+    assert_eq!(pair.change("sys", &record("", 0, 0)), 0);
+    assert_eq!(pair.change("sys", &record("SYS", KEPT, KEPT)), 0x1010);
+    assert_eq!(pair.change("Map", &record("MAP", KEPT, KEPT)), 0x1010);
+    assert_eq!(pair.change("sys", &record("Sys", KEPT, KEPT)), 0);
+    assert_eq!(pair.remove("Sys"), 0);
+    assert_eq!(pair.remove("Map"), 0);
+    // The two that remain are as document 01 has them.
+    for system in ["SYS", "MAP"] {
+        assert_eq!(pair.change(system, &record("sys", KEPT, KEPT)), 0x1200);
+        assert_eq!(pair.remove(system), 0x1200);
+        assert_eq!(pair.create_area(system), 0x0A00);
+        assert_eq!(pair.remove_area(system), 0x0A00);
+    }
+    for ordinary in ["sys", "map"] {
+        assert_eq!(pair.remove(ordinary), 0x5000);
+        assert_eq!(pair.create_area(ordinary), 0x4800);
+        assert_eq!(pair.remove_area(ordinary), 0);
+    }
+}
+
+#[test]
+fn sound_units_compare_names_as_they_stand() {
+    let pair = pass_twice();
+    // The name of the second entry of key 2, and what becomes of the unit with it.
+    let judged = |name: [u16; 3]| {
+        let mut image = pair.unit.image.clone();
+        image[256 * 12 + 16..][..3].copy_from_slice(&name);
+        soundness(&image, &pair.unit.state)
+    };
+    assert_eq!(judged([0x5061, 0x7373, 0]), Ok(1));
+    // 'PASS' again; 'pass', whose key is 1; 'Pas' and one of { [ ` @ / :, none of them legal.
+    let pass = [0x5041, 0x5353, 0];
+    assert_eq!(judged(pass), Err(Unsound::EntryTwice(pass)));
+    let pass_small = [0x7061, 0x7373, 0];
+    assert_eq!(judged(pass_small), Err(Unsound::EntryKey(pass_small)));
+    for outside in [0x737B, 0x735B, 0x7360, 0x7340, 0x732F, 0x733A] {
+        let name = [0x5061, outside, 0];
+        assert_eq!(judged(name), Err(Unsound::EntryName(name)));
+    }
+    // Area processes: PASS and Pass are two, 'pass' is not entered.
+    let state = |names: [[u16; 3]; 2]| {
+        let mut state = pair.unit.state;
+        for ((area, name), (index, length)) in
+            state.areas.iter_mut().zip(names).zip([(14, 2), (18, 1)])
+        {
+            (area.live, area.name, area.index, area.length) = (true, name, index, length);
+        }
+        soundness(&pair.unit.image, &state)
+    };
+    assert_eq!(state([pass, [0x5061, 0x7373, 0]]), Ok(1));
+    let absent = state([pass, pass_small]);
+    assert_eq!(absent, Err(Unsound::AreaNotEntered(pass_small)));
+    // An area process on 'sys' is none on SYS.
+    let mut pair = Pair::new(3, 2, 60, 10);
+    assert_eq!(pair.create("sys", 0, 0), 0);
+    assert_eq!(pair.create_area("sys"), 0);
+    assert_eq!(soundness(&pair.unit.image, &pair.unit.state), Ok(1));
 }

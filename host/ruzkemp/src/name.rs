@@ -7,11 +7,12 @@ use std::str::FromStr;
 /// character the number of the unit.
 pub type NameWords = [u16; 3];
 
-/// The name of a file: up to five characters, in capitals.
+/// The name of a file: up to five characters, as given.
 ///
-/// Two names are equal exactly if they name the same file: small letters count as their
-/// capitals, and the sixth character, the unit, is left out. The order is that of the listing, by
-/// the words as unsigned numbers, the first word first.
+/// Two names are equal exactly if they name the same file on a unit, that is if all five characters
+/// are: `Pass` and `PASS` are two files. The sixth character, the unit, is left out. The order is
+/// that of the listing, by the words as unsigned numbers, the first word first: the end of a name
+/// comes before digits, these before capitals, and these before small letters.
 #[derive(Clone, Copy, PartialEq, Eq, PartialOrd, Ord, Hash, Debug)]
 pub struct Name([u8; 5]);
 
@@ -20,16 +21,16 @@ pub struct Name([u8; 5]);
 pub enum NameError {
     /// The text is empty or has more than five characters.
     Length,
-    /// The first character is no letter from A to Z.
+    /// The first character is no letter from A to Z or a to z.
     First,
-    /// A character is neither a letter from A to Z nor a digit.
+    /// A character is neither a letter from A to Z or a to z nor a digit.
     Character(char),
 }
 
 impl Name {
-    /// The name of the catalog.
+    /// The name of the catalog; `sys` is an ordinary file's.
     pub const SYS: Name = Name(*b"SYS\0\0");
-    /// The name of the map.
+    /// The name of the map; `map` is an ordinary file's.
     pub const MAP: Name = Name(*b"MAP\0\0");
 
     /// The name of a text: one to five characters, a letter and then letters or digits.
@@ -45,16 +46,14 @@ impl Name {
             return Err(NameError::First);
         }
         let mut characters = [0; 5];
-        for (place, character) in characters.iter_mut().zip(text.bytes()) {
-            *place = character.to_ascii_uppercase();
-        }
+        characters[..text.len()].copy_from_slice(text.as_bytes());
         Ok(Name(characters))
     }
 
     /// The name in three words, whatever they are; the sixth character is left out.
     pub fn from_words(words: NameWords) -> Name {
         let [[a, b], [c, d], [e, _]] = words.map(u16::to_be_bytes);
-        Name([a, b, c, d, e].map(|character| character.to_ascii_uppercase()))
+        Name([a, b, c, d, e])
     }
 
     /// The name in three words, the sixth character 0.
@@ -112,7 +111,10 @@ impl fmt::Display for NameError {
             NameError::Length => f.write_str("a name has one to five characters"),
             NameError::First => f.write_str("a name begins with a letter"),
             NameError::Character(wrong) => {
-                write!(f, "{wrong:?} is neither a letter from A to Z nor a digit")
+                write!(
+                    f,
+                    "{wrong:?} is neither a letter from A to Z or a to z nor a digit"
+                )
             }
         }
     }

@@ -30,7 +30,7 @@ pub struct UserState {
 pub struct AreaState {
     /// Whether the descriptor is in use.
     pub live: u16,
-    /// The file's name in capitals, sixth character 0.
+    /// The file's name, sixth character 0.
     pub name: [u16; 3],
     /// The live index sector, 0 while the file has no slice.
     pub index: u16,

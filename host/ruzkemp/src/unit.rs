@@ -157,7 +157,8 @@ impl<I: AsRef<[u16]> + AsMut<[u16]>> Unit<I> {
         Ok(())
     }
 
-    /// Gives a file another name and keeps all else: a Look-up, then a Change.
+    /// Gives a file another name and keeps all else: a Look-up, then a Change. A name that differs in
+    /// case only is another.
     pub fn rename(&mut self, name: Name, new: Name) -> Result<()> {
         let current = self.look_up(name)?;
         self.change(name, &Entry::for_change(&current).with_name(new))
@@ -274,19 +275,20 @@ impl<I: AsRef<[u16]> + AsMut<[u16]>> Unit<I> {
     ///
     /// Names are compared by their words, the first word first and words as unsigned numbers,
     /// which is the order of [`Name`]: the end of a name comes before digits, digits before
-    /// letters. The library hands the entries back so; nothing is sorted here.
+    /// capitals, capitals before small letters. The library hands the entries back so; nothing is
+    /// sorted here.
     ///
     /// ```
     /// # use ruzkemp::{Attributes, Name, Record, Unit};
     /// # fn main() -> Result<(), Box<dyn std::error::Error>> {
     /// let mut unit = Unit::formatted(&Record::new(0, 1, 2, 20, 10))?;
     /// unit.init()?;
-    /// for name in ["TILL2", "PASS", "TILL1"] {
+    /// for name in ["TILL2", "Pass", "PASS", "TILL1"] {
     ///     unit.create(Name::new(name)?, 0, Attributes::NONE)?;
     /// }
     /// let entries = unit.list()?;
     /// let names: Vec<String> = entries.iter().map(|entry| entry.name().to_string()).collect();
-    /// assert_eq!(names, ["MAP", "PASS", "SYS", "TILL1", "TILL2"]);
+    /// assert_eq!(names, ["MAP", "PASS", "Pass", "SYS", "TILL1", "TILL2"]);
     /// # Ok(())
     /// # }
     /// ```

@@ -51,7 +51,8 @@ fn has_cpp() -> bool {
 
 /// The example's output. Its file was written from document 01's cases P5 to P8 and its
 /// questions, with need(2) = 2, need(4) = 3 and slices of two sectors from sector 10 on, and from
-/// 02's R-4 for the ends of files.
+/// 02's R-4 for the ends of files and R-8 for the names that differ in case only: PRICE has slices 2
+/// and 3, so that PASS gets slice 4, sector 16.
 #[test]
 fn the_example_prints_what_the_documents_ask_for() {
     let source = Path::new(ROOT).join("examples/c/season.c");

@@ -1,5 +1,5 @@
-//! Names, entries, attributes, records and refusals, without a unit. Expected words are document
-//! 01's.
+//! Names, entries, attributes, records and refusals, without a unit. Expected words are those of
+//! documents 01 and 02.
 
 use ruzkemp::{Attributes, Call, Entry, Error, Name, NameError, Record, Role};
 
@@ -9,14 +9,14 @@ fn name(text: &str) -> Name {
 
 #[test]
 fn a_name_has_one_to_five_letters_or_digits_and_begins_with_a_letter() {
-    for text in ["A", "SYS", "ZZZZZ", "P1979", "a1b2c"] {
-        assert_eq!(name(text).to_string(), text.to_uppercase());
+    for text in ["A", "SYS", "ZZZZZ", "P1979", "a1b2c", "Pass", "zAZ09"] {
+        assert_eq!(name(text).to_string(), text);
         assert!(name(text).is_legal());
     }
     assert_eq!(Name::new(""), Err(NameError::Length));
     assert_eq!(Name::new("SEASON"), Err(NameError::Length));
     assert_eq!(Name::new("1PASS"), Err(NameError::First));
-    for wrong in ['-', ' ', '\0', '[', 'Æ', 'é'] {
+    for wrong in ['-', ' ', '\0', '@', '[', '`', '{', '/', ':', 'Æ', 'é'] {
         assert_eq!(
             Name::new(&format!("P{wrong}")),
             Err(NameError::Character(wrong))
@@ -31,15 +31,39 @@ fn a_name_is_three_words_high_half_first_with_the_unit_as_sixth_character() {
     assert_eq!(pass.on_unit(2), [0x5041, 0x5353, 2]);
     assert_eq!(name("ZZZZZ").on_unit(3), [0x5A5A, 0x5A5A, 0x5A03]);
     assert_eq!(Name::from_words([0x5041, 0x5353, 3]), pass);
-    assert_eq!(Name::from_words([0x7061, 0x7373, 0]), pass, "small letters");
     assert_eq!(Name::from_words(Name::SYS.words()), name("SYS"));
-    assert_eq!(Name::from_words(Name::MAP.words()), name("map"));
+    assert_eq!(Name::from_words(Name::MAP.words()), name("MAP"));
+}
+
+/// Document 02, R-8.
+#[test]
+fn names_are_equal_only_when_all_five_characters_are() {
+    let words = [
+        ("PASS", [0x5041, 0x5353, 0]),
+        ("Pass", [0x5061, 0x7373, 0]),
+        ("pass", [0x7061, 0x7373, 0]),
+        ("PASSa", [0x5041, 0x5353, 0x6100]),
+        ("PASSA", [0x5041, 0x5353, 0x4100]),
+    ];
+    for (text, its_words) in words {
+        assert_eq!(name(text).words(), its_words);
+        assert_eq!(Name::from_words(its_words).to_string(), text);
+        assert!(Name::from_words(its_words).is_legal());
+        let equal = words.iter().filter(|(other, _)| name(other) == name(text));
+        assert_eq!(equal.count(), 1, "{text}");
+    }
+    for text in ["sys", "Sys", "map", "Map"] {
+        assert!(![Name::SYS, Name::MAP].contains(&name(text)), "{text}");
+    }
+    // The unit, the sixth character, is left out.
+    assert_eq!(Name::from_words([0x5061, 0x7373, 2]), name("Pass"));
 }
 
 #[test]
 fn names_are_ordered_as_their_words_are() {
     let ordered = [
-        "A", "A0", "A9", "AA", "ABCD", "ABCD1", "ABCDA", "ABD", "AZ", "BA", "MAP", "SYS", "SYS0",
+        "A", "A0", "A9", "AA", "ABCD", "ABCD1", "ABCDA", "ABCDa", "ABD", "AZ", "Aa", "BA", "MAP",
+        "Map", "SYS", "SYS0", "Z", "a", "aZ", "sys",
     ];
     let names = ordered.map(name);
     assert!(names.is_sorted_by(|one, other| one < other));
@@ -54,6 +78,11 @@ fn words_that_are_no_legal_name_are_shown_and_said_to_be_illegal() {
         ([0x3141, 0, 0], "1A"),
         ([0x4100, 0x4200, 0], r"A\x00B"),
         ([0x41C5, 0, 0], r"A\xc5"),
+        ([0x4061, 0, 0], "@a"),
+        ([0x615B, 0, 0], "a["),
+        ([0x6161, 0x6000, 0], "aa`"),
+        ([0x7B00, 0, 0], "{"),
+        ([0x612F, 0x3A00, 0], "a/:"),
     ] {
         let name = Name::from_words(words);
         assert!(!name.is_legal(), "{words:04X?}");

@@ -192,6 +192,88 @@ fn a_file_is_renamed_and_resized_and_keeps_the_rest() -> Result<()> {
     Ok(())
 }
 
+/// Document 02, R-8: two files beside each other, each found, changed and removed by its own name.
+#[test]
+fn names_that_differ_in_case_only_are_two_files() -> Result<()> {
+    let mut unit = ready();
+    let [large, small, other] = ["PASS", "Pass", "pass"].map(name);
+    unit.create(large, 2, Attributes::EXTENDABLE)?;
+    unit.create(small, 1, Attributes::NONE)?;
+    assert_eq!(unit.look_up(large)?.name(), large);
+    assert_eq!(
+        (unit.look_up(large)?.length(), unit.look_up(small)?.length()),
+        (2, 1)
+    );
+    refused(&mut unit, Error::NoEntry, |unit| unit.look_up(other));
+    for taken in [large, small] {
+        refused(&mut unit, Error::EntryExists, |unit| {
+            unit.create(taken, 0, Attributes::NONE)
+        });
+    }
+    refused(&mut unit, Error::EntryExists, |unit| {
+        unit.rename(small, large)
+    });
+    unit.rename(small, other)?;
+    assert_eq!(listed(&mut unit)?, ["MAP", "PASS", "SYS", "pass"]);
+    refused(&mut unit, Error::NoEntry, |unit| unit.remove(small));
+    unit.remove(large)?;
+    assert_eq!(listed(&mut unit)?, ["MAP", "SYS", "pass"]);
+    Ok(())
+}
+
+#[test]
+fn areas_of_names_that_differ_in_case_only_are_two() -> Result<()> {
+    let mut unit = opened();
+    let small = name("Pass");
+    refused(&mut unit, Error::NoArea, |unit| unit.create_area(small));
+    unit.create(small, 1, Attributes::NONE)?;
+    refused(&mut unit, Error::NoArea, |unit| unit.sense(small, 7));
+    unit.create_area(small)?;
+    unit.reserve(small, 7, Role::ExclusiveUser)?;
+    // What is written to one is not in the other; each user has a position in each.
+    unit.write_block(small, 7, &[3; SECTOR])?;
+    let mut block = [9; SECTOR];
+    assert_eq!(unit.read_block(name("PASS"), 7, &mut block)?, 0);
+    assert_eq!(block, [0; SECTOR]);
+    assert_eq!(unit.read_block_at(small, 7, 0, &mut block)?, 0);
+    assert_eq!(block, [3; SECTOR]);
+    // PASS is exclusively used by nobody.
+    unit.reserve(name("PASS"), 8, Role::Sharing)?;
+    refused(&mut unit, Error::AreaReserved, |unit| {
+        unit.reserve(small, 8, Role::Sharing)
+    });
+    assert_eq!(unit.state().areas().count(), 2);
+    assert_eq!(unit.state().area(small).map(|area| area.length), Some(1));
+    assert_eq!(unit.state().area(name("pass")), None);
+    Ok(())
+}
+
+#[test]
+fn only_the_capital_ones_are_sys_and_map() -> Result<()> {
+    let mut unit = ready();
+    for text in ["sys", "Map"] {
+        let file = name(text);
+        unit.create(file, 1, Attributes::EXTENDABLE)?;
+        unit.create_area(file)?;
+        unit.remove_area(file)?;
+        unit.resize(file, 0)?;
+    }
+    assert_eq!(listed(&mut unit)?, ["MAP", "Map", "SYS", "sys"]);
+    refused(&mut unit, Error::EntryExists, |unit| {
+        unit.rename(name("sys"), Name::SYS)
+    });
+    refused(&mut unit, Error::CatalogParameter, |unit| {
+        unit.remove(Name::SYS)
+    });
+    refused(&mut unit, Error::AreaIllegal, |unit| {
+        unit.create_area(Name::MAP)
+    });
+    unit.remove(name("sys"))?;
+    unit.remove(name("Map"))?;
+    assert_eq!(listed(&mut unit)?, ["MAP", "SYS"]);
+    Ok(())
+}
+
 #[test]
 fn eight_areas_and_no_more() -> Result<()> {
     let mut unit = ready();

@@ -56,8 +56,7 @@ fn rule(unsound: &Unsound) -> &'static str {
             "SYS has length H times L and H times L / s slices, rounded up, slice 1 first"
         }
         Unsound::EntryName(_) | Unsound::EntryTwice(_) | Unsound::EntryKey(_) => {
-            "every used entry has a legal name in capitals, alone of that name, in a sector of its \
-             key"
+            "every used entry has a legal name, alone of that name, in a sector of its key"
         }
         Unsound::SliceTwice(_) => "no slice is in two files or twice in one",
         Unsound::MarkedFree(_) | Unsound::MarkedUsed(_) => {

@@ -59,7 +59,7 @@ fn format_by_force_keeps_the_words_that_format_does_not_write() {
 fn create_takes_the_slices_of_p6() {
     let folder = Folder::new();
     folder.small("a.img");
-    folder.good(&["create", "a.img", "pass", "--size", "2", "--extendable"]);
+    folder.good(&["create", "a.img", "PASS", "--size", "2", "--extendable"]);
     let words = folder.words("a.img");
     assert_eq!(sector(&words, 9, 0, 1), [0x1800]);
     assert_eq!(sector(&words, 8, 3, 1), [4]);
@@ -143,7 +143,7 @@ fn change_keeps_what_is_not_given() {
         "a.img",
         "PASS",
         "--name",
-        "pas2",
+        "PAS2",
         "--attributes",
         "none",
     ]);
@@ -177,6 +177,63 @@ fn rename_and_rm_change_the_entry_and_the_map() {
             "sector {kept}"
         );
     }
+}
+
+/// Document 02, R-8: each command has its own file of two whose names differ in case only.
+#[test]
+fn names_that_differ_in_case_only_are_two_files() {
+    let folder = Folder::new();
+    folder.small("a.img");
+    folder.good(&["create", "a.img", "PASS", "--size", "2", "--extendable"]);
+    folder.good(&["create", "a.img", "Pass"]);
+    let words = folder.words("a.img");
+    assert_eq!(sector(&words, 10, 32, 3), PASS);
+    assert_eq!(sector(&words, 10, 48, 3), [0x5061, 0x7373, 0]);
+    let wanted = "\
+NAME   LENGTH RESERVED  INDEX STRETCHES ATTRIBUTES
+MAP         1        1      7         0 catalog file, permanent
+PASS        2        4     12         1 extendable
+Pass        0        0      0         0 none
+SYS         1        2      6         1 catalog file, permanent
+4 entries; 2 of 5 slices free (4 sectors)
+";
+    assert_eq!(folder.good(&["ls", "a.img"]), wanted);
+    folder.good(&["check", "a.img"]);
+    let unknown = "look-up pass: refused with 5000h: the name does not stand in the catalog";
+    folder.bad(&["show", "a.img", "pass"], 1, unknown);
+    let used = "create Pass: refused with 1010h: the name is used by another file";
+    folder.bad(&["create", "a.img", "Pass"], 1, used);
+    // A rename in case only: not to the other's name.
+    let used = "refused with 1010h: the name is used by another file";
+    folder.bad(&["rename", "a.img", "Pass", "PASS"], 1, used);
+    let renamed = folder.good(&["rename", "a.img", "Pass", "pass"]);
+    assert_eq!(renamed, "Pass: renamed to pass\n");
+    folder.bad(
+        &["rm", "a.img", "Pass"],
+        1,
+        "remove Pass: refused with 5000h",
+    );
+    // One of them is removed.
+    assert_eq!(folder.good(&["rm", "a.img", "pass"]), "pass: removed\n");
+    let shown = folder.good(&["show", "a.img", "PASS"]);
+    assert!(shown.starts_with("name        PASS\n"), "{shown}");
+}
+
+#[test]
+fn only_the_capital_ones_are_sys_and_map() {
+    let folder = Folder::new();
+    folder.small("a.img");
+    for name in ["sys", "Map"] {
+        folder.good(&["create", "a.img", name, "--size", "1"]);
+        folder.good(&["change", "a.img", name, "--size", "0"]);
+    }
+    let names = folder.run_with(&["run", "a.img", "-"], b"init\nlist\n").out;
+    assert!(names.ends_with(" names=MAP,Map,SYS,sys\n"), "{names}");
+    folder.bad(&["rm", "a.img", "SYS"], 1, "remove SYS: refused with 1200h");
+    let used = "refused with 1010h: the name is used by another file";
+    folder.bad(&["rename", "a.img", "Map", "MAP"], 1, used);
+    folder.good(&["rm", "a.img", "sys", "Map"]);
+    folder.good(&["check", "a.img"]);
 }
 
 #[test]
@@ -293,11 +350,13 @@ fn every_list_of_files_comes_by_name() {
     let folder = Folder::new();
     folder.small("a.img");
     // With H = 1 the places are SYS, MAP and then these.
-    for name in ["Z", "SYS0", "N", "BA", "ABCD2", "ABCD1", "AZ", "AA", "A9"] {
+    for name in [
+        "a", "Z", "SYS0", "N", "BA", "ABCD2", "ABCD1", "AZ", "Aa", "AA", "A9",
+    ] {
         folder.good(&["create", "a.img", name]);
     }
     let wanted = [
-        "A9", "AA", "ABCD1", "ABCD2", "AZ", "BA", "MAP", "N", "SYS", "SYS0", "Z",
+        "A9", "AA", "ABCD1", "ABCD2", "AZ", "Aa", "BA", "MAP", "N", "SYS", "SYS0", "Z", "a",
     ];
     let table = folder.good(&["ls", "a.img"]);
     let rows = table.lines().skip(1).take(wanted.len());
@@ -308,7 +367,7 @@ fn every_list_of_files_comes_by_name() {
     let names: Vec<&str> = names.filter_map(|rest| rest.split('"').next()).collect();
     assert_eq!(names, wanted);
     let done = folder.run_with(&["run", "a.img", "-"], b"init\nlist\n");
-    let listed = format!(" entries=11 names={}\n", wanted.join(","));
+    let listed = format!(" entries=13 names={}\n", wanted.join(","));
     assert!(done.out.ends_with(&listed), "{done:?}");
 }
 
@@ -337,7 +396,7 @@ optional    0001 0002 000A
 tail        0000 0000 0000 0000 0000 0000
 stretch 1   slices 2 to 3, sectors 12 to 15
 ";
-    assert_eq!(folder.good(&["show", "a.img", "pass"]), wanted);
+    assert_eq!(folder.good(&["show", "a.img", "PASS"]), wanted);
     folder.bad(
         &["show", "a.img", "GATE"],
         1,

@@ -10,8 +10,20 @@ use reference::generate::{aged, damage};
 use reference::random::Random;
 use reference::{soundness, State};
 
-/// A word of the debugging form of a rule: the plain words have none of them.
-const DEBUG_FORMS: [&str; 4] = ["([", "Sys", "Booked", "Area"];
+/// Words of the debugging form of a rule: the plain words have none of them, and no file's name is
+/// as long.
+const DEBUG_FORMS: [&str; 10] = [
+    "([",
+    "SysIndex",
+    "SysMissing",
+    "SysLength",
+    "SysInSlack",
+    "SysFirst",
+    "Booked",
+    "AreaTwice",
+    "AreaNotEntered",
+    "AreaOnCatalog",
+];
 
 /// Holds every command against an image that is not sound; the rule that is named.
 fn told(folder: &Folder) -> String {

@@ -95,7 +95,9 @@ impl Step {
     }
 }
 
-const NAMES: [&str; 8] = ["PASS", "GATE1", "GATE2", "TILL", "LOG", "A", "ZZZZZ", "SYS"];
+const NAMES: [&str; 11] = [
+    "PASS", "Pass", "GATE1", "GATE2", "gate2", "TILL", "LOG", "A", "ZZZZZ", "SYS", "sys",
+];
 
 fn arguments(parts: &[&str]) -> Vec<String> {
     parts.iter().map(|part| part.to_string()).collect()

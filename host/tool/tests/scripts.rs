@@ -301,6 +301,44 @@ fn the_end_of_a_file_is_told_by_its_kind() {
     }
 }
 
+/// Document 02, R-8: both are open at once, each with its own position and blocks.
+#[test]
+fn a_script_names_two_files_that_differ_in_case_only() {
+    let folder = small();
+    let script = "\
+init
+create PASS size=1 attributes=extendable
+create Pass attributes=extendable
+create-area PASS
+create-area Pass
+expect 4800h create-area pass
+reserve PASS sender=5
+reserve Pass sender=5 as=exclusive
+expect 4800h sense pass sender=5
+output Pass sender=5 text=\"small\"
+input PASS sender=5 show=text
+input Pass sender=5 block=0 show=text
+expect 0810h input PASS sender=5
+release PASS sender=5
+release Pass sender=5
+remove-area PASS
+remove-area Pass
+expect 1010h change Pass name=PASS
+change Pass name=pass
+list
+";
+    let done = run(&folder, script, &[]);
+    assert_eq!(done.status, 0, "{done:?}");
+    let lines: Vec<&str> = done.out.lines().collect();
+    let ends =
+        |line: usize, end: &str| assert!(lines[line - 1].ends_with(end), "{}", lines[line - 1]);
+    ends(11, "block=0 entries=0 text=\"\"");
+    ends(12, "block=0 entries=0 text=\"small\"");
+    ends(20, "entries=4 names=MAP,PASS,SYS,pass");
+    let absent = "line 2, look-up Pass: refused with 5000h";
+    bad(&folder, "init\nlook-up Pass\n", &[], 1, absent);
+}
+
 #[test]
 fn a_script_that_cannot_be_read_is_not_begun() {
     let folder = small();

@@ -111,6 +111,37 @@ fn a_file_that_is_entered_is_replaced_only_if_asked_for() {
     );
 }
 
+/// Document 02, R-8.
+#[test]
+fn files_whose_names_differ_in_case_only_have_their_own_bytes() {
+    let folder = folder();
+    let (large, small) = (bytes(1_500), bytes(700));
+    folder.write("large", &large);
+    folder.write("small", &small);
+    folder.good(&["put", "a.img", "PASS", "large"]);
+    folder.good(&["put", "a.img", "Pass", "small"]);
+    folder.good(&["put", "a.img", "sys", "small"]);
+    folder.good(&["check", "a.img"]);
+    let wanted = [
+        ("PASS", "1500", &large),
+        ("Pass", "700", &small),
+        ("sys", "700", &small),
+    ];
+    for (name, count, host) in wanted {
+        folder.good(&["get", "a.img", name, "out", "--bytes", count, "--force"]);
+        assert!(folder.read("out") == *host, "{name}");
+    }
+    let unknown = "create-area pass: refused with 4800h: the name does not stand in the catalog";
+    folder.bad(&["get", "a.img", "pass", "new"], 1, unknown);
+    // What replaces one leaves the other.
+    folder.good(&["put", "a.img", "Pass", "large", "--replace"]);
+    folder.good(&["get", "a.img", "PASS", "again", "--bytes", "1500"]);
+    assert!(folder.read("again") == large);
+    folder.good(&["rm", "a.img", "PASS"]);
+    folder.good(&["get", "a.img", "Pass", "last", "--bytes", "1500"]);
+    assert!(folder.read("last") == large);
+}
+
 #[test]
 fn a_file_of_fixed_length_is_replaced_where_the_length_is_known() {
     let folder = folder();

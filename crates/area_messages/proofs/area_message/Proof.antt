@@ -14,8 +14,8 @@ use Rattle.area_messages.proofs.area_message.Tie as tie
 alone : (c : tie.Else1) → anyOther Exclusive (c .before .before .before .before .before .before .before .before .before .before .args .sender) (c .before .before .area-at .result) ≡ false
 alone c = sym (c .before .any-other .ensures) ∙ c .if1 .left
 
-fold-requires : tie.Need-fold-requires
-fold-requires c κs = search needs
+stored-requires : tie.Need-stored-requires
+stored-requires c κs = search needs
 
 find-area-requires : tie.Need-find-area-requires
 find-area-requires c κs = search needs
@@ -33,12 +33,12 @@ returns : tie.Need-returns
 returns c =
     let found = c .before .before .before in
     let s = found .before .before .before .before in
-    message-shut (s .args .name) (s .pre) (s .args .sender) (s .args .operation) (found .before .fold .ensures .packed) (found .find-area .ensures .first) (c .before .enum-told .given .1) (c .reply .ensures)
+    message-shut (s .args .name) (s .pre) (s .args .sender) (s .args .operation) (found .before .stored .ensures .packed) (found .find-area .ensures .first) (c .before .enum-told .given .1) (c .reply .ensures)
 
 area-at-requires : tie.Need-area-at-requires
 area-at-requires c κs =
     let found = c .before .before .before in
-    area-low (c .before .before .before .before .before .before .before .pre .standing .represents .areas) (packed (found .before .fold .result)) (c .before .j .given .0 .0) (sym (found .find-area .ensures .first) ∙ c .before .j .given .1)
+    area-low (c .before .before .before .before .before .before .before .pre .standing .represents .areas) (packed (found .before .stored .result)) (c .before .j .given .0 .0) (sym (found .find-area .ensures .first) ∙ c .before .j .given .1)
 
 any-other-requires : tie.Need-any-other-requires
 any-other-requires c κs = search needs
@@ -52,7 +52,7 @@ returns-2 c =
     let at = a .before .before in
     let found = at .before .before in
     let s = found .before .before .before .before in
-    message-reserved (s .args .name) (s .pre) (s .args .sender) (s .args .operation) (found .before .fold .ensures .packed) (found .find-area .ensures .first) (at .j .given .1) (a .area-at .ensures)
+    message-reserved (s .args .name) (s .pre) (s .args .sender) (s .args .operation) (found .before .stored .ensures .packed) (found .find-area .ensures .first) (at .j .given .1) (a .area-at .ensures)
     (sym (c .before .before .any-other .ensures) ∙ c .before .if1 .taken) (c .reply2 .ensures)
 
 reply-requires-3 : tie.Need-reply-requires-3
@@ -65,7 +65,7 @@ returns-3 c =
     let at = a .before .before in
     let found = at .before .before in
     let s = found .before .before .before .before in
-    message-nobody (s .args .name) (s .pre) (s .args .sender) (s .args .operation) (found .before .fold .ensures .packed) (found .find-area .ensures .first) (at .j .given .1) (a .area-at .ensures) (alone one) (c .before .if2 .taken)
+    message-nobody (s .args .name) (s .pre) (s .args .sender) (s .args .operation) (found .before .stored .ensures .packed) (found .find-area .ensures .first) (at .j .given .1) (a .area-at .ensures) (alone one) (c .before .if2 .taken)
     (c .reply3 .ensures)
 
 is-known-requires : tie.Need-is-known-requires
@@ -81,7 +81,7 @@ returns-4 c =
     let at = a .before .before in
     let found = at .before .before in
     let s = found .before .before .before .before in
-    message-strange (s .args .name) (s .pre) (s .args .sender) (s .args .operation) (found .before .fold .ensures .packed) (found .find-area .ensures .first) (at .j .given .1) (a .area-at .ensures) (alone one) (c .before .before .before .if2 .left)
+    message-strange (s .args .name) (s .pre) (s .args .sender) (s .args .operation) (found .before .stored .ensures .packed) (found .find-area .ensures .first) (at .j .given .1) (a .area-at .ensures) (alone one) (c .before .before .before .if2 .left)
     (sym (c .before .before .is-known .ensures) ∙ not-true _ (c .before .if3 .taken)) (c .reply4 .ensures)
 
 operate-requires : tie.Need-operate-requires
@@ -91,7 +91,7 @@ operate-requires c κs =
     let at = a .before .before in
     let found = at .before .before in
     let s = found .before .before .before .before in
-    message-can (s .args .name) (s .pre) (s .args .sender) (s .args .operation) (found .before .fold .ensures .packed) (found .find-area .ensures .first) (at .j .given .1) (a .area-at .ensures)
+    message-can (s .args .name) (s .pre) (s .args .sender) (s .args .operation) (found .before .stored .ensures .packed) (found .find-area .ensures .first) (at .j .given .1) (a .area-at .ensures)
     (alone one) (c .before .before .before .before .if2 .left)
 
 same-length : tie.Need-same-length
@@ -107,14 +107,14 @@ returns-5 c =
     let at = a .before .before in
     let found = at .before .before in
     let s = found .before .before .before .before in
-    message-asked (s .args .name) (s .pre) (s .args .sender) (s .args .operation) (found .before .fold .ensures .packed) (found .find-area .ensures .first) (at .j .given .1) (a .area-at .ensures) (alone one) (c .before .before .before .before .before .before .before .before .before .if2 .left)
+    message-asked (s .args .name) (s .pre) (s .args .sender) (s .args .operation) (found .before .stored .ensures .packed) (found .find-area .ensures .first) (at .j .given .1) (a .area-at .ensures) (alone one) (c .before .before .before .before .before .before .before .before .before .if2 .left)
     (sym (c .before .before .before .before .before .before .before .before .is-known .ensures) ∙ not-false _ (c .before .before .before .before .before .before .before .if3 .left)) (c .before .before .before .before .operate .ensures)
 
 pub area-message-spec : {M : Type 1} → statement M
 area-message-spec =
     tie.close
     (tie.spec
-    fold-requires
+    stored-requires
     find-area-requires
     enum-known-j
     enum-told

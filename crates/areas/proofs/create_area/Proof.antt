@@ -7,8 +7,8 @@ use Rattle.areas.proofs.CreateLaws.{creates-none, creates-system, creat
 use Rattle.areas.proofs.create_area.Statement.{statement}
 use Rattle.areas.proofs.create_area.Tie as tie
 
-fold-requires : tie.Need-fold-requires
-fold-requires c κs = search needs
+stored-requires : tie.Need-stored-requires
+stored-requires c κs = search needs
 
 find-name-requires : tie.Need-find-name-requires
 find-name-requires c κs = searchable (represented-on (c .before .before .pre .standing))
@@ -22,7 +22,7 @@ enum-told c = search needs
 returns : tie.Need-returns
 returns c =
     let f = c .before .before in
-    creates-none _ _ (f .before .before .before .pre) (f .before .fold .ensures .packed) (f .find-name .ensures) (c .enum-told .given .1)
+    creates-none _ _ (f .before .before .before .pre) (f .before .stored .ensures .packed) (f .find-name .ensures) (c .enum-told .given .1)
 
 is-system-requires : tie.Need-is-system-requires
 is-system-requires c κs = search needs
@@ -32,7 +32,7 @@ returns-2 c =
     let test = c .before in
     let place = test .before .before in
     let f = place .before .before in
-    creates-system _ _ (f .before .before .before .pre) (f .before .fold .ensures .packed) (f .find-name .ensures) (place .place .given .1) (sym (test .is-system .ensures) ∙ c .if1 .taken)
+    creates-system _ _ (f .before .before .before .pre) (f .before .stored .ensures .packed) (f .find-name .ensures) (place .place .given .1) (sym (test .is-system .ensures) ∙ c .if1 .taken)
 
 is-open-requires : tie.Need-is-open-requires
 is-open-requires c κs = search needs
@@ -43,7 +43,7 @@ returns-3 c =
     let test = live .before .before in
     let place = test .before .before in
     let f = place .before .before in
-    creates-open _ _ (f .before .before .before .pre) (f .before .fold .ensures .packed) (f .find-name .ensures) (place .place .given .1)
+    creates-open _ _ (f .before .before .before .pre) (f .before .stored .ensures .packed) (f .find-name .ensures) (place .place .given .1)
     (sym (test .is-system .ensures) ∙ live .before .if1 .left) (sym (live .is-open .ensures) ∙ c .if2 .taken)
 
 vacant-area-of-requires : tie.Need-vacant-area-of-requires
@@ -63,7 +63,7 @@ returns-4 c =
     let test = live .before .before in
     let place = test .before .before in
     let f = place .before .before in
-    creates-full _ _ (f .before .before .before .pre) (f .before .fold .ensures .packed) (f .find-name .ensures) (place .place .given .1)
+    creates-full _ _ (f .before .before .before .pre) (f .before .stored .ensures .packed) (f .find-name .ensures) (place .place .given .1)
     (sym (test .is-system .ensures) ∙ live .before .if1 .left) (sym (live .is-open .ensures) ∙ shut .if2 .left)
     (sym (room .vacant-area-of .ensures .first) ∙ c .enum-told2 .given .1)
 
@@ -87,15 +87,15 @@ returns-5 c =
     let test = live .before .before in
     let place = test .before .before in
     let f = place .before .before in
-    creates-done _ _ (f .before .before .before .pre) (f .before .fold .ensures .packed) (f .find-name .ensures) (place .place .given .1)
+    creates-done _ _ (f .before .before .before .pre) (f .before .stored .ensures .packed) (f .find-name .ensures) (place .place .given .1)
     (sym (test .is-system .ensures) ∙ live .before .if1 .left) (sym (live .is-open .ensures) ∙ shut .if2 .left)
-    (sym (room .vacant-area-of .ensures .first) ∙ told .j .given .1) (f .before .fold .ensures) (size .entry-word .ensures) (index .entry-word2 .ensures) (c .open-area .ensures)
+    (sym (room .vacant-area-of .ensures .first) ∙ told .j .given .1) (f .before .stored .ensures) (size .entry-word .ensures) (index .entry-word2 .ensures) (c .open-area .ensures)
 
 pub create-area-spec : {M : Type 1} → statement M
 create-area-spec =
     tie.close
     (tie.spec
-    fold-requires
+    stored-requires
     find-name-requires
     enum-known-place
     enum-told

@@ -7,8 +7,8 @@ use Rattle.areas.proofs.RemoveLaws.{removes-system, removes-none, area-
 use Rattle.areas.proofs.remove_area.Statement.{statement}
 use Rattle.areas.proofs.remove_area.Tie as tie
 
-fold-requires : tie.Need-fold-requires
-fold-requires c κs = search needs
+stored-requires : tie.Need-stored-requires
+stored-requires c κs = search needs
 
 is-system-requires : tie.Need-is-system-requires
 is-system-requires c κs = search needs
@@ -16,7 +16,7 @@ is-system-requires c κs = search needs
 returns : tie.Need-returns
 returns c =
     let test = c .before in
-    removes-system _ _ (test .before .before .before .pre) (test .before .fold .ensures .packed) (sym (test .is-system .ensures) ∙ c .if1 .taken)
+    removes-system _ _ (test .before .before .before .pre) (test .before .stored .ensures .packed) (sym (test .is-system .ensures) ∙ c .if1 .taken)
 
 find-area-requires : tie.Need-find-area-requires
 find-area-requires c κs = search needs
@@ -31,7 +31,7 @@ returns-2 : tie.Need-returns-2
 returns-2 c =
     let search = c .before .before in
     let test = search .before .before in
-    removes-none _ _ (test .before .before .before .pre) (test .before .fold .ensures .packed) (sym (test .is-system .ensures) ∙ search .before .if1 .left)
+    removes-none _ _ (test .before .before .before .pre) (test .before .stored .ensures .packed) (sym (test .is-system .ensures) ∙ search .before .if1 .left)
     (sym (search .find-area .ensures .first) ∙ c .enum-told .given .1)
 
 area-at-requires : tie.Need-area-at-requires
@@ -40,7 +40,7 @@ area-at-requires c κs =
     let search = told .before .before in
     let test = search .before .before in
     let start = test .before .before .before in
-    area-inside _ (start .args .name) (start .pre) (test .before .fold .ensures .packed) (sym (test .is-system .ensures) ∙ search .before .if1 .left)
+    area-inside _ (start .args .name) (start .pre) (test .before .stored .ensures .packed) (sym (test .is-system .ensures) ∙ search .before .if1 .left)
     (sym (search .find-area .ensures .first) ∙ told .j .given .1)
 
 user-count-requires : tie.Need-user-count-requires
@@ -53,7 +53,7 @@ returns-3 c =
     let told = area .before .before in
     let search = told .before .before in
     let test = search .before .before in
-    removes-used _ _ (test .before .before .before .pre) (test .before .fold .ensures .packed) (sym (test .is-system .ensures) ∙ search .before .if1 .left)
+    removes-used _ _ (test .before .before .before .pre) (test .before .stored .ensures .packed) (sym (test .is-system .ensures) ∙ search .before .if1 .left)
     (sym (search .find-area .ensures .first) ∙ told .j .given .1) (area .area-at .ensures) (λ z. c .if2 .taken (count .user-count .ensures ∙ z))
 
 find-name-requires : tie.Need-find-name-requires
@@ -80,7 +80,7 @@ returns-4 c =
     let told = area .before .before in
     let search = told .before .before in
     let test = search .before .before in
-    removes-lost _ _ (test .before .before .before .pre) (test .before .fold .ensures .packed) (sym (test .is-system .ensures) ∙ search .before .if1 .left)
+    removes-lost _ _ (test .before .before .before .pre) (test .before .stored .ensures .packed) (sym (test .is-system .ensures) ∙ search .before .if1 .left)
     (sym (search .find-area .ensures .first) ∙ told .j .given .1) (area .area-at .ensures) (sym (count .user-count .ensures) ∙ alone .if2 .left) (f .find-name .ensures)
     (c .enum-told2 .given .1)
 
@@ -95,7 +95,7 @@ book-requires c κs =
     let search = told .before .before in
     let test = search .before .before in
     let start = test .before .before .before in
-    can-book _ (start .args .name) (start .pre) (test .before .fold .ensures .packed) (sym (test .is-system .ensures) ∙ search .before .if1 .left)
+    can-book _ (start .args .name) (start .pre) (test .before .stored .ensures .packed) (sym (test .is-system .ensures) ∙ search .before .if1 .left)
     (sym (search .find-area .ensures .first) ∙ told .j .given .1) (area .area-at .ensures) (sym (count .user-count .ensures) ∙ alone .if2 .left) (f .find-name .ensures)
     (place .place .given .1)
 
@@ -116,7 +116,7 @@ returns-5 c =
     let told = area .before .before in
     let search = told .before .before in
     let test = search .before .before in
-    removes-done _ _ (test .before .before .before .pre) (test .before .fold .ensures .packed) (sym (test .is-system .ensures) ∙ search .before .if1 .left)
+    removes-done _ _ (test .before .before .before .pre) (test .before .stored .ensures .packed) (sym (test .is-system .ensures) ∙ search .before .if1 .left)
     (sym (search .find-area .ensures .first) ∙ told .j .given .1) (area .area-at .ensures) (sym (count .user-count .ensures) ∙ alone .if2 .left) (f .find-name .ensures)
     (place .place .given .1) (booked .book .ensures) (c .close-area .ensures)
 
@@ -124,7 +124,7 @@ pub remove-area-spec : {M : Type 1} → statement M
 remove-area-spec =
     tie.close
     (tie.spec
-    fold-requires
+    stored-requires
     is-system-requires
     returns
     find-area-requires

@@ -8,8 +8,8 @@ use Rattle.change.proofs.ChangeLaws.{changes-none, changes-short, chang
 use Rattle.change.proofs.change.Statement.{statement}
 use Rattle.change.proofs.change.Tie as tie
 
-fold-requires : tie.Need-fold-requires
-fold-requires c κs = search needs
+stored-requires : tie.Need-stored-requires
+stored-requires c κs = search needs
 
 find-name-requires : tie.Need-find-name-requires
 find-name-requires c κs = searchable (represented-on (c .before .before .before .before .pre .standing))
@@ -27,7 +27,7 @@ returns : tie.Need-returns
 returns c =
     let f = c .before .before in
     let a = f .before .before .before .before .before in
-    changes-none _ (a .args .name) (a .args .lent .now) (a .pre) (f .before .before .fold .ensures .packed) (f .find-name .ensures) (c .enum-told .given .1)
+    changes-none _ (a .args .name) (a .args .lent .now) (a .pre) (f .before .before .stored .ensures .packed) (f .find-name .ensures) (c .enum-told .given .1)
 
 same-length-2 : tie.Need-same-length-2
 same-length-2 c = search needs
@@ -37,7 +37,7 @@ returns-2 c =
     let place = c .before .before in
     let f = place .before .before in
     let a = f .before .before .before .before .before in
-    changes-short _ (a .args .name) (a .args .lent .now) (a .pre) (f .before .before .fold .ensures .packed) (f .find-name .ensures) (place .place .given .1) (c .if1 .taken)
+    changes-short _ (a .args .name) (a .args .lent .now) (a .pre) (f .before .before .stored .ensures .packed) (f .find-name .ensures) (place .place .given .1) (c .if1 .taken)
 
 is-system-requires : tie.Need-is-system-requires
 is-system-requires c κs = search needs
@@ -52,7 +52,7 @@ returns-3 c =
     let place = long .before .before in
     let f = place .before .before in
     let a = f .before .before .before .before .before in
-    changes-system _ (a .args .name) (a .args .lent .now) (a .pre) (f .before .before .fold .ensures .packed) (f .find-name .ensures) (place .place .given .1) (omega (arith, long .if1 .left)) (sym (test .is-system .ensures) ∙ c .if2 .taken)
+    changes-system _ (a .args .name) (a .args .lent .now) (a .pre) (f .before .before .stored .ensures .packed) (f .find-name .ensures) (place .place .given .1) (omega (arith, long .if1 .left)) (sym (test .is-system .ensures) ∙ c .if2 .taken)
 
 is-open-requires : tie.Need-is-open-requires
 is-open-requires c κs = search needs
@@ -69,7 +69,7 @@ returns-4 c =
     let place = long .before .before in
     let f = place .before .before in
     let a = f .before .before .before .before .before in
-    changes-open _ (a .args .name) (a .args .lent .now) (a .pre) (f .before .before .fold .ensures .packed) (f .find-name .ensures) (place .place .given .1) (omega (arith, long .if1 .left)) (sym (test .is-system .ensures) ∙ own .if2 .left) (sym (live .is-open .ensures) ∙ c .if3 .taken)
+    changes-open _ (a .args .name) (a .args .lent .now) (a .pre) (f .before .before .stored .ensures .packed) (f .find-name .ensures) (place .place .given .1) (omega (arith, long .if1 .left)) (sym (test .is-system .ensures) ∙ own .if2 .left) (sym (live .is-open .ensures) ∙ c .if3 .taken)
 
 change-file-requires : tie.Need-change-file-requires
 change-file-requires c κs =
@@ -81,7 +81,7 @@ change-file-requires c κs =
     let place = long .before .before in
     let f = place .before .before in
     let a = f .before .before .before .before .before in
-    can-change-file _ (a .args .name) (a .args .lent .now) (a .pre) (f .before .before .fold .ensures .packed) (f .find-name .ensures) (place .place .given .1) (omega (arith, long .if1 .left)) (sym (test .is-system .ensures) ∙ own .if2 .left)
+    can-change-file _ (a .args .name) (a .args .lent .now) (a .pre) (f .before .before .stored .ensures .packed) (f .find-name .ensures) (place .place .given .1) (omega (arith, long .if1 .left)) (sym (test .is-system .ensures) ∙ own .if2 .left)
     (sym (live .is-open .ensures) ∙ shut .if3 .left)
 
 same-length-5 : tie.Need-same-length-5
@@ -98,14 +98,14 @@ returns-5 c =
     let place = long .before .before in
     let f = place .before .before in
     let a = f .before .before .before .before .before in
-    changes-file _ (a .args .name) (a .args .lent .now) (a .pre) (f .before .before .fold .ensures .packed) (f .find-name .ensures) (place .place .given .1) (omega (arith, long .if1 .left)) (sym (test .is-system .ensures) ∙ own .if2 .left)
+    changes-file _ (a .args .name) (a .args .lent .now) (a .pre) (f .before .before .stored .ensures .packed) (f .find-name .ensures) (place .place .given .1) (omega (arith, long .if1 .left)) (sym (test .is-system .ensures) ∙ own .if2 .left)
     (sym (live .is-open .ensures) ∙ shut .if3 .left) (changed .change-file .ensures)
 
 pub change-spec : {M : Type 1} → statement M
 change-spec =
     tie.close
     (tie.spec
-    fold-requires
+    stored-requires
     find-name-requires
     enum-known-place
     enum-told

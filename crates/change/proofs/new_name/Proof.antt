@@ -20,14 +20,14 @@ shared-slice-read-t8 c = search needs
 shared-slice-read-t10 : tie.Need-shared-slice-read-t10
 shared-slice-read-t10 c = search needs
 
-fold-requires : tie.Need-fold-requires
-fold-requires c κs = search needs
+stored-requires : tie.Need-stored-requires
+stored-requires c κs = search needs
 
 returns-2 : tie.Need-returns-2
 returns-2 c =
     let other = c .before .before .before .before in
     let a = other .before .before .before .args in
-    name-new _ (a .lent .now) (other .if1 .left) (c .fold .ensures)
+    name-new _ (a .lent .now) (other .if1 .left) (c .stored .ensures)
 
 pub new-name-spec : {M : Type 1} → statement M
 new-name-spec =
@@ -38,5 +38,5 @@ new-name-spec =
     shared-slice-read-t4
     shared-slice-read-t8
     shared-slice-read-t10
-    fold-requires
+    stored-requires
     returns-2)

@@ -5,8 +5,8 @@ use Rattle.create.proofs.MessageLaws.{creates}
 use Rattle.create.proofs.create.Statement.{statement}
 use Rattle.create.proofs.create.Tie as tie
 
-fold-requires : tie.Need-fold-requires
-fold-requires c κs = search needs
+stored-requires : tie.Need-stored-requires
+stored-requires c κs = search needs
 
 slice-aggregate-new-file : tie.Need-slice-aggregate-new-file
 slice-aggregate-new-file c = search needs
@@ -20,11 +20,11 @@ same-length c = search needs
 returns : tie.Need-returns
 returns c =
     let made = c .before .before in
-    let folded = made .before .before in
-    let start = folded .before .before .before in
-    creates (start .args .name) (folded .fold .ensures .packed) (made .new-file .ensures) (start .pre) refl refl
+    let stored = made .before .before in
+    let start = stored .before .before .before in
+    creates (start .args .name) (stored .stored .ensures .packed) (made .new-file .ensures) (start .pre) refl refl
 
 pub create-spec : {M : Type 1} → statement M
 create-spec =
     tie.close
-    (tie.spec fold-requires slice-aggregate-new-file new-file-requires same-length returns)
+    (tie.spec stored-requires slice-aggregate-new-file new-file-requires same-length returns)

@@ -8,8 +8,8 @@ use Rattle.create.proofs.set.Tie as tie
 returns : tie.Need-returns
 returns c = let start = c .before .before .before in sets-short (start .args .name) (start .args .lent .now) (start .pre) (c .if1 .taken)
 
-fold-requires : tie.Need-fold-requires
-fold-requires c κs = search needs
+stored-requires : tie.Need-stored-requires
+stored-requires c κs = search needs
 
 shared-slice-read-new-file : tie.Need-shared-slice-read-new-file
 shared-slice-read-new-file c = search needs
@@ -26,17 +26,17 @@ same-length c = search needs
 returns-2 : tie.Need-returns-2
 returns-2 c =
     let made = c .before .before in
-    let folded = made .before .before .before in
-    let left = folded .before .before in
+    let stored = made .before .before .before in
+    let left = stored .before .before in
     let start = left .before .before .before in
-    sets (start .args .name) (start .pre) (folded .fold .ensures .packed) (omega (arith, left .if1 .left)) (made .new-file .ensures)
+    sets (start .args .name) (start .pre) (stored .stored .ensures .packed) (omega (arith, left .if1 .left)) (made .new-file .ensures)
 
 pub set-spec : {M : Type 1} → statement M
 set-spec =
     tie.close
     (tie.spec
     returns
-    fold-requires
+    stored-requires
     shared-slice-read-new-file
     shared-slice-read-new-file-2
     new-file-requires

@@ -1,8 +1,9 @@
 -- `numbers::key` meets its contract: the carries dropped at each sum are those dropped from the whole. Assumes nothing.
-use mathlib.Core.Path.{sym, ap, _∙_}
-use Prim.Native.Nat.{ℕ, _%_}
+use mathlib.Core.Path.{_≡_, sym, ap, _∙_}
+use Prim.Native.Nat.{ℕ, _+_, _%_, _<_}
 use native.Mathlib.Omega.{arith}
 use borrow.Author.Needs.{needs}
+use Rattle.disc.specs.Names.{pack, keyOf}
 use Rattle.disc.proofs.NameLaws.{key-pack}
 use Rattle.numbers.proofs.key.Statement.{statement}
 use Rattle.numbers.proofs.key.Tie as tie
@@ -16,11 +17,12 @@ wrapping-add-u16-requires-2 c κs = search needs
 rem-result : tie.Need-rem-result
 rem-result c = search needs
 
+by-sums : (a b c h : ℕ) {first second : ℕ} → b < 65536 → c < 65536 → first ≡ (a + b) % 65536 → second ≡ (first + c) % 65536
+    → second % h ≡ keyOf h (pack a b c)
+by-sums a b c h p q e f = sym (key-pack a b c h p q ∙ ap (λ (x : ℕ). x % h) (omega arith))
+
 returns : tie.Need-returns
-returns c =
-    let n = c .before .before .args .name in
-    let h = c .before .before .args .h in
-    sym (key-pack (n .0) (n .1) (n .2) h (omega arith) (omega arith) ∙ ap (λ (x : ℕ). x % h) (omega arith))
+returns c = by-sums _ _ _ _ (search needs) (search needs) (c .before .wrapping-add-u16 .ensures) (c .wrapping-add-u162 .ensures)
 
 pub key-spec : {M : Type 1} → statement M
 key-spec = tie.close (tie.spec wrapping-add-u16-requires wrapping-add-u16-requires-2 rem-result returns)

@@ -8,8 +8,8 @@ use Rattle.remove.proofs.RemoveLaws.{removes-none, removes-system, remo
 use Rattle.remove.proofs.remove.Statement.{statement}
 use Rattle.remove.proofs.remove.Tie as tie
 
-fold-requires : tie.Need-fold-requires
-fold-requires c κs = search needs
+stored-requires : tie.Need-stored-requires
+stored-requires c κs = search needs
 
 find-name-requires : tie.Need-find-name-requires
 find-name-requires c κs = searchable (represented-on (c .before .before .before .pre .standing))
@@ -26,7 +26,7 @@ same-length c = search needs
 returns : tie.Need-returns
 returns c =
     let f = c .before .before in
-    removes-none _ _ (f .before .before .before .before .pre) (f .before .before .fold .ensures .packed) (f .find-name .ensures) (c .enum-told .given .1)
+    removes-none _ _ (f .before .before .before .before .pre) (f .before .before .stored .ensures .packed) (f .find-name .ensures) (c .enum-told .given .1)
 
 is-system-requires : tie.Need-is-system-requires
 is-system-requires c κs = search needs
@@ -39,7 +39,7 @@ returns-2 c =
     let test = c .before in
     let place = test .before .before in
     let f = place .before .before in
-    removes-system _ _ (f .before .before .before .before .pre) (f .before .before .fold .ensures .packed) (f .find-name .ensures) (place .place .given .1) (sym (test .is-system .ensures) ∙ c .if1 .taken)
+    removes-system _ _ (f .before .before .before .before .pre) (f .before .before .stored .ensures .packed) (f .find-name .ensures) (place .place .given .1) (sym (test .is-system .ensures) ∙ c .if1 .taken)
 
 is-open-requires : tie.Need-is-open-requires
 is-open-requires c κs = search needs
@@ -53,7 +53,7 @@ returns-3 c =
     let test = live .before .before in
     let place = test .before .before in
     let f = place .before .before in
-    removes-open _ _ (f .before .before .before .before .pre) (f .before .before .fold .ensures .packed) (f .find-name .ensures) (place .place .given .1)
+    removes-open _ _ (f .before .before .before .before .pre) (f .before .before .stored .ensures .packed) (f .find-name .ensures) (place .place .given .1)
     (sym (test .is-system .ensures) ∙ live .before .if1 .left) (sym (live .is-open .ensures) ∙ c .if2 .taken)
 
 entry-word-requires : tie.Need-entry-word-requires
@@ -74,7 +74,7 @@ returns-4 c =
     let test = live .before .before in
     let place = test .before .before in
     let f = place .before .before in
-    removes-permanent _ _ (f .before .before .before .before .pre) (f .before .before .fold .ensures .packed) (f .find-name .ensures) (place .place .given .1)
+    removes-permanent _ _ (f .before .before .before .before .pre) (f .before .before .stored .ensures .packed) (f .find-name .ensures) (place .place .given .1)
     (sym (test .is-system .ensures) ∙ live .before .if1 .left) (sym (live .is-open .ensures) ∙ shut .if2 .left)
     (ap (bit 11) (sym (word .entry-word .ensures)) ∙ sym (bits .bit .ensures) ∙ c .if3 .taken)
 
@@ -88,7 +88,7 @@ drop-file-requires c κs =
     let place = test .before .before in
     let f = place .before .before in
     let start = f .before .before .before .before in
-    can-drop _ (start .args .name) (start .pre) (f .before .before .fold .ensures .packed) (f .find-name .ensures) (place .place .given .1)
+    can-drop _ (start .args .name) (start .pre) (f .before .before .stored .ensures .packed) (f .find-name .ensures) (place .place .given .1)
     (sym (test .is-system .ensures) ∙ live .before .if1 .left) (sym (live .is-open .ensures) ∙ shut .if2 .left)
 
 same-length-5 : tie.Need-same-length-5
@@ -105,7 +105,7 @@ returns-5 c =
     let test = live .before .before in
     let place = test .before .before in
     let f = place .before .before in
-    removes-done _ _ (f .before .before .before .before .pre) (f .before .before .fold .ensures .packed) (f .find-name .ensures) (place .place .given .1)
+    removes-done _ _ (f .before .before .before .before .pre) (f .before .before .stored .ensures .packed) (f .find-name .ensures) (place .place .given .1)
     (sym (test .is-system .ensures) ∙ live .before .if1 .left) (sym (live .is-open .ensures) ∙ shut .if2 .left)
     (ap (bit 11) (sym (word .entry-word .ensures)) ∙ sym (bits .bit .ensures) ∙ left .if3 .left) (dropped .drop-file .ensures)
 
@@ -113,7 +113,7 @@ pub remove-spec : {M : Type 1} → statement M
 remove-spec =
     tie.close
     (tie.spec
-    fold-requires
+    stored-requires
     find-name-requires
     enum-known-place
     enum-told

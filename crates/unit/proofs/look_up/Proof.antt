@@ -7,8 +7,8 @@ use Rattle.unit.proofs.LookUpLaws.{looks-none, looks-short, looks-done}
 use Rattle.unit.proofs.look_up.Statement.{statement}
 use Rattle.unit.proofs.look_up.Tie as tie
 
-fold-requires : tie.Need-fold-requires
-fold-requires c κs = search needs
+stored-requires : tie.Need-stored-requires
+stored-requires c κs = search needs
 
 find-name-requires : tie.Need-find-name-requires
 find-name-requires c κs = searchable (c .before .before .before .pre .opened)
@@ -22,13 +22,13 @@ enum-told c = search needs
 returns : tie.Need-returns
 returns c =
     let f = c .before .before in
-    looks-none _ _ (f .before .before .before .before .pre) (f .before .fold .ensures .packed) (f .find-name .ensures) (c .enum-told .given .1)
+    looks-none _ _ (f .before .before .before .before .pre) (f .before .stored .ensures .packed) (f .find-name .ensures) (c .enum-told .given .1)
 
 returns-2 : tie.Need-returns-2
 returns-2 c =
     let place = c .before .before in
     let f = place .before .before in
-    looks-short _ _ (f .before .before .before .before .pre) (f .before .fold .ensures .packed) (f .find-name .ensures) (place .place .given .1) (c .if1 .taken)
+    looks-short _ _ (f .before .before .before .before .pre) (f .before .stored .ensures .packed) (f .find-name .ensures) (place .place .given .1) (c .if1 .taken)
 
 read-entry-requires : tie.Need-read-entry-requires
 read-entry-requires c κs =
@@ -44,13 +44,13 @@ returns-3 c =
     let e = c .before .before in
     let place = e .before .before .before .before in
     let f = place .before .before in
-    looks-done _ _ (f .before .before .before .before .pre) (f .before .fold .ensures .packed) (f .find-name .ensures) (place .place .given .1) (e .before .before .if1 .left) (e .read-entry .ensures)
+    looks-done _ _ (f .before .before .before .before .pre) (f .before .stored .ensures .packed) (f .find-name .ensures) (place .place .given .1) (e .before .before .if1 .left) (e .read-entry .ensures)
 
 pub look-up-spec : {M : Type 1} → statement M
 look-up-spec =
     tie.close
     (tie.spec
-    fold-requires
+    stored-requires
     find-name-requires
     enum-known-place
     enum-told

@@ -6,6 +6,8 @@
 //!   [`fill_vacant`] fills what is vacant in its state, and [`unit()`] does some of all this.
 //! * [`shaped`] writes a unit of a given shape, for measurements; [`add_file`] adds a file with
 //!   given slices.
+//! * [`name()`] and [`names()`] make legal names, many of them in two cases, [`other_case`] one that
+//!   differs from another in case only.
 //! * [`Caller`] makes calls, most of them accepted; [`raw()`] makes a call the words that a C
 //!   program sends, their number at times no call's.
 //! * [`format_call`] makes calls of Format, [`damage()`] breaks an image or a state.
@@ -35,10 +37,10 @@ mod shapes;
 mod words;
 
 pub use areas::{fill_vacant, open_areas};
-pub use calls::{Call, Caller};
+pub use calls::{open_names, Call, Caller};
 pub use damage::damage;
 pub use formats::{format_call, FormatCall};
-pub use names::{name, names};
+pub use names::{differ_in_case, name, name_in_capitals, names, other_case};
 pub use past::{aged, crowded};
 pub use raw::{raw, RawCall};
 pub use records::{formatted, fresh, large_record, record, unformatted};

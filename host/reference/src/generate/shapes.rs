@@ -1,7 +1,7 @@
 //! Units of a given shape, and files with given slices.
 
 use super::builder::Builder;
-use super::names::name;
+use super::names::name_in_capitals;
 use super::Unit;
 use crate::layout::ENTRY;
 use crate::random::Random;
@@ -75,10 +75,11 @@ fn in_stretches(random: &mut Random, free: Vec<usize>, length: usize) -> Vec<usi
     parts.concat()
 }
 
-/// Adds a file that has these slices, with a name that is not entered and whose key has room.
+/// Adds a file that has these slices, with a name that is not entered and whose key has room: in
+/// capitals, so that a library of before R-8 can be measured with the unit.
 fn add_some_file(random: &mut Random, builder: &mut Builder, slices: &[usize]) {
     loop {
-        let name = name(random);
+        let name = name_in_capitals(random);
         if builder.file_of(random, name, 1, slices) {
             break;
         }

@@ -127,7 +127,7 @@ impl Plain {
     }
 }
 
-/// The open areas by name: legal, in capitals, distinct.
+/// The open areas by name: legal, sixth character 0, distinct.
 fn named_areas(state: &State) -> Result<BTreeMap<String, Area>, String> {
     let mut areas = BTreeMap::new();
     for area in open_areas(state) {

@@ -1,4 +1,4 @@
-//! Names: legal, in capitals, as a text.
+//! Names: legal, and as a text.
 
 use crate::types::Name;
 
@@ -7,7 +7,8 @@ pub(super) fn unit_in(name: Name) -> u16 {
     name[2] % 256
 }
 
-/// The text of a legal name, in capitals.
+/// The text of a legal name: its characters as they are, so that two texts are equal only when all
+/// five characters are.
 pub(super) fn text(name: Name) -> Option<String> {
     let bytes: Vec<u8> = vec![
         (name[0] / 256) as u8,
@@ -25,10 +26,7 @@ pub(super) fn text(name: Name) -> Option<String> {
     if !first || !all || rest.iter().any(|&byte| byte != 0) {
         return None;
     }
-    let capitals = used
-        .iter()
-        .map(|&byte| if byte >= 97 { byte - 32 } else { byte } as char);
-    Some(capitals.collect())
+    Some(used.iter().map(|&byte| byte as char).collect())
 }
 
 /// The words of a name's text, sixth character 0.

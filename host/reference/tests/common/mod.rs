@@ -3,7 +3,7 @@
 
 use std::collections::BTreeMap;
 
-use reference::generate::{Call, Caller, Unit};
+use reference::generate::{differ_in_case, Call, Caller, Unit};
 use reference::layout::{name_of, stretches};
 use reference::pairs::{call_name, Counts};
 use reference::plain::{image_after, state_after, Plain};
@@ -30,7 +30,7 @@ impl Tally {
 
     /// Notes what an accepted call has done to the plain unit.
     fn note(&mut self, message: &Message, before: &Plain, after: &Plain) {
-        let mut events = Vec::new();
+        let mut events = case_events(before, after);
         let grows = after.layers > before.layers;
         let takes = after.sys.len() > before.sys.len();
         if grows {
@@ -131,6 +131,29 @@ impl Tally {
             *self.events.entry(event).or_default() += 1;
         }
     }
+}
+
+/// What a call that was accepted has done with names that differ in case only.
+fn case_events(before: &Plain, after: &Plain) -> Vec<&'static str> {
+    let differ = |one: &str, other: &str| differ_in_case(name_of(one, 0), name_of(other, 0));
+    let beside = |new: &String, old: &[String]| old.iter().any(|other| differ(new, other));
+    let (old, new) = (before.names(), after.names());
+    let gone: Vec<&String> = old.iter().filter(|name| !new.contains(name)).collect();
+    let come: Vec<&String> = new.iter().filter(|name| !old.contains(name)).collect();
+    let open: Vec<String> = before.areas.keys().cloned().collect();
+    let mut opened = after.areas.keys().filter(|name| !open.contains(name));
+    let renamed = gone.first().zip(come.first());
+    let mut events = Vec::new();
+    if renamed.is_some_and(|(old, new)| differ(old, new)) {
+        events.push("Change: renamed, in case only");
+    }
+    if gone.is_empty() && come.iter().any(|name| beside(name, &old)) {
+        events.push("Create: beside a name in another case");
+    }
+    if opened.any(|name| beside(name, &open)) {
+        events.push("Create area: beside one in another case");
+    }
+    events
 }
 
 /// The state but for the sender's positions.

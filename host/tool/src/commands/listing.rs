@@ -19,7 +19,7 @@ pub const LS: Command = Command {
     summary: "List the files",
     about:
         "Lengths and reserved lengths are in sectors. The order is the listing's: by name, digits\n\
-            before letters, SYS and MAP in their places.",
+            before letters, capitals before small letters, SYS and MAP in their places.",
     run: ls,
 };
 

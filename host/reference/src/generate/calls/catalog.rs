@@ -3,9 +3,9 @@
 use super::choice::{any_attributes, any_unit, entry_lent, needless_lent};
 use super::{open_names, Call, Caller, Kind, Mix};
 use crate::generate::builder::attributes;
-use crate::generate::names::in_message;
+use crate::generate::names::{differ_in_case, in_message, other_case};
 use crate::random::Random;
-use crate::sound::survey;
+use crate::sound::{survey, Entry};
 use crate::types::{Area, Message, Name, State};
 
 impl Caller {
@@ -64,21 +64,32 @@ impl Caller {
     /// Change Entry.
     fn change(&self, random: &mut Random, image: &[u16], state: &State) -> Call {
         let mut lent = entry_lent(random);
-        if lent.len() >= 10 {
-            self.fill_change(random, image, state, &mut lent);
-        }
         let name = self.standing(random, image, state, true);
+        if lent.len() >= 10 {
+            self.fill_change(random, image, state, name, &mut lent);
+        }
         let message = Message::Change { name };
         Call { message, lent }
     }
 
     /// Writes the name, the attributes and the length that Change Entry shall set or keep.
-    fn fill_change(&self, random: &mut Random, image: &[u16], state: &State, lent: &mut [u16]) {
+    fn fill_change(
+        &self,
+        random: &mut Random,
+        image: &[u16],
+        state: &State,
+        name: Name,
+        lent: &mut [u16],
+    ) {
         let keeps = if self.mix == Mix::Fill { 20 } else { 50 };
         if random.chance(keeps) {
             lent[0] = 0;
         } else {
-            let new = self.unused(random, image, state);
+            let new = match random.below(10) {
+                0 | 1 => other_case(random, name),
+                2 => self.standing(random, image, state, false),
+                _ => self.unused(random, image, state),
+            };
             lent[..3].copy_from_slice(&new);
         }
         lent[6] = if random.chance(50) {
@@ -99,13 +110,17 @@ impl Caller {
         }
     }
 
-    /// Create Area Process, often for a file that has slices.
+    /// Create Area Process, often for a file that has slices or whose name differs in case only from
+    /// an open one.
     fn create_area(&self, random: &mut Random, image: &[u16], state: &State) -> Message {
-        let long: Vec<Name> = survey(image, state).map_or(vec![], |survey| {
-            let long = survey.entries.iter().filter(|e| !e.slices.is_empty());
-            long.map(|entry| entry.name()).collect()
-        });
-        let name = if !long.is_empty() && random.chance(60) {
+        let entries = survey(image, state).map_or(vec![], |survey| survey.entries);
+        let is_long = |entry: &&Entry| !entry.slices.is_empty();
+        let long: Vec<Name> = entries.iter().filter(is_long).map(Entry::name).collect();
+        let beside = beside_open(state, entries.iter().map(Entry::name));
+        let name = if !beside.is_empty() && random.chance(40) {
+            let name = random.pick(&beside);
+            in_message(random, name, state.unit)
+        } else if !long.is_empty() && random.chance(60) {
             let name = random.pick(&long);
             in_message(random, name, state.unit)
         } else {
@@ -131,6 +146,14 @@ impl Caller {
         };
         Message::RemoveArea { name }
     }
+}
+
+/// Those of the names that are not open and differ from an open one in case only.
+fn beside_open(state: &State, names: impl Iterator<Item = Name>) -> Vec<Name> {
+    let open = open_names(state);
+    let is_beside = |name: &Name| open.iter().any(|other| differ_in_case(*name, *other));
+    let closed = names.filter(|name| !open.contains(name));
+    closed.filter(is_beside).collect()
 }
 
 /// Get Unit Description.

@@ -2,7 +2,7 @@
 
 use super::{names_in, Caller, Mix, Sizes};
 use crate::generate::builder::attributes;
-use crate::generate::names::in_message;
+use crate::generate::names::{in_message, in_two_cases, other_case};
 use crate::layout::{bit_word, Kit, KIT, MAP, SECTOR, SYS};
 use crate::random::Random;
 use crate::sound::survey;
@@ -19,10 +19,16 @@ impl Caller {
         in_message(random, name, unit)
     }
 
-    /// A name that does not stand in the catalog, most of the time.
+    /// A name that does not stand in the catalog, most of the time, and often differs from one that
+    /// stands in case only.
     pub(super) fn unused(&self, random: &mut Random, image: &[u16], state: &State) -> Name {
         if random.chance(60) {
             if let Ok(survey) = survey(image, state) {
+                if random.chance(20) {
+                    let standing = random.pick(&names_in(&survey));
+                    let name = other_case(random, standing);
+                    return in_message(random, name, state.unit);
+                }
                 let mut names = self.names.clone();
                 names.retain(|name| survey.find(*name).is_none());
                 return self.one_of(random, &names, state.unit);
@@ -31,7 +37,8 @@ impl Caller {
         self.name(random, state.unit)
     }
 
-    /// A name that stands in the catalog, most of the time; `files` leaves SYS and MAP out.
+    /// A name that stands in the catalog, most of the time, and often beside one that differs in case
+    /// only; `files` leaves SYS and MAP out.
     pub(super) fn standing(
         &self,
         random: &mut Random,
@@ -42,6 +49,9 @@ impl Caller {
         if random.chance(80) {
             if let Ok(survey) = survey(image, state) {
                 let mut names = names_in(&survey);
+                if random.chance(25) {
+                    names = in_two_cases(&names);
+                }
                 names.retain(|name| !files || (*name != SYS && *name != MAP));
                 return self.one_of(random, &names, state.unit);
             }

@@ -193,7 +193,7 @@ fn names_in(survey: &Survey) -> Vec<Name> {
 }
 
 /// The names of the open area processes.
-fn open_names(state: &State) -> Vec<Name> {
+pub fn open_names(state: &State) -> Vec<Name> {
     let open = state.areas.iter().filter(|area| area.live);
     open.map(|area| area.name).collect()
 }

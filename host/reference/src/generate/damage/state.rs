@@ -1,6 +1,7 @@
 //! Damage to a state.
 
 use crate::generate::areas::ROLES;
+use crate::generate::names::other_case;
 use crate::generate::words::alter;
 use crate::layout::{MAP, SYS};
 use crate::random::Random;
@@ -50,7 +51,8 @@ fn damage_area(
             "a name word"
         }
         2 => {
-            area.name = random.pick(&[SYS, MAP, other_name]);
+            let in_case = other_case(random, area.name);
+            area.name = random.pick(&[SYS, MAP, other_name, in_case]);
             "the name"
         }
         3 => {

@@ -1,5 +1,6 @@
 //! Changes of several words that keep some rules and break others.
 
+use crate::generate::names::{illegal, other_case};
 use crate::generate::words::{first_word, write_pairs};
 use crate::layout::*;
 use crate::random::Random;
@@ -10,7 +11,7 @@ use crate::unit::mark;
 type Change = fn(&mut Random, &mut [u16], &Survey, &Entry) -> String;
 
 /// The changes.
-const CHANGES: [Change; 11] = [
+const CHANGES: [Change; 13] = [
     turn_slice,
     move_entry,
     split_or_exchange_pairs,
@@ -22,6 +23,8 @@ const CHANGES: [Change; 11] = [
     stretch_pair,
     move_sys_to_slack,
     copy_to_slack,
+    change_character,
+    change_case,
 ];
 
 /// Makes a change that keeps some rules of a sound image and breaks others.
@@ -216,6 +219,32 @@ fn copy_to_slack(_: &mut Random, image: &mut [u16], survey: &Survey, entry: &Ent
     let sector = kit.sys_sector(&survey.sys, blocks - 1);
     image[sector * SECTOR..][..ENTRY].copy_from_slice(&entry.words);
     "an entry in the slack".into()
+}
+
+/// A character of a name becomes one that no name has.
+fn change_character(random: &mut Random, image: &mut [u16], _: &Survey, entry: &Entry) -> String {
+    let place = random.below(5);
+    let word = &mut image[first_word(entry) + place / 2];
+    let mut characters = word.to_be_bytes();
+    characters[place % 2] = illegal(random);
+    *word = u16::from_be_bytes(characters);
+    format!("character {place} of a name becomes an illegal one")
+}
+
+/// Letters of a name become small where they were capitals, or the reverse; at times the entry moves
+/// to the first place of its new key. The unit stays sound where it stands in its key's sector, is
+/// alone of its name and was not SYS or MAP.
+fn change_case(random: &mut Random, image: &mut [u16], survey: &Survey, entry: &Entry) -> String {
+    let new = other_case(random, entry.name());
+    let from = first_word(entry);
+    image[from..from + 3].copy_from_slice(&new);
+    let sector = survey.kit.sys_sector(&survey.sys, key(new, survey.kit.h));
+    let to = sector * SECTOR;
+    if random.chance(50) && image[to..to + ENTRY] == [0; ENTRY] {
+        image.copy_within(from..from + ENTRY, to);
+        image[from..from + ENTRY].fill(0);
+    }
+    "a name changes in case only".into()
 }
 
 /// The sector of a file's own index, if it has slices.
