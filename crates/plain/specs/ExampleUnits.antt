@@ -161,10 +161,6 @@ heldUnit = record {
   areas = [];
 }
 
--- 'A' has two blocks, A0h and A1h, in slices 2 and 3.
-abbrev pub twoBlocks : File
-twoBlocks = fileWith 1 (2 ∷ 3 ∷ []) (sectorOf 0xA0 ∷ sectorOf 0xA1 ∷ [])
-
 -- H = 3: SYS and MAP are of key 0, and sixteen files take all places of key 1. Slices 3, 4 and 5 are free.
 abbrev pub keyFull : Plain
 keyFull = record {
@@ -178,6 +174,10 @@ keyFull = record {
   files = crowd 0x4141 0x5A5A 16;
   areas = [];
 }
+
+-- 'A' has two blocks, A0h and A1h, in slices 2 and 3.
+abbrev pub twoBlocks : File
+twoBlocks = fileWith 1 (2 ∷ 3 ∷ []) (sectorOf 0xA0 ∷ sectorOf 0xA1 ∷ [])
 
 -- Areas 'A', with one user, and 'B', with an exclusive user; 'C' is not open.
 abbrev pub openUnit : Plain
