@@ -10,6 +10,7 @@ use Rattle.disc.specs.Names.{pack, letter, digit, zeros, restLegal, legalName}
 use Rattle.disc.proofs.Compare.{same-or}
 use Rattle.disc.proofs.NameLaws.{pack-char0, pack-char1, pack-char2, pack-char3, pack-char4, pack-char5}
 use Rattle.names.specs.Classes.{classOf}
+use Rattle.names.proofs.LegalLaws.{or-false}
 
 -- ---- the three classes
 
@@ -29,11 +30,8 @@ module _ (c : ℕ) (d : c ≡ 0 → ⊥) where
 -- from 'A' on a character is a letter exactly if it is of class 1
 from-A : (c : ℕ) → 65 ≤ c → classOf c ≡ cond (letter c) 1 2
 unfolding classOf
-from-A c h = rw (ne-eqb c 0 (λ e. absurd (omega arith)), le-leb 48 c (omega arith), lt-leb c 57 (omega arith)) (go (letter c))
-  where
-    go : (b : Bool) → _≡_ {A = ℕ} (cond (b || false) 1 2) (cond b 1 2)
-    go true = refl
-    go false = refl
+from-A c h =
+    rw (ne-eqb c 0 (λ e. absurd (omega arith)), le-leb 48 c (omega arith), lt-leb c 57 (omega arith)) (ap (λ (b : Bool). cond b 1 2) (or-false (letter c)))
 
 pub letter-low : (c : ℕ) → c < 65 → letter c ≡ false
 letter-low c h = rw (lt-leb 65 c h, lt-leb 97 c (omega arith))
@@ -80,10 +78,6 @@ run-zeros (c ∷ l) = go (class c) (run-zeros l)
     go (zero e k) ih = rw (k, eq-eqb c 0 e) ih
     go (one d e k) ih = rw (k, ne-eqb c 0 d)
     go (two d e k) ih = rw (k, ne-eqb c 0 d)
-
-or-false : (b : Bool) → b || false ≡ b
-or-false true = refl
-or-false false = refl
 
 run-legal : (l : List ℕ) → run 1 l ≡ restLegal l
 run-legal [] = refl

@@ -12,12 +12,12 @@
 //! words, its slices (but for SYS, which has them in the first line, and MAP, which has none), the
 //! number of its blocks and a digest of their words.
 
-use std::path::Path;
 use std::{fs, io};
 
 use reference::layout::{stretches, SECTOR};
 use reference::plain::Plain;
 
+use crate::stored::files_in;
 use crate::text::{digest_text, number, parse_words, words_text};
 
 /// The words of an entry, which a line of an image has where a sector takes too many parts.
@@ -35,23 +35,15 @@ pub struct Kept {
 
 /// All images that were kept, by name.
 pub fn all() -> io::Result<Vec<Kept>> {
-    let folder = Path::new(env!("CARGO_MANIFEST_DIR")).join("images");
     let mut kept = Vec::new();
-    for file in fs::read_dir(folder)? {
-        let path = file?.path();
-        if path
-            .extension()
-            .is_some_and(|extension| extension == "image")
-        {
-            let name = path.file_stem().unwrap_or_default();
-            kept.push(Kept {
-                name: name.to_string_lossy().into(),
-                image: fs::read_to_string(&path)?,
-                unit: fs::read_to_string(path.with_extension("unit"))?,
-            });
-        }
+    for path in files_in("images", "image")? {
+        let name = path.file_stem().unwrap_or_default();
+        kept.push(Kept {
+            name: name.to_string_lossy().into(),
+            image: fs::read_to_string(&path)?,
+            unit: fs::read_to_string(path.with_extension("unit"))?,
+        });
     }
-    kept.sort_by(|one, other| one.name.cmp(&other.name));
     Ok(kept)
 }
 

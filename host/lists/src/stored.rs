@@ -43,15 +43,22 @@ pub struct Stored {
 
 /// All stored lists, by name.
 pub fn all() -> io::Result<Vec<Stored>> {
-    let folder = Path::new(env!("CARGO_MANIFEST_DIR")).join("stored");
     let mut lists = Vec::new();
-    for file in fs::read_dir(folder)? {
-        let path = file?.path();
+    for path in files_in("stored", "list")? {
         let text = fs::read_to_string(&path)?;
         lists.push(Stored { path, text });
     }
-    lists.sort_by(|one, other| one.path.cmp(&other.path));
     Ok(lists)
+}
+
+/// The files of a folder of this package that have the extension, by name.
+pub(crate) fn files_in(folder: &str, extension: &str) -> io::Result<Vec<PathBuf>> {
+    let folder = Path::new(env!("CARGO_MANIFEST_DIR")).join(folder);
+    let files = fs::read_dir(folder)?.map(|file| file.map(|file| file.path()));
+    let mut paths = files.collect::<io::Result<Vec<PathBuf>>>()?;
+    paths.retain(|path| path.extension().is_some_and(|found| found == extension));
+    paths.sort();
+    Ok(paths)
 }
 
 /// Runs a list on a side; its text as it would stand with the outcomes of that side.

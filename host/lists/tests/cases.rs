@@ -9,6 +9,7 @@ use lists::{Second, Side};
 use reference::generate::{open_names, Unit};
 use reference::layout::{key, Kit, ENTRY, MAP, SECTOR, SYS};
 use reference::plain::Plain;
+use reference::raw::words_of;
 use reference::Question::{self, *};
 use reference::{entered, explain, Answer, Message, Name};
 use ruzkemp::sys::call::*;
@@ -237,28 +238,25 @@ fn a_folded_key_is_found() {
     is_found_shown(show, "change Pass lent 7061h 7373h ");
 }
 
+/// Puts the messages of one call to the first entry that a folded search finds.
+fn put_folded<const CALL: u16>(second: &mut Second, message: &Message, lent: &mut [u16]) -> Answer {
+    if words_of(message, &[0; 12])[0] == CALL {
+        put_named(second, message, lent, first_entered)
+    } else {
+        second.perform(message, lent)
+    }
+}
+
 #[test]
 fn a_folded_search_of_the_catalog_is_found() {
-    let put: Putting = |second, message, lent| match message {
-        Message::LookUp { .. } => put_named(second, message, lent, first_entered),
-        _ => second.perform(message, lent),
-    };
-    is_found_put(put, &[LOOK_UP], "look-up Pass ");
-    let put: Putting = |second, message, lent| match message {
-        Message::Change { .. } => put_named(second, message, lent, first_entered),
-        _ => second.perform(message, lent),
-    };
-    is_found_put(put, &[CHANGE], "change Pass ");
-    let put: Putting = |second, message, lent| match message {
-        Message::Remove { .. } => put_named(second, message, lent, first_entered),
-        _ => second.perform(message, lent),
-    };
-    is_found_put(put, &[REMOVE], "remove PASS -> 5000h");
-    let put: Putting = |second, message, lent| match message {
-        Message::CreateArea { .. } => put_named(second, message, lent, first_entered),
-        _ => second.perform(message, lent),
-    };
-    is_found_put(put, &[CREATE_AREA], "create-area Pass ");
+    is_found_put(put_folded::<LOOK_UP>, &[LOOK_UP], "look-up Pass ");
+    is_found_put(put_folded::<CHANGE>, &[CHANGE], "change Pass ");
+    is_found_put(put_folded::<REMOVE>, &[REMOVE], "remove PASS -> 5000h");
+    is_found_put(
+        put_folded::<CREATE_AREA>,
+        &[CREATE_AREA],
+        "create-area Pass ",
+    );
 }
 
 #[test]
