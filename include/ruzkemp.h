@@ -69,13 +69,14 @@ enum {
     RUZKEMP_OUTPUT_CHECKED = 19
 };
 
-/* Attributes of a file. Not ENTRY_ONLY with EXTENDABLE. */
+/* Attributes of a file. ENTRY_ONLY comes from old discs: such a file is used like others. Set, Create and Change that give it are refused; Change
+   that gives attributes without it makes the file an ordinary one. */
 enum {
     RUZKEMP_CATALOG_FILE = 0x8000,    /* bit 0: SYS and MAP only, no caller may set it */
     RUZKEMP_SUB_CATALOG = 0x4000,     /* bit 1: carried without meaning */
     RUZKEMP_PERMANENT = 0x0010,       /* bit 11: not removed, renamed or changed in length */
     RUZKEMP_WRITE_PROTECTED = 0x0008, /* bit 12: no output */
-    RUZKEMP_ENTRY_ONLY = 0x0004,      /* bit 13: has no slices */
+    RUZKEMP_ENTRY_ONLY = 0x0004,      /* bit 13: has no slices; no caller may give it */
     RUZKEMP_EXTENDABLE = 0x0001       /* bit 15: output at the length appends */
 };
 
@@ -380,13 +381,13 @@ static inline ruzkemp_answer ruzkemp_init(ruzkemp_unit *unit)
     return ruzkemp_send_alone(unit, message);
 }
 
-/* Set: a new file with the size, attributes, optional and tail of an entry. */
+/* Set: a new file with the size, attributes (no ENTRY_ONLY), optional and tail of an entry. */
 static inline ruzkemp_answer ruzkemp_set(ruzkemp_unit *unit, ruzkemp_name name, uint16_t entry[RUZKEMP_ENTRY_WORDS])
 {
     return ruzkemp_send(unit, ruzkemp_named_message(RUZKEMP_CALL_SET, name), entry, RUZKEMP_ENTRY_WORDS);
 }
 
-/* Create: a new file of so many sectors, all zero. */
+/* Create: a new file of so many sectors, all zero; attributes without ENTRY_ONLY. */
 static inline ruzkemp_answer ruzkemp_create(ruzkemp_unit *unit, ruzkemp_name name, uint16_t size, uint16_t attributes)
 {
     ruzkemp_message message = ruzkemp_named_message(RUZKEMP_CALL_CREATE, name);
@@ -401,7 +402,7 @@ static inline ruzkemp_answer ruzkemp_look_up(ruzkemp_unit *unit, ruzkemp_name na
     return ruzkemp_send(unit, ruzkemp_named_message(RUZKEMP_CALL_LOOK_UP, name), entry, RUZKEMP_ENTRY_WORDS);
 }
 
-/* Change: gives a file the name, attributes, length, optional and tail of an entry; see RUZKEMP_KEPT. */
+/* Change: gives a file the name, attributes (no ENTRY_ONLY, unless they are kept), length, optional and tail of an entry; see RUZKEMP_KEPT. */
 static inline ruzkemp_answer ruzkemp_change(ruzkemp_unit *unit, ruzkemp_name name, uint16_t entry[RUZKEMP_ENTRY_WORDS])
 {
     return ruzkemp_send(unit, ruzkemp_named_message(RUZKEMP_CALL_CHANGE, name), entry, RUZKEMP_ENTRY_WORDS);

@@ -11,6 +11,7 @@ use borrow.Author.Tests.{le-leb, lt-leb}
 use Rattle.types.specs.declared.Name.{Name}
 use Rattle.types.specs.declared.State.{State}
 use Rattle.disc.specs.Names.{named, unitIn, isSystem}
+use Rattle.disc.specs.Attributes.{givesEntryOnly}
 use Rattle.catalog.specs.declared.Place.{Place}
 use Rattle.catalog.specs.declared.Found.{Found}
 use Rattle.catalog.specs.declared.Found.the-variants.{At, Nothing}
@@ -18,7 +19,8 @@ use Rattle.plain.specs.Table.{tableFind, isSome}
 use Rattle.plain.specs.Unit.{Plain, File, entry}
 use Rattle.plain.specs.Good.{Good}
 use Rattle.plain.specs.Questions.{replies, known}
-use Rattle.plain.specs.Catalog.{newName, changeFile, stepChange}
+use Rattle.plain.specs.Catalog.{attributesIn, newName, changeFile, stepChange}
+use Rattle.plain.proofs.QuestionLaws.{given-law}
 use Rattle.refine.specs.Represents.{Represents}
 use Rattle.refine.specs.Replies.{Replies, refused, written}
 use Rattle.steps.proofs.Whole.{on-disc}
@@ -45,12 +47,18 @@ module _ (p : Plain) (name : Name) (lent : List ℕ) (mine : T (known p (unitIn 
     change-short h = asks-yes _ _ _ mine ∙ asks-yes _ _ _ (rw entered tt) ∙ asks-no _ _ _ (rw (lt-leb _ _ h) tt)
 
     module _ (long : 16 ≤ length lent) where
+      -- whether or not the name is that of a file
+      change-entry-only : givesEntryOnly (attributesIn lent) ≡ true → stepChange p name lent ≡ replies p 0x1200 lent
+      change-entry-only h =
+          asks-yes _ _ _ mine ∙ asks-yes _ _ _ (rw entered tt) ∙ asks-yes _ _ _ (rw (le-leb _ _ long) tt)
+          ∙ given-law (λ x. x ≡ replies p 0x1200 lent) (tableFind (named name) (p .files)) refl (λ f _. asks-no _ _ _ (rw h tt))
+
       change-system : tableFind (named name) (p .files) ≡ none → stepChange p name lent ≡ replies p 0x1200 lent
       change-system h = asks-yes _ _ _ mine ∙ asks-yes _ _ _ (rw entered tt) ∙ asks-yes _ _ _ (rw (le-leb _ _ long) tt) ∙ given-none _ _ _ h
 
-      pub change-file : (f : File) → tableFind (named name) (p .files) ≡ some f
+      pub change-file : givesEntryOnly (attributesIn lent) ≡ false → (f : File) → tableFind (named name) (p .files) ≡ some f
           → stepChange p name lent ≡ changeFile p (named name) f (newName (named name) lent) (sizeThen f lent) (attributesThen f lent) lent
-      change-file f h = asks-yes _ _ _ mine ∙ asks-yes _ _ _ (rw entered tt) ∙ asks-yes _ _ _ (rw (le-leb _ _ long) tt) ∙ given-some _ _ _ _ h
+      change-file no-bit f h = asks-yes _ _ _ mine ∙ asks-yes _ _ _ (rw entered tt) ∙ asks-yes _ _ _ (rw (le-leb _ _ long) tt) ∙ given-some _ _ _ _ h ∙ asks-yes _ _ _ (rw no-bit tt)
 
 -- ---- by what was found
 
@@ -74,6 +82,11 @@ module _ {image : List ℕ} {o : Opened} {n : ℕ} {r : Found} (state : State) (
     }
 
     module _ (long : 16 ≤ length lent) where
+      pub changes-entry-only : givesEntryOnly (attributesIn lent) ≡ true → Changes image o state name lent image 0x1200
+      changes-entry-only h = record {
+        all = λ p g rep num. record { step = refused (λ z. omega arith) (change-entry-only p name lent (meant-known meant rep) (at p g rep num .entered) long h) refl };
+      }
+
       pub changes-system : isSystem n ≡ true → Changes image o state name lent image 0x1200
       changes-system system = record {
         all = λ p g rep num. record {
@@ -83,7 +96,7 @@ module _ {image : List ℕ} {o : Opened} {n : ℕ} {r : Found} (state : State) (
         };
       }
 
-      module _ (ordinary : isSystem n ≡ false) where
+      module _ (no-bit : givesEntryOnly (attributesIn lent) ≡ false) (ordinary : isSystem n ≡ false) where
         file-of : (p : Plain) → Good p → Represents image state p → NumbersOf o p → (f : File) × (tableFind (named name) (p .files) ≡ some f)
         file-of p g rep num = found-file (at p g rep num) (false-no (ap isSystem (sym is) ∙ ordinary))
 
@@ -94,7 +107,7 @@ module _ {image : List ℕ} {o : Opened} {n : ℕ} {r : Found} (state : State) (
                 let f = file-of p g rep num in
                 let there : isSome (tableFind (named name) (p .areas)) ≡ true = sym (name-open (rep .areas) (named name)) ∙ ap (λ (m : ℕ). nameOpen m state) (sym is) ∙ h in
                 refused (λ z. omega arith)
-                (change-file p name lent (meant-known meant rep) (at p g rep num .entered) long (f .0) (f .1)
+                (change-file p name lent (meant-known meant rep) (at p g rep num .entered) long no-bit (f .0) (f .1)
                 ∙ change-open p (named name) (newName (named name) lent) (sizeThen (f .0) lent) (attributesThen (f .0) lent) (f .0) lent there) refl;
           };
         }
@@ -119,7 +132,7 @@ module _ {image : List ℕ} {o : Opened} {n : ℕ} {r : Found} (state : State) (
               step =
                   let f = file-of p g rep num in
                   let own : FileChanges image o (named name) place lent after result = subst (λ (k : ℕ). FileChanges image o k place lent after result) is fc in
-                  let to = change-file p name lent (meant-known meant rep) (at p g rep num .entered) long (f .0) (f .1) in
+                  let to = change-file p name lent (meant-known meant rep) (at p g rep num .entered) long no-bit (f .0) (f .1) in
                   go p (f .0) (f .1) (closed p rep) to (own .all p (f .0) (can-from p g rep num));
             };
           }

@@ -56,8 +56,9 @@ done-as p name f lent file =
     let n : ℕ = named name in
     asks-law (DoneAs p n f lent) _ (no-answer (omega arith)) (λ known. asks-law (DoneAs p n f lent) _ (no-answer (omega arith)) (λ entered.
     asks-law (DoneAs p n f lent) _ (no-answer (omega arith)) (λ rec. given-law (DoneAs p n f lent) (tableFind n (p .files)) (no-answer (omega arith)) (λ f₂ h.
+    asks-law (DoneAs p n f lent) _ (no-answer (omega arith)) (λ no-bit.
     subst (λ (g : File). DoneAs p n f lent (changeFile p n g (newName n lent) (sizeThen g lent) (attributesThen g lent) lent)) (some-inj (sym file ∙ h))
-    (record { told = λ z. (rec, change-yes p n (newName n lent) (sizeThen f lent) (attributesThen f lent) f lent z, refl) })))))
+    (record { told = λ z. (rec, change-yes p n (newName n lent) (sizeThen f lent) (attributesThen f lent) f lent z, refl) }))))))
 
 -- ---- the image afterwards
 

@@ -202,6 +202,9 @@ pub fn change(image: &mut [u16], o: Opened, state: State, name: Name, lent: &[u1
     if lent.len() < 16 {
         return 0x1200;
     }
+    if files::gives_entry_only(lent[6]) {
+        return 0x1200;
+    }
     if names::is_system(n) {
         return 0x1200;
     }

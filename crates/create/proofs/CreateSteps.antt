@@ -52,7 +52,7 @@ module _ (p : Plain) (n size attributes : ℕ) (optional tail lent : List ℕ) w
         name = a;
         short = b;
         allowed = c;
-        only = d;
+        given = d;
         vacant = e;
         room = f;
         sysFew = g;

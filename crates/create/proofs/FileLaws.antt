@@ -21,6 +21,7 @@ use Rattle.catalog.specs.Catalog.{placeStart}
 use Rattle.plain.specs.Unit.{Plain, File, M, held, fileEntry}
 use Rattle.plain.specs.Catalog.{optionalIn, tailIn}
 use Rattle.plain.specs.Good.{WordsOf}
+use Rattle.plain.proofs.AttributeLaws.{given-legal}
 use Rattle.plain.proofs.WordLaws.{wordsOf-take, length-zeroSectors}
 use Rattle.refine.specs.OnDisc.{OnDisc}
 use Rattle.refine.specs.Writes.{countedFree, placeSector, storePlace, zeroedSectors, takenImage, createdImage}
@@ -45,8 +46,8 @@ module _ {image : List ℕ} {o : Opened} {n size attributes : ℕ} {words : List
   pub six : WordsOf 6 (tailIn words)
   six = wordsOf-take 6 (drop 10 words) (omega (arith, length-drop 10 words, asked .long)) (words-drop 10 words (asked .lent))
 
-  pub legal : Legal (p .s) n size attributes
-  legal = legal-all (p .s) n size attributes (asked .legal)
+  pub legal : Legal n size attributes
+  legal = legal-all n size attributes (asked .legal)
 
 -- the block of no slices
 pub none-file : {image none : List ℕ} {p : Plain} → OnDisc image p → none ≡ zeroWords 256 → FileBlock image none (p .F) (p .s) (M p) []
@@ -80,7 +81,7 @@ module _ {image : List ℕ} {o : Opened} {place : Place} {n size attributes : �
         name = ok .name;
         fresh = asked .fresh;
         attributes = ok .allowed;
-        entryOnly = ok .only;
+        entryOnly = given-legal attributes count (ok .allowed) (ok .given);
         optional = three asked;
         tail = six asked;
         slices = refl;

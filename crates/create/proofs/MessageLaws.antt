@@ -31,33 +31,30 @@ use Rattle.create.proofs.LegalLaws.{Legal, legal-all, on, off, not-lega
 
 -- ---- a new file, up to its place
 
-module _ (image : List ℕ) (o : Opened) (n size attributes : ℕ) {b : Bool} (judged : b ≡ legalNew (o .slice) n size attributes) where
-  judged-own : {p : Plain} → NumbersOf o p → legalNew (p .s) n size attributes ≡ b
-  judged-own num = ap (λ (s : ℕ). legalNew s n size attributes) (sym (num .slice)) ∙ sym judged
-
+module _ (image : List ℕ) (o : Opened) (n size attributes : ℕ) {b : Bool} (judged : b ≡ legalNew n size attributes) where
   pub refused-legal : (words : List ℕ) → not b ≡ true → NewFileMade image o n size attributes words image 0x1200
   refused-legal words h = record {
     all = λ p on-disc num. record {
-      step = λ lent. refused (λ z. omega arith) (not-legal p n size attributes (optionalIn words) (tailIn words) lent (judged-own num ∙ off b h)) refl;
+      step = λ lent. refused (λ z. omega arith) (not-legal p n size attributes (optionalIn words) (tailIn words) lent (sym judged ∙ off b h)) refl;
     };
   }
 
   module _ (yes : not b ≡ false) {found : Found} (finds : FindsName image o n found) where
-    legal-own : {p : Plain} → NumbersOf o p → T (legalNew (p .s) n size attributes)
-    legal-own num = subst T (sym (judged-own num ∙ on b yes)) tt
+    legal : T (legalNew n size attributes)
+    legal = subst T (sym (sym judged ∙ on b yes)) tt
 
     -- "6. New name unused? 1010h"
-    name-used : {p : Plain} → NumbersOf o p → (words lent : List ℕ) {w : List ℕ} → entry p n ≡ some w
+    name-used : {p : Plain} (words lent : List ℕ) {w : List ℕ} → entry p n ≡ some w
         → newFile p n size attributes (optionalIn words) (tailIn words) lent ≡ replies p 0x1010 lent
     unfolding newFile
-    name-used {p} num words lent h =
-        let ok : Legal (p .s) n size attributes = legal-all (p .s) n size attributes (legal-own num) in
-        asks-yes _ _ _ (ok .name) ∙ asks-yes _ _ _ (ok .short) ∙ asks-yes _ _ _ (ok .allowed) ∙ asks-yes _ _ _ (ok .only) ∙ asks-no _ _ _ (rw h tt)
+    name-used words lent h =
+        let ok : Legal n size attributes = legal-all n size attributes legal in
+        asks-yes _ _ _ (ok .name) ∙ asks-yes _ _ _ (ok .short) ∙ asks-yes _ _ _ (ok .allowed) ∙ asks-yes _ _ _ (ok .given) ∙ asks-no _ _ _ (rw h tt)
 
     pub refused-name : (words : List ℕ) {place : Place} → found ≡ At place → NewFileMade image o n size attributes words image 0x1010
     refused-name words {place} e = record {
       all = λ p on-disc num. record {
-        step = λ lent. refused (λ z. omega arith) (name-used num words lent (finds .all p (on-catalog on-disc) num .at place e .entered)) refl;
+        step = λ lent. refused (λ z. omega arith) (name-used words lent (finds .all p (on-catalog on-disc) num .at place e .entered)) refl;
       };
     }
 
@@ -66,7 +63,7 @@ module _ (image : List ℕ) (o : Opened) (n size attributes : ℕ) {b : Bool} (j
       asked {p} on-disc num = record {
         on = on-disc;
         numbers = num;
-        legal = legal-own num;
+        legal = legal;
         fresh = finds .all p (on-catalog on-disc) num .nothing new;
         long = long;
         lent = lent;

@@ -73,7 +73,7 @@ module _ {image : List ℕ} {o : Opened} {n size attributes : ℕ} {words : List
     unfolding newFile
     rest-is lent =
         let ok = legal asked in
-        asks-yes _ _ _ (ok .name) ∙ asks-yes _ _ _ (ok .short) ∙ asks-yes _ _ _ (ok .allowed) ∙ asks-yes _ _ _ (ok .only) ∙ asks-yes _ _ _ vacant
+        asks-yes _ _ _ (ok .name) ∙ asks-yes _ _ _ (ok .short) ∙ asks-yes _ _ _ (ok .allowed) ∙ asks-yes _ _ _ (ok .given) ∙ asks-yes _ _ _ vacant
         ∙ ap (λ (k : ℕ). roomOutcome p k n size attributes optional tail lent) layers
 
     done-at : Yes p l n size attributes → (lent : List ℕ) → newFile p n size attributes optional tail lent ≡ done (unitAfter p l n size attributes optional tail) lent
@@ -108,7 +108,7 @@ module _ {image : List ℕ} {o : Opened} {n size attributes : ℕ} {words : List
             name = ok .name;
             short = ok .short;
             allowed = ok .allowed;
-            only = ok .only;
+            given = ok .given;
             vacant = vacant;
             room = rw (le-leb _ _ (en .free)) tt;
             sysFew = rw (le-leb _ _ (en .sys)) tt;

@@ -10,7 +10,7 @@ use Rattle.types.specs.declared.Name.{Name}
 use Rattle.disc.specs.Numbers.{need, negative}
 use Rattle.disc.specs.Words.{Words}
 use Rattle.disc.specs.Names.{legalName, keyOf, named, unitIn}
-use Rattle.disc.specs.Attributes.{legalAttributes, legalWith}
+use Rattle.disc.specs.Attributes.{legalAttributes, givesEntryOnly}
 use Rattle.disc.specs.Slices.{taken}
 use Rattle.disc.specs.Stretches.{stretchCount}
 use Rattle.catalog.specs.declared.Place.{Place}
@@ -27,9 +27,9 @@ use Rattle.unit.specs.Find.{FirstUnused, UnusedAt}
 use Rattle.steps.specs.Units.{grownUnit, newFileOf}
 use Rattle.grow.specs.Grow.{GrownFrom}
 
--- "4. .. name, size, attributes legal? 1200h", bit 13 judged by the slices that the file would have.
-unfoldable pub legalNew : ℕ → ℕ → ℕ → ℕ → Bool
-legalNew s n size attributes = legalName n && (not (negative size) && (legalAttributes attributes && legalWith attributes (need s size)))
+-- "4. .. name, size, attributes legal? 1200h", and no bit 13 (R-9).
+unfoldable pub legalNew : ℕ → ℕ → ℕ → Bool
+legalNew n size attributes = legalName n && (not (negative size) && (legalAttributes attributes && not (givesEntryOnly attributes)))
 
 -- The unit with the new file under name n.
 abbrev pub unitWith : Plain → ℕ → ℕ → ℕ → List ℕ → List ℕ → Plain
@@ -88,7 +88,7 @@ pub record Sets (image : List ℕ) (o : Opened) (name : Name) (lent after : List
 pub record AskedFrom (image : List ℕ) (o : Opened) (n size attributes : ℕ) (words : List ℕ) (p : Plain) : Type 0 where
   pub on : OnDisc image p
   pub numbers : NumbersOf o p
-  pub legal : T (legalNew (p .s) n size attributes)
+  pub legal : T (legalNew n size attributes)
   pub fresh : entry p n ≡ none
   pub long : 16 ≤ length words
   pub lent : Words words

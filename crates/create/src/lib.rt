@@ -17,10 +17,9 @@ use types::Name;
 use types::Sector;
 use unit::Opened;
 
-// Whether name, size and attributes are legal, with the slices that the size needs.
-fn is_legal(o: Opened, name: Name, size: u16, attributes: u16) -> bool
-    requires { ⌜ 2 ≤ o .slice ⌝ }
-    ensures { λ r. ⌜ r ≡ legalNew (o .slice) (pack (name .0) (name .1) (name .2)) size attributes ⌝ }
+// Whether name, size and attributes are legal for a new file.
+fn is_legal(name: Name, size: u16, attributes: u16) -> bool
+    ensures { λ r. ⌜ r ≡ legalNew (pack (name .0) (name .1) (name .2)) size attributes ⌝ }
 {
     if !names::legal(name) {
         return false;
@@ -31,7 +30,7 @@ fn is_legal(o: Opened, name: Name, size: u16, attributes: u16) -> bool
     if !files::legal_attributes(attributes) {
         return false;
     }
-    files::legal_with(attributes, numbers::need(o.slice, size))
+    !files::gives_entry_only(attributes)
 }
 
 // Stores a file's entry in a place: optional and tail are those of the words.
@@ -159,7 +158,7 @@ fn new_file(
     requires { ⌜ OpenedOn (now image) o × (16 ≤ length (now words)) ⌝ }
     ensures { λ r. ⌜ NewFileMade (now (image .entry)) o (pack (name .0) (name .1) (name .2)) size attributes (now (words .entry)) (now (image .exit)) r ⌝ }
 {
-    if !is_legal(o, name, size, attributes) {
+    if !is_legal(name, size, attributes) {
         return 0x1200;
     }
     let Found::Nothing = unit::find_name(image, o, name) else {

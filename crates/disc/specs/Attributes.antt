@@ -1,8 +1,9 @@
--- "Attributes a caller may set: bits 1, 11 permanent, 12 write protected, 13 entry only, 15 extendable".
+-- "Attributes a caller may set: bits 1, 11 permanent, 12 write protected, 13 entry only, 15 extendable". Bit 13 is withdrawn by R-9 of
+-- document 02: an entry of before may have it, and no message gives it.
 use mathlib.Core.Bool.{Bool, true, false, not, _&&_}
 use Prim.Native.Nat.{ℕ, _+_, _<_}
 use lib.Dec.{eqb, ltb}
-use Rattle.disc.specs.Numbers.{bit, bitWord}
+use Rattle.disc.specs.Numbers.{bit, bitWord, negative}
 
 abbrev pub permanent : ℕ → Bool
 permanent a = bit 11 a
@@ -21,7 +22,7 @@ abbrev pub wordIf : Bool → ℕ → ℕ
 wordIf true w = w
 wordIf false w = 0
 
--- The five bits alone, and "not 13 with 15".
+-- Attributes that a file may have: the five bits alone, and "not 13 with 15".
 abbrev pub legalAttributes : ℕ → Bool
 legalAttributes a =
     eqb a (wordIf (bit 1 a) (bitWord 1) + wordIf (bit 11 a) (bitWord 11) + wordIf (bit 12 a) (bitWord 12) + wordIf (bit 13 a) (bitWord 13) + wordIf (bit 15 a) (bitWord 15))
@@ -30,3 +31,7 @@ legalAttributes a =
 -- "13 only with no slices", judged on the number of slices after the message.
 abbrev pub legalWith : ℕ → ℕ → Bool
 legalWith a slices = not (entryOnly a && ltb 0 slices)
+
+-- R-9: "gives attributes that aren't negative and contain bit 13".
+abbrev pub givesEntryOnly : ℕ → Bool
+givesEntryOnly w = not (negative w) && entryOnly w

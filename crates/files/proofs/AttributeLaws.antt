@@ -1,12 +1,12 @@
--- Laws of attributes: the bits that a caller may set, as a sum.
+-- Laws of attributes: the bits that a file may have, as a sum, and bit 13.
 use mathlib.Core.Path.{_≡_, refl, sym, ap, _∙_}
 use mathlib.Core.Bool.{Bool, true, false, not, _&&_}
 use Prim.Native.Nat.{ℕ, zero, suc, _+_, _*_, _/_, _%_, _<_}
 use native.Mathlib.Omega.{arith}
 use lib.Dec.{eqb}
 use borrow.Author.Tests.{eq-eqb, ne-eqb, lt-ltb, le-ltb}
-use Rattle.disc.specs.Numbers.{bit, bitWord}
-use Rattle.disc.specs.Attributes.{wordIf, legalAttributes, legalWith, entryOnly, extendable}
+use Rattle.disc.specs.Numbers.{bit, bitWord, negative}
+use Rattle.disc.specs.Attributes.{wordIf, legalAttributes, legalWith, entryOnly, extendable, givesEntryOnly}
 use Rattle.disc.proofs.Compare.{same-or}
 
 word-if : (x v : ℕ) → x < 2 → wordIf (eqb x 1) v ≡ v * x
@@ -24,7 +24,7 @@ both (suc zero) (suc (suc y)) h k = absurd (omega arith)
 both (suc (suc x)) y h k = absurd (omega arith)
 
 module _ (a : ℕ) where
-  -- the bits that a caller may set
+  -- the bits that a file may have
   abbrev pub own : ℕ
   own = 16384 * (a / 16384 % 2) + 16 * (a / 16 % 2) + 8 * (a / 8 % 2) + 4 * (a / 4 % 2) + a % 2
 
@@ -68,3 +68,11 @@ with-some a slices d = same-or slices 0 (λ e. absurd (d e)) (λ _. rw (lt-ltb 0
     go : (b : Bool) → not b ≡ not (b && true)
     go true = refl
     go false = refl
+
+-- ---- bit 13, in a message
+
+pub gives-none : (a : ℕ) → negative a ≡ true → false ≡ givesEntryOnly a
+gives-none a e = rw e refl
+
+pub gives-bit : (a : ℕ) → negative a ≡ false → entryOnly a ≡ givesEntryOnly a
+gives-bit a e = rw e refl

@@ -8,7 +8,7 @@ ghost use Prim.Native.Nat.{_+_, _*_, _/_, _≤_, _<_};
 ghost use lib.ListN.{length};
 ghost use Rattle.disc.specs.Decide.{Decides};
 ghost use Rattle.disc.specs.Numbers.{need};
-ghost use Rattle.disc.specs.Attributes.{legalAttributes, legalWith, entryOnly};
+ghost use Rattle.disc.specs.Attributes.{legalAttributes, legalWith, entryOnly, givesEntryOnly};
 ghost use Rattle.disc.specs.Entries.{placeCount};
 ghost use Rattle.sound.specs.Places.{Booked};
 ghost use Rattle.sound.specs.Sound.{slicesBelow};
@@ -41,7 +41,7 @@ pub struct Entry {
     pub reserved: u16,
 }
 
-// Whether a word has no bits but those that a caller may set, and not both 13 and 15.
+// Whether a word has no bits but those that a file may have, and not both 13 and 15.
 pub fn legal_attributes(a: u16) -> bool
     ensures { λ r. ⌜ r ≡ legalAttributes a ⌝ }
 {
@@ -71,6 +71,16 @@ pub fn legal_with(a: u16, slices: u16) -> bool
         return true;
     }
     !entry_only(a)
+}
+
+// Whether attributes in a message give bit 13: no message may. Negative ones give nothing.
+pub fn gives_entry_only(a: u16) -> bool
+    ensures { λ r. ⌜ r ≡ givesEntryOnly a ⌝ }
+{
+    if numbers::negative(a) {
+        return false;
+    }
+    entry_only(a)
 }
 
 // Whether so many slices, of s sectors each, are enough for n sectors and the index block.

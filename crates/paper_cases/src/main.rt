@@ -8,11 +8,15 @@
 // Then 'PASS' and 'Pass' stand beside each other on a fresh unit with H = 3 (document 02, R-8). A line for a rename has the result word; a
 // line for the names has the first two words of the first place of key 1, in sector 11, and of the first two places of key 2, in sector
 // 12. The expected lines are derived from documents 01 and 02.
+// Then 'PASS' is entry only on a disc of before R-9 of document 02, which is made by writing the entry into SYS's third place. A line for
+// a Change or Set has the result word; a line for the place has its 16 words. The expected lines are derived from documents 01 and 02.
 
 ghost use Prim.Native.Nat.{_+_, _≤_};
+use catalog::Place;
 use types::Message;
 use types::Name;
 use types::Operation;
+use types::Sector;
 use types::State;
 
 // The image, 256 times N words.
@@ -379,6 +383,174 @@ fn renamed(image: &mut Disc, state: State) {
     look_up(image, new, pass(), b"look-up PASS:");
 }
 
+// Four words of a line, from word `at` on.
+fn four(image: &Disc, at: usize)
+    requires { ⌜ at + 4 ≤ 5120 ⌝ }
+{
+    number(image[at]);
+    number(image[at + 1]);
+    number(image[at + 2]);
+    number(image[at + 3]);
+}
+
+// The line of SYS's third place.
+fn show_place(image: &Disc) {
+    io::write_all(1, b"place:");
+    four(image, 2592);
+    four(image, 2596);
+    four(image, 2600);
+    four(image, 2604);
+    io::write_all(1, b"\n");
+}
+
+// The fresh unit with one entry-only file, initialized.
+fn old_disc(image: &mut Disc) -> State {
+    fresh(image, 1);
+    let place = Place {
+        sector: Sector(10),
+        slot: 2,
+    };
+    let entry = [
+        0x5041,
+        0x5353,
+        0,
+        1,
+        2,
+        3,
+        4,
+        0,
+        0,
+        0,
+        10,
+        11,
+        12,
+        13,
+        14,
+        15,
+    ];
+    catalog::write_entry(image, place, &entry);
+    show_place(image);
+    init(image)
+}
+
+// A Set or Change with a lent entry of this name, whose third word is 0, attributes and length; its line.
+fn put(
+    image: &mut Disc,
+    state: State,
+    message: Message,
+    name: Name,
+    attributes: u16,
+    size: u16,
+    text: &[u8],
+) -> State {
+    let mut lent = [
+        name.0,
+        name.1,
+        0,
+        4,
+        5,
+        6,
+        attributes,
+        0,
+        0,
+        size,
+        20,
+        21,
+        22,
+        23,
+        24,
+        25,
+    ];
+    let done = lent::drive(state, image, &mut lent, message);
+    let answer = done.answer;
+    io::write_all(1, text);
+    number(answer.result);
+    io::write_all(1, b"\n");
+    let next = done.state;
+    next
+}
+
+// A Change of 'PASS' that keeps the name.
+fn change(image: &mut Disc, state: State, attributes: u16, size: u16, text: &[u8]) -> State {
+    let message = Message::Change { name: pass() };
+    put(image, state, message, Name(0, 0, 0), attributes, size, text)
+}
+
+// Bit 13 is given, with and without a length; or it is kept, and the file would have a slice.
+fn refused(image: &mut Disc) {
+    let started = old_disc(image);
+    let other = Name(0x5A5A, 0x5A5A, 0x5A00);
+    let created = create_named(other, 0, 4);
+    let one = call(image, started, created, 0, b"create, attributes 4:");
+    let set = Message::Set { name: other };
+    let two = put(image, one, set, other, 4, 0, b"set, attributes 4:");
+    let three = change(image, two, 4, 0xFFFF, b"attributes 4, length kept:");
+    let four = change(image, three, 4, 0, b"attributes 4, length 0:");
+    change(image, four, 0xFFFF, 1, b"attributes kept, length 1:");
+    show_place(image);
+}
+
+// 'PASS' keeps its attributes, is renamed and listed.
+fn used(image: &mut Disc) -> State {
+    let started = old_disc(image);
+    let kept = change(
+        image,
+        started,
+        0xFFFF,
+        0xFFFF,
+        b"attributes and length kept:",
+    );
+    show_place(image);
+    let message = Message::Change { name: pass() };
+    let moved = put(
+        image,
+        kept,
+        message,
+        mixed(),
+        0xFFFF,
+        0xFFFF,
+        b"PASS to Pass:",
+    );
+    show_place(image);
+    let seen = look_up(image, moved, mixed(), b"look-up Pass:");
+    let mut words = [9u16; 113];
+    let listed = list(image, seen, &mut words, b"listing, 113 words:");
+    entry(&words, 16);
+    listed
+}
+
+// 'Pass' has an area process, of which nothing can be read, and becomes an ordinary file when that is removed.
+fn made_ordinary(image: &mut Disc, state: State) {
+    let opened = open_named(image, state, mixed());
+    let message = transput_named(mixed(), 1, 0);
+    let read = call(image, opened, message, 9, b"input by 1:");
+    show_place(image);
+    let shut = close_mixed(image, read);
+    let asked = Message::Change { name: mixed() };
+    put(
+        image,
+        shut,
+        asked,
+        Name(0, 0, 0),
+        1,
+        0xFFFF,
+        b"attributes 1, length kept:",
+    );
+    show_place(image);
+}
+
+// 'PASS' becomes an ordinary file of two blocks; on another disc it is removed.
+fn made_longer(image: &mut Disc) {
+    let started = old_disc(image);
+    change(image, started, 1, 2, b"attributes 1, length 2:");
+    show_place(image);
+    show(image);
+    let again = old_disc(image);
+    let message = Message::Remove { name: pass() };
+    call(image, again, message, 0, b"remove:");
+    show_place(image);
+}
+
 fn main() {
     let mut image: Disc = [0; 5120];
     let made = sizes(&mut image);
@@ -393,4 +565,8 @@ fn main() {
     let entered = both(&mut image);
     let written = both_open(&mut image, entered);
     renamed(&mut image, written);
+    refused(&mut image);
+    let named = used(&mut image);
+    made_ordinary(&mut image, named);
+    made_longer(&mut image);
 }

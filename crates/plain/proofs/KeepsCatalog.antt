@@ -24,6 +24,7 @@ use Rattle.plain.specs.Catalog.{stepInit, newFile, stepCreate, stepSet, 
 use Rattle.plain.specs.Good.{Good, GoodFile, WordsOf}
 use Rattle.plain.proofs.TableLaws.{some≢none, weightAt, find-put-other, find-remove-other, sorted-put, sorted-remove, total-put, total-remove, every-put, remove-some}
 use Rattle.plain.proofs.QuestionLaws.{asks-law, given-law, or-case, not-some}
+use Rattle.plain.proofs.AttributeLaws.{given-legal}
 use Rattle.plain.proofs.UnitLaws.{legal-positive, entry-none, no-area, holds, occurrences-held}
 use Rattle.plain.proofs.TakingLaws.{layers-up, chains-put, places-remove, places-same, sysExtra, sysTaken, sys-count, sys-first, taking-once}
 use Rattle.plain.proofs.WordLaws.{EachOf, each-take, each-append, wordsOf-zeros, wordsOf-take, length-zeroSectors, zeroSectors-words}
@@ -138,7 +139,7 @@ new-file-keeps p n size attributes optional tail lent g three six =
     asks-law Keeps _ g λ legal.
     asks-law Keeps _ g λ _.
     asks-law Keeps _ g λ allowed.
-    asks-law Keeps _ g λ only.
+    asks-law Keeps _ g λ ordinary.
     asks-law Keeps _ g λ vacant.
     asks-law Keeps _ g λ room.
     asks-law Keeps _ g λ sysFew.
@@ -146,7 +147,7 @@ new-file-keeps p n size attributes optional tail lent g three six =
     let e = entry-none p n vacant in
     placed-good p l n f (p .files) 0 c g (layers-up p n (p .files)) (no-area p n g (e .0)) (g .names) (λ k h q. q) (λ k users h. refl)
     (chains-put p n f (p .files) (g .chains)) (λ k. omega (arith, total-put (holds k) n f (p .files)))
-    (booked-good (p .s) (p .areas) n f legal (ordinary-name p n vacant) allowed only three six (zeroSectors-words size) (length-zeroSectors size)
+    (booked-good (p .s) (p .areas) n f legal (ordinary-name p n vacant) allowed (given-legal attributes c allowed ordinary) three six (zeroSectors-words size) (length-zeroSectors size)
     (sym (length-taken (M p) (sysTaken p l ++ held p) 0 c)) (omega arith) (leb→le _ _ few))
     room sysFew
 
@@ -286,4 +287,5 @@ change-keeps p name lent g w =
     asks-law Keeps _ g λ _.
     asks-law Keeps _ g λ r.
     given-law Keeps _ g λ f e.
+    asks-law Keeps _ g λ _.
     change-file-keeps p _ f _ _ _ lent g e w r

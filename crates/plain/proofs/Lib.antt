@@ -1,5 +1,6 @@
 pub mod TableLaws
 pub mod QuestionLaws
+pub mod AttributeLaws
 pub mod UnitLaws
 pub mod WordLaws
 pub mod RoleLaws

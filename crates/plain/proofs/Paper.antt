@@ -5,11 +5,12 @@ use Rattle.plain.specs.Questions.{asks, given, either}
 use Rattle.plain.specs.Catalog.{newFile, changeFile}
 use Rattle.plain.specs.Areas.{stepReserve, stepRelease, positioned}
 use Rattle.plain.specs.Transput.{endWord, input, append, output, stepTransput}
+use Rattle.plain.specs.Reports.{stepListing}
 use Rattle.plain.specs.Step.{userStep, operationStep}
 use Rattle.plain.specs.Paper.{Paper}
 
 pub paper : Paper
-unfolding entry asks given either newFile changeFile stepReserve stepRelease positioned endWord input append output stepTransput userStep operationStep
+unfolding entry asks given either newFile changeFile stepReserve stepRelease positioned endWord input append output stepTransput stepListing userStep operationStep
 paper = record {
   p1 = (refl, refl, refl, refl);
   p2 = (refl, refl);
@@ -32,4 +33,14 @@ paper = record {
   besideWords = (refl, refl);
   renameAnswers = refl;
   renamedWords = (refl, refl);
+  entryOnlyLooked = refl;
+  entryOnlyKept = (refl, refl);
+  entryOnlyRenamed = (refl, refl);
+  entryOnlyArea = (refl, refl);
+  entryOnlyListed = (refl, refl);
+  entryOnlyRemoved = (refl, refl);
+  entryOnlyOrdinary = (refl, refl);
+  entryOnlyLonger = (refl, refl);
+  entryOnlySlices = refl;
+  entryOnlyRefused = (refl, refl);
 }

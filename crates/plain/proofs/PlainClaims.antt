@@ -2,7 +2,7 @@
 use Rattle.plain.specs.Step.{after}
 use Rattle.plain.specs.Claims.{PlainClaims}
 use Rattle.plain.proofs.Keeps.{step-keeps, list-keeps, good-adds}
-use Rattle.plain.proofs.Refuses.{refuses, never-shrinks, never-unsound, never-unsound-after}
+use Rattle.plain.proofs.Refuses.{refuses, never-shrinks, no-more-entry-only, never-unsound, never-unsound-after}
 
 pub plain-claims : PlainClaims
 plain-claims = record {
@@ -10,6 +10,7 @@ plain-claims = record {
   adds = λ calls p g w. let after-good = list-keeps calls p g w in (after-good, good-adds (after p calls) after-good);
   refuses = refuses;
   never-shrinks = never-shrinks;
+  no-more-entry-only = no-more-entry-only;
   never-unsound = never-unsound;
   never-unsound-after = never-unsound-after;
 }

@@ -1,6 +1,6 @@
 -- One walk over the questions of every call. What a refused call leaves: the unit, but for the sender's position where Position, 5
--- and 7 moved it, and the lent words; the byte count and the number of entries are 0. No result word is 9000h or 8800h, and SYS has
--- not shrunk.
+-- and 7 moved it, and the lent words; the byte count and the number of entries are 0. No result word is 9000h or 8800h, SYS has
+-- not shrunk, and there are no more entry-only files.
 use mathlib.Core.Path.{_≡_, refl, sym, ap, _∙_}
 use mathlib.Core.Bool.{Bool, true, false, not, _||_, cond}
 use mathlib.Core.List.{List, [], _∷_, _++_, append-nil, append-assoc}
@@ -15,37 +15,58 @@ use Rattle.types.specs.declared.Operation.the-variants.{Reserve, Position, Sens
 use Rattle.types.specs.declared.Message.{Message}
 use Rattle.types.specs.declared.Message.the-variants.{Init, Set, Create, LookUp, Change, Remove, CreateArea, RemoveArea, AreaMessage, UnitDescription, Listing}
 use Rattle.disc.specs.Names.{named}
-use Rattle.plain.specs.Table.{Table, tableFind, tableRemove}
-use Rattle.plain.specs.Unit.{Plain, File, AreaUser, withTables, withFiles}
+use Rattle.disc.specs.Attributes.{entryOnly}
+use Rattle.plain.specs.Table.{Table, tableFind, tablePut, tableRemove, total}
+use Rattle.plain.specs.Unit.{Plain, File, AreaUser, withTables, withAreas}
 use Rattle.plain.specs.Questions.{Outcome, asks, given, either, done}
 use Rattle.plain.specs.Taking.{layersFor}
-use Rattle.plain.specs.Catalog.{stepInit, newFile, stepCreate, stepSet, stepLookUp, stepRemove, changeFile, stepChange}
+use Rattle.plain.specs.Catalog.{attributesIn, stepInit, newFile, stepCreate, stepSet, stepLookUp, stepRemove, changeFile, stepChange}
 use Rattle.plain.specs.Areas.{stepCreateArea, stepRemoveArea, stepReserve, stepRelease, moved, positioned}
-use Rattle.plain.specs.Transput.{isOutput, refusedAt, input, append, output, stepTransput}
+use Rattle.plain.specs.Transput.{oneIf, isOutput, refusedAt, input, append, output, stepTransput}
 use Rattle.plain.specs.Reports.{stepListing, stepDescription}
 use Rattle.plain.specs.Step.{Call, reserveCount, userStep, operationStep, stepArea, step, after, answers}
-use Rattle.plain.specs.Claims.{Moves, position, random, Left, everything, butPosition, Refused, NeverShrinks, NeverUnsound, EachNeverUnsound}
+use Rattle.plain.specs.Claims.{Moves, position, random, Left, everything, butPosition, Refused, NeverShrinks, hasAttributes, filesWith, NoMoreEntryOnly, NeverUnsound, EachNeverUnsound}
 use Rattle.plain.proofs.QuestionLaws.{asks-law, given-law, either-law, end-law}
+use Rattle.plain.proofs.TableLaws.{weightAt, total-put, total-remove}
+use Rattle.plain.proofs.AttributeLaws.{given-ordinary, ordinary-most, kept-most}
 use Rattle.plain.proofs.TakingLaws.{layers-up, sysTaken}
 
--- ---- SYS
+-- ---- SYS and the entry-only files
+
+record Kept (p q : Plain) : Type 0 where
+  sys : NeverShrinks p q
+  entry-only : NoMoreEntryOnly p q
+
+-- a file h, with the attributes a only where that of the name n had them, in its place or instead of it under the name m
+module _ (a n : ℕ) (h : File) (files : Table File) (most : oneIf (eqb (h .attributes) a) ≤ weightAt (hasAttributes a) n (tableFind n files)) where
+  put-most : total (hasAttributes a) (tablePut n h files) ≤ total (hasAttributes a) files
+  put-most = omega (arith, total-put (hasAttributes a) n h files, most)
+
+  renamed-most : (m : ℕ) → total (hasAttributes a) (tablePut m h (tableRemove n files)) ≤ total (hasAttributes a) files
+  renamed-most m = omega (arith, total-put (hasAttributes a) m h (tableRemove n files), total-remove (hasAttributes a) n files, most)
 
 module _ {p : Plain} where
   -- where layers and SYS's slices stay
-  same-sys : {files : Table File} {areas : Table (Table AreaUser)} → NeverShrinks p (withTables p (p .layers) (p .sys) files areas)
-  same-sys = record { keys = refl; layers = omega arith; new = []; slices = sym (append-nil (p .sys)) }
+  other-files : {files : Table File} {areas : Table (Table AreaUser)} → ((a : ℕ) → T (entryOnly a) → total (hasAttributes a) files ≤ filesWith a p)
+      → Kept p (withTables p (p .layers) (p .sys) files areas)
+  other-files fewer = record { sys = record { keys = refl; layers = omega arith; new = []; slices = sym (append-nil (p .sys)) }; entry-only = fewer }
+
+  -- where the files stay too, or one has another length, slices or sectors
+  same-sys : {areas : Table (Table AreaUser)} → Kept p (withAreas p areas)
+  same-sys = other-files (λ a t. omega arith)
+
+  same-attributes : (n : ℕ) (h : File) {f : File} {areas : Table (Table AreaUser)} → tableFind n (p .files) ≡ some f → h .attributes ≡ f .attributes
+      → Kept p (withTables p (p .layers) (p .sys) (tablePut n h (p .files)) areas)
+  same-attributes n h e q = other-files (λ a t. put-most a n h (p .files) (rw (e, q) (omega arith)))
 
   -- where SYS has taken its slices for more layers
-  more-sys : {layers : ℕ} {files : Table File} {areas : Table (Table AreaUser)} → p .layers ≤ layers
-      → NeverShrinks p (withTables p layers (p .sys ++ sysTaken p layers) files areas)
-  more-sys {layers} up = record { keys = refl; layers = up; new = sysTaken p layers; slices = refl }
+  more-sys : {layers : ℕ} {files : Table File} {areas : Table (Table AreaUser)} → p .layers ≤ layers → ((a : ℕ) → T (entryOnly a) → total (hasAttributes a) files ≤ filesWith a p)
+      → Kept p (withTables p layers (p .sys ++ sysTaken p layers) files areas)
+  more-sys {layers} up fewer = record { sys = record { keys = refl; layers = up; new = sysTaken p layers; slices = refl }; entry-only = fewer }
 
-  then-file : {q : Plain} {files : Table File} → NeverShrinks p q → NeverShrinks p (withFiles q files)
-  then-file g = record { keys = g .keys; layers = g .layers; new = g .new; slices = g .slices }
-
-  left-sys : {message : Message} {q : Plain} → Left p message q → NeverShrinks p q
-  left-sys everything = same-sys
-  left-sys (butPosition m o) = rw (o .moves) same-sys
+  left-kept : {message : Message} {q : Plain} → Left p message q → Kept p q
+  left-kept everything = same-sys
+  left-kept (butPosition m o) = rw (o .moves) same-sys
 
 shrinks-trans : {p q r : Plain} → NeverShrinks p q → NeverShrinks q r → NeverShrinks p r
 shrinks-trans {p} a b = record {
@@ -67,7 +88,7 @@ not-unsound word t = record { catalog = λ e. rw e at t; area = λ e. rw e at t 
 record Stays (p : Plain) (message : Message) (lent : List ℕ) (o : Outcome) : Type 0 where
   refused : o .answer .result ≢ 0 → Refused p message lent o
   word : NeverUnsound (o .answer .result)
-  sys : NeverShrinks p (o .unit)
+  kept : Kept p (o .unit)
 
 module _ {p : Plain} {message : Message} {lent : List ℕ} where
   -- A refusal that leaves the unit q, with any block.
@@ -75,12 +96,12 @@ module _ {p : Plain} {message : Message} {lent : List ℕ} where
   leaves word t l = record {
     refused = λ h. record { unit = l; words = refl; bytes = refl; entries = refl };
     word = not-unsound word t;
-    sys = left-sys l;
+    kept = left-kept l;
   }
 
   -- A call that is not refused.
-  accepts : {o : Outcome} → o .answer .result ≡ 0 → NeverShrinks p (o .unit) → Stays p message lent o
-  accepts e g = record { refused = λ h. absurd (h e); word = rw e (not-unsound 0 tt); sys = g }
+  accepts : {o : Outcome} → o .answer .result ≡ 0 → Kept p (o .unit) → Stays p message lent o
+  accepts e g = record { refused = λ h. absurd (h e); word = rw e (not-unsound 0 tt); kept = g }
 
   -- A refusal that leaves everything.
   keeps : (word : ℕ) {k : ℕ} → T (other word) → Stays p message lent (refusedAt p word k lent)
@@ -107,8 +128,9 @@ module _ (p : Plain) (message : Message) (lent : List ℕ) where
   newFileStays : (n size attributes : ℕ) (optional tail : List ℕ) → Stays p message lent (newFile p n size attributes optional tail lent)
   unfolding newFile
   newFileStays n size attributes optional tail =
-      ask _ no (ask _ no (ask _ no (ask _ no (ask _ (keeps _ tt)
-      (ask _ (keeps _ tt) (ask _ (keeps _ tt) (ask _ (keeps _ tt) (accepts refl (more-sys (layers-up p n (p .files)))))))))))
+      ask _ no (ask _ no (asks-law (Stays p message lent) _ no λ legal. asks-law (Stays p message lent) _ no λ ordinary. ask _ (keeps _ tt)
+      (ask _ (keeps _ tt) (ask _ (keeps _ tt) (ask _ (keeps _ tt) (accepts refl (more-sys (layers-up p n (p .files))
+      (λ a t. put-most a n _ (p .files) (ordinary-most attributes _ (given-ordinary attributes legal ordinary) a t)))))))))
 
   create : (name : Name) (size attributes : ℕ) → Stays p message lent (stepCreate p name size attributes lent)
   create name size attributes = ask _ no (newFileStays _ _ _ _ _)
@@ -120,21 +142,25 @@ module _ (p : Plain) (message : Message) (lent : List ℕ) where
   lookUp name = ask _ no (bring _ (keeps _ tt) λ e _. ask _ no (accepts refl same-sys))
 
   remove : (name : Name) → Stays p message lent (stepRemove p name lent)
-  remove name = ask _ no (ask _ (keeps _ tt) (bring _ no λ f _. ask _ no (ask _ no (accepts refl same-sys))))
+  remove name = ask _ no (ask _ (keeps _ tt) (bring _ no λ f _. ask _ no (ask _ no
+      (accepts refl (other-files (λ a t. omega (arith, total-remove (hasAttributes a) (named name) (p .files))))))))
 
   -- a kept name needs no layer more
   change-up : (same : Bool) (m : ℕ) (others : Table File) → p .layers ≤ cond same (p .layers) (layersFor p m others)
   change-up true m others = omega arith
   change-up false m others = layers-up p m others
 
-  changeStays : (n : ℕ) (f : File) (m size attributes : ℕ) → Stays p message lent (changeFile p n f m size attributes lent)
+  changeStays : (n : ℕ) (f : File) (m size attributes : ℕ) → ((a : ℕ) → T (entryOnly a) → oneIf (eqb attributes a) ≤ weightAt (hasAttributes a) n (tableFind n (p .files)))
+      → Stays p message lent (changeFile p n f m size attributes lent)
   unfolding changeFile
-  changeStays n f m size attributes =
+  changeStays n f m size attributes most =
       ask _ no (ask _ no (ask _ no (ask _ no (ask _ no (ask _ (keeps _ tt)
-      (ask _ (keeps _ tt) (ask _ (keeps _ tt) (ask _ (keeps _ tt) (accepts refl (more-sys (change-up (eqb m n) m (tableRemove n (p .files)))))))))))))
+      (ask _ (keeps _ tt) (ask _ (keeps _ tt) (ask _ (keeps _ tt) (accepts refl (more-sys (change-up (eqb m n) m (tableRemove n (p .files)))
+      (λ a t. renamed-most a n _ (p .files) (most a t) m)))))))))))
 
   change : (name : Name) → Stays p message lent (stepChange p name lent)
-  change name = ask _ no (ask _ (keeps _ tt) (ask _ no (bring _ no λ f _. changeStays _ _ _ _ _)))
+  change name = ask _ no (ask _ (keeps _ tt) (ask _ no (bring _ no λ f e. asks-law (Stays p message lent) _ no λ ordinary.
+      changeStays _ _ _ _ _ (rw e (kept-most (attributesIn lent) (f .attributes) ordinary)))))
 
   -- the dummies answer 0
   dummy : Stays p message lent (done p lent)
@@ -146,7 +172,7 @@ module _ (p : Plain) (message : Message) (lent : List ℕ) where
 
   removeArea : (name : Name) → Stays p message lent (stepRemoveArea p name lent)
   removeArea name =
-      ask _ (keeps _ tt) (ask _ (keeps _ tt) (bring _ dummy λ users _. ask _ dummy (bring _ dummy λ f _. accepts refl same-sys)))
+      ask _ (keeps _ tt) (ask _ (keeps _ tt) (bring _ dummy λ users _. ask _ dummy (bring _ dummy λ f e. accepts refl (same-attributes (named name) _ e refl))))
 
   description : (unit bytes : ℕ) → Stays p message lent (stepDescription p unit bytes lent)
   unfolding stepDescription
@@ -166,24 +192,24 @@ positionStays : {p : Plain} {message : Message} {lent : List ℕ} (move : ℕ �
 unfolding positioned
 positionStays move block len refusal next stop go = ask _ (stop _ _ tt) (ask _ (stop _ _ tt) (go block))
 
-module _ (p : Plain) (message : Message) (lent : List ℕ) (n : ℕ) (move : ℕ → Plain) (stays : (k : ℕ) → NeverShrinks p (move k)) (f : File) where
+module _ (p : Plain) (message : Message) (lent : List ℕ) (n sender : ℕ) (users : Table AreaUser) (u : AreaUser) (f : File) (entered : tableFind n (p .files) ≡ some f) where
   -- Input and output from the unit q that Position left.
-  inputStays : (q : Plain) (k : ℕ) → Left p message q → Stays p message lent (input q move f k lent)
+  inputStays : (q : Plain) (k : ℕ) → Left p message q → Stays p message lent (input q (moved p n sender users u) f k lent)
   unfolding input
-  inputStays q k l = ask _ (leaves _ (end-law (λ word. T (other word)) (f .attributes) tt tt) l) (accepts refl (stays _))
+  inputStays q k l = ask _ (leaves _ (end-law (λ word. T (other word)) (f .attributes) tt tt) l) (accepts refl same-sys)
 
-  outputStays : (q : Plain) (k : ℕ) → Left p message q → Stays p message lent (output p q move n f k lent)
+  outputStays : (q : Plain) (k : ℕ) → Left p message q → Stays p message lent (output p q (moved p n sender users u) n f k lent)
   unfolding output append
   outputStays q k l =
-      either-law (Stays p message lent) _ (λ _. accepts refl (then-file (stays _)))
-      (λ _. ask _ (leaves _ tt l) (ask _ (leaves _ tt l) (ask _ (leaves _ tt l) (accepts refl (then-file (stays _))))))
+      either-law (Stays p message lent) _ (λ _. accepts refl (same-attributes n _ entered refl))
+      (λ _. ask _ (leaves _ tt l) (ask _ (leaves _ tt l) (ask _ (leaves _ tt l) (accepts refl (same-attributes n _ entered refl)))))
 
 module _ (p : Plain) (lent : List ℕ) (name : Name) (sender : ℕ) (users : Table AreaUser) (isOpen : tableFind (named name) (p .areas) ≡ some users) where
   reserveStays : (operation : Operation) (count : ℕ) → Stays p (AreaMessage name sender operation) lent (stepReserve p (named name) sender users count lent)
   unfolding stepReserve
   reserveStays operation count = ask _ (keeps _ tt) (ask _ (keeps _ tt) (ask _ (keeps _ tt) (ask _ (keeps _ tt) (accepts refl same-sys))))
 
-  module _ (u : AreaUser) (isUser : tableFind sender users ≡ some u) (f : File) where
+  module _ (u : AreaUser) (isUser : tableFind sender users ≡ some u) (f : File) (entered : tableFind (named name) (p .files) ≡ some f) where
     movedLeft : {operation : Operation} (k : ℕ) → Moves operation → Left p (AreaMessage name sender operation) (moved p (named name) sender users u k)
     movedLeft k m = butPosition m (record { users = users; user = u; isOpen = isOpen; isUser = isUser; to = k; moves = refl })
 
@@ -204,8 +230,8 @@ module _ (p : Plain) (lent : List ℕ) (name : Name) (sender : ℕ) (users : Tab
         go : (q : Plain) (k : ℕ) → Left p (AreaMessage name sender (Transput operation bytes block)) q
             → P (either (isOutput operation) (output p q move (named name) f k lent) (input q move f k lent))
         go q k l = either-law P _
-            (λ _. outputStays p _ lent (named name) move (λ j. same-sys) f q k l)
-            (λ _. inputStays p _ lent (named name) move (λ j. same-sys) f q k l)
+            (λ _. outputStays p _ lent (named name) sender users u f entered q k l)
+            (λ _. inputStays p _ lent (named name) sender users u f entered q k l)
 
     userStays : (operation : Operation) → Stays p (AreaMessage name sender operation) lent (userStep p (named name) sender users u f operation lent)
     unfolding userStep stepRelease
@@ -219,7 +245,7 @@ module _ (p : Plain) (lent : List ℕ) (name : Name) (sender : ℕ) (users : Tab
       → Stays p (AreaMessage name sender operation) lent (operationStep p (named name) sender users operation count lent)
   unfolding operationStep
   operationStays operation (some count) = reserveStays operation count
-  operationStays operation none = bring _ (keeps _ tt) λ u isUser. bring _ (keeps _ tt) λ f _. userStays u isUser f operation
+  operationStays operation none = bring _ (keeps _ tt) λ u isUser. bring _ (keeps _ tt) λ f entered. userStays u isUser f entered operation
 
 area : (p : Plain) (lent : List ℕ) (name : Name) (sender : ℕ) (operation : Operation)
     → Stays p (AreaMessage name sender operation) lent (stepArea p name sender operation lent)
@@ -255,7 +281,13 @@ never-unsound-after [] p = tt
 never-unsound-after (c ∷ calls) p = (never-unsound p (c .message) (c .lent), never-unsound-after calls (step p (c .message) (c .lent) .unit))
 
 pub never-shrinks : (calls : List Call) (p : Plain) → NeverShrinks p (after p calls)
-never-shrinks [] p = same-sys
+never-shrinks [] p = same-sys .sys
 never-shrinks (c ∷ calls) p =
     let q : Plain = step p (c .message) (c .lent) .unit in
-    shrinks-trans (stays p (c .message) (c .lent) .sys) (never-shrinks calls q)
+    shrinks-trans (stays p (c .message) (c .lent) .kept .sys) (never-shrinks calls q)
+
+pub no-more-entry-only : (calls : List Call) (p : Plain) → NoMoreEntryOnly p (after p calls)
+no-more-entry-only [] p a t = omega arith
+no-more-entry-only (c ∷ calls) p a t =
+    let q : Plain = step p (c .message) (c .lent) .unit in
+    omega (arith, stays p (c .message) (c .lent) .kept .entry-only a t, no-more-entry-only calls q a t)

@@ -7,7 +7,7 @@ use lib.Dec.{leb, eqb}
 use Rattle.types.specs.declared.Name.{Name}
 use Rattle.disc.specs.Numbers.{need, negative}
 use Rattle.disc.specs.Names.{named, unitIn, nameOf, legalName}
-use Rattle.disc.specs.Attributes.{legalAttributes, legalWith, permanent}
+use Rattle.disc.specs.Attributes.{legalAttributes, legalWith, givesEntryOnly, permanent}
 use Rattle.disc.specs.Slices.{lastOf}
 use Rattle.plain.specs.Table.{Table, tableFind, tablePut, tableRemove, isSome}
 use Rattle.plain.specs.Unit.{Plain, File, entry, withFiles}
@@ -38,7 +38,8 @@ stepInit p unit lent =
     (asks (eqb (length (p .areas)) 0) (replies p 0x1200 lent)
     (done p lent))
 
--- "Create, Set: need(size) slices, size zero sectors, all booked", from question 4's name, size and attributes on.
+-- "Create, Set: need(size) slices, size zero sectors, all booked", from question 4's name, size and attributes on. Bit 13 is not given
+-- (R-9), so that "13 only with no slices" is no question here.
 unfoldable pub newFile : Plain → ℕ → ℕ → ℕ → List ℕ → List ℕ → List ℕ → Outcome
 newFile p n size attributes optional tail lent =
     let count : ℕ = need (p .s) size in
@@ -55,7 +56,7 @@ newFile p n size attributes optional tail lent =
     asks (legalName n) (replies p 0x1200 lent)
     (asks (not (negative size)) (replies p 0x1200 lent)
     (asks (legalAttributes attributes) (replies p 0x1200 lent)
-    (asks (legalWith attributes count) (replies p 0x1200 lent)
+    (asks (not (givesEntryOnly attributes)) (replies p 0x1200 lent)
     (asks (not (isSome (entry p n))) (replies p 0x1010 lent)
     (enough p t (t .fileNew) lent (tablePut n f (p .files)))))))
 
@@ -136,6 +137,7 @@ changeFile p n f m size attributes lent =
     (asks (eqb m n || not (isSome (entry p m))) (replies p 0x1010 lent)
     (enough p t slices lent (tablePut m (changed f attributes size count slices lent) others)))))))
 
+-- R-9: "1200h at question 4", whichever attributes the entry has.
 abbrev pub stepChange : Plain → Name → List ℕ → Outcome
 stepChange p name lent =
     let n : ℕ = named name in
@@ -143,4 +145,5 @@ stepChange p name lent =
     (asks (isSome (entry p n)) (replies p 0x5000 lent)
     (asks (isRecord lent) (replies p 0x1200 lent)
     (given (tableFind n (p .files)) (replies p 0x1200 lent) λ f.
-    changeFile p n f (newName n lent) (keptOr (sizeIn lent) (f .booked)) (keptOr (attributesIn lent) (f .attributes)) lent)))
+    asks (not (givesEntryOnly (attributesIn lent))) (replies p 0x1200 lent)
+    (changeFile p n f (newName n lent) (keptOr (sizeIn lent) (f .booked)) (keptOr (attributesIn lent) (f .attributes)) lent))))

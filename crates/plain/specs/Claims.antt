@@ -1,12 +1,12 @@
--- What is claimed of the plain unit alone: `Good` is kept, the sum, what a refused call leaves, that SYS never shrinks, and which
--- result words never come.
+-- What is claimed of the plain unit alone: `Good` is kept, the sum, what a refused call leaves, that SYS never shrinks, that
+-- entry-only files never become more, and which result words never come.
 use mathlib.Core.Path.{_≡_}
 use mathlib.Core.List.{List, [], _∷_, _++_}
 use mathlib.Core.Option.{some}
 use mathlib.Core.Logic.{_≢_, _⊎_}
 use Prim.Native.Nat.{ℕ, _+_, _≤_}
 use lib.ListN.{length}
-use lib.Dec.{T}
+use lib.Dec.{T, eqb}
 use Rattle.types.specs.declared.Operation.{Operation}
 use Rattle.types.specs.declared.Operation.the-variants.{Reserve, Position, Sense, Transput, Other}
 use Rattle.types.specs.declared.Message.{Message}
@@ -14,11 +14,12 @@ use Rattle.types.specs.declared.Message.the-variants.{AreaMessage}
 use Rattle.types.specs.declared.Name.{Name}
 use Rattle.disc.specs.Words.{Words}
 use Rattle.disc.specs.Names.{named}
+use Rattle.disc.specs.Attributes.{entryOnly}
 use Rattle.disc.specs.Slices.{InRangeOnce}
-use Rattle.plain.specs.Table.{Table, tableFind}
-use Rattle.plain.specs.Unit.{Plain, AreaUser, M, held, freeSlices}
+use Rattle.plain.specs.Table.{Row, Table, tableFind, total}
+use Rattle.plain.specs.Unit.{Plain, File, AreaUser, M, held, freeSlices}
 use Rattle.plain.specs.Areas.{moved}
-use Rattle.plain.specs.Transput.{isRandom}
+use Rattle.plain.specs.Transput.{isRandom, oneIf}
 use Rattle.plain.specs.Step.{Call, Reply, step, after, answers}
 use Rattle.plain.specs.Questions.{Outcome}
 use Rattle.plain.specs.Good.{Good}
@@ -68,6 +69,17 @@ pub record NeverShrinks (p q : Plain) : Type 0 where
   pub new : List ℕ
   pub slices : q .sys ≡ p .sys ++ new
 
+-- 1 for a file with the attributes a, and the number of them.
+abbrev pub hasAttributes : ℕ → Row File → ℕ
+hasAttributes a r = oneIf (eqb (r .val .attributes) a)
+
+abbrev pub filesWith : ℕ → Plain → ℕ
+filesWith a p = total (hasAttributes a) (p .files)
+
+-- "No program of ours creates them now" (document 02, R-9): of any attributes with bit 13, no more files have them in q than in p.
+abbrev pub NoMoreEntryOnly : Plain → Plain → Type 0
+NoMoreEntryOnly p q = (a : ℕ) → T (entryOnly a) → filesWith a q ≤ filesWith a p
+
 -- "9000h and 8800h never come": a result word is neither.
 pub record NeverUnsound (word : ℕ) : Type 0 where
   pub catalog : word ≢ 0x9000
@@ -78,11 +90,12 @@ abbrev pub EachNeverUnsound : List Reply → Type 0
 EachNeverUnsound [] = Unit {0}
 EachNeverUnsound (r ∷ replies) = NeverUnsound (r .answer .result) × EachNeverUnsound replies
 
--- The claims. The last four hold of every plain unit, good or not.
+-- The claims. The last five hold of every plain unit, good or not.
 pub record PlainClaims : Type 0 where
   pub keeps : (p : Plain) (message : Message) (lent : List ℕ) → Good p → Words lent → Good (step p message lent .unit)
   pub adds : (calls : List Call) (p : Plain) → Good p → LentWords calls → Good (after p calls) × Adds (after p calls)
   pub refuses : (p : Plain) (message : Message) (lent : List ℕ) → step p message lent .answer .result ≢ 0 → Refused p message lent (step p message lent)
   pub never-shrinks : (calls : List Call) (p : Plain) → NeverShrinks p (after p calls)
+  pub no-more-entry-only : (calls : List Call) (p : Plain) → NoMoreEntryOnly p (after p calls)
   pub never-unsound : (p : Plain) (message : Message) (lent : List ℕ) → NeverUnsound (step p message lent .answer .result)
   pub never-unsound-after : (calls : List Call) (p : Plain) → EachNeverUnsound (answers p calls)

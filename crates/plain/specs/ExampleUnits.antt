@@ -147,6 +147,10 @@ fullLayer = smallUnit 0 1 (emptyFiles 0x41 14) []
 abbrev pub twoLayers : Plain
 twoLayers = smallUnit 0 2 (crowd 0x4141 0x5A5A 15 ++ crowd 0x4241 0x595A 15) []
 
+-- Of before R-9: 'C' is entry only, 'D' entry only and permanent.
+abbrev pub oldUnit : Plain
+oldUnit = smallUnit 0 1 (fileRow cName (fileWith 4 [] []) ∷ fileRow dName (fileWith 0x0014 [] []) ∷ []) []
+
 -- H = 2: SYS, MAP and fourteen files take all places of key 1. 'A', of key 0, has all slices but SYS's.
 abbrev pub heldUnit : Plain
 heldUnit = record {

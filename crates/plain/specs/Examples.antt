@@ -16,7 +16,7 @@ use Rattle.plain.specs.Unit.{Plain, File, AreaUser, freeSectors}
 use Rattle.plain.specs.Step.{after}
 use Rattle.plain.specs.Cases.{Case, gives, givesAt, givesCounts, callsOf, Shows, wordsAfter}
 use Rattle.plain.specs.Paper.{paperUnit, pass, mixedPass, smallPass, sectorOf, slicesIn}
-use Rattle.plain.specs.ExampleUnits.{aName, bName, cName, dName, zName, char, smallA, oneName, bracketName, elsewhere, sysName, mapName, smallSys, mixedMap, crowdName, lentEntry, setEntry, keptName, keep, blank, userRow, smallUnit, nineFiles, fullLayer, twoLayers, heldUnit, keyFull, openUnit, countedUnit, outputUnit, scattered, crowded, areaRow}
+use Rattle.plain.specs.ExampleUnits.{aName, bName, cName, dName, zName, char, smallA, oneName, bracketName, elsewhere, sysName, mapName, smallSys, mixedMap, crowdName, lentEntry, setEntry, keptName, keep, blank, userRow, smallUnit, nineFiles, oldUnit, fullLayer, twoLayers, heldUnit, keyFull, openUnit, countedUnit, outputUnit, scattered, crowded, areaRow}
 
 -- The unit after the calls of some cases; a file of it, its slices, and the users of an area.
 abbrev pub afterCases : Plain → List Case → Plain
@@ -52,13 +52,15 @@ setCases =
     ∷ gives (Set aName) (setEntry 2 2) 0x1200  -- 4: attributes, bit 14
     ∷ gives (Set aName) (setEntry 0x8010 2) 0x1200  -- 4: attributes, bit 0
     ∷ gives (Set aName) (setEntry 5 0) 0x1200  -- 4: bits 13 and 15
-    ∷ gives (Set aName) (setEntry 4 1) 0x1200  -- 4: bit 13 with a slice
+    ∷ gives (Set aName) (setEntry 4 1) 0x1200  -- 4: bit 13
+    ∷ gives (Set aName) (setEntry 4 0) 0x1200  -- 4: bit 13
+    ∷ gives (Set sysName) (setEntry 4 0) 0x1200  -- 4: bit 13, before 6
     ∷ gives (Set sysName) (setEntry 1 2) 0x1010  -- 6
     ∷ gives (Set aName) (setEntry 1 8) 0x1100  -- 7: five slices of four
     ∷ gives (Set aName) (setEntry 0x4019 3) 0
     ∷ gives (Set aName) (setEntry 1 0) 0x1010  -- 6
     ∷ gives (Set smallA) (setEntry 1 0) 0  -- 'a' is another name
-    ∷ gives (Set bName) (setEntry 4 0) 0
+    ∷ gives (Set bName) (setEntry 0x4008 0) 0
     ∷ gives (Set cName) (setEntry 0 4) 0x1100  -- 7: three slices of two
     ∷ []
 
@@ -69,13 +71,16 @@ createCases =
     ∷ gives (Create aName 0x8000 1) [] 0x1200  -- 4: size
     ∷ gives (Create aName 2 2) [] 0x1200  -- 4: attributes, bit 14
     ∷ gives (Create aName 0 5) [] 0x1200  -- 4: bits 13 and 15
-    ∷ gives (Create aName 1 4) [] 0x1200  -- 4: bit 13 with a slice
+    ∷ gives (Create aName 1 4) [] 0x1200  -- 4: bit 13
+    ∷ gives (Create aName 0 4) [] 0x1200  -- 4: bit 13
+    ∷ gives (Create aName 0 0x401C) [] 0x1200  -- 4: bit 13 beside 1, 11 and 12
+    ∷ gives (Create mapName 0 4) [] 0x1200  -- 4: bit 13, before 6
     ∷ gives (Create mapName 2 1) [] 0x1010  -- 6
     ∷ gives (Create aName 8 1) [] 0x1100  -- 7
     ∷ gives (Create aName 2 1) [] 0
     ∷ gives (Create aName 0 1) [] 0x1010  -- 6
     ∷ gives (Create smallA 0 1) [] 0  -- 'a' is another name
-    ∷ gives (Create bName 0 4) [] 0
+    ∷ gives (Create bName 0 0x4018) [] 0
     ∷ gives (Create cName 4 0) [] 0x1100  -- 7
     ∷ []
 
@@ -169,7 +174,9 @@ refusedChanges =
     ∷ gives (Change aName) (lentEntry (record { 0 = 0x0041; 1 = 0; 2 = 0 }) keep keep) 0x1200  -- 4: name
     ∷ gives (Change aName) (keptName 2 keep) 0x1200  -- 4: attributes, bit 14
     ∷ gives (Change aName) (keptName 5 0) 0x1200  -- 4: bits 13 and 15
-    ∷ gives (Change aName) (keptName 4 keep) 0x1200  -- 4: bit 13 with slices
+    ∷ gives (Change aName) (keptName 4 keep) 0x1200  -- 4: bit 13
+    ∷ gives (Change aName) (keptName 4 0) 0x1200  -- 4: bit 13
+    ∷ gives (Change cName) (keptName 4 0) 0x5000  -- 3, before 4
     ∷ gives (Change sysName) (keptName keep keep) 0x1200  -- 5: SYS
     ∷ gives (Change mapName) (keptName keep keep) 0x1200  -- 5: MAP
     ∷ gives (Change bName) (keptName keep 2) 0x1200  -- 5: permanent, length
@@ -194,12 +201,48 @@ abbrev pub furtherChanges : List Case
 furtherChanges =
     gives (Change aName) (lentEntry cName keep keep) 0
     ∷ gives (LookUp aName) (blank 16) 0x5000  -- 3
-    ∷ gives (Change cName) (keptName 4 0) 0  -- bit 13 "as the entry would stand after the message"
+    ∷ gives (Change cName) (keptName 0 0) 0
+    ∷ gives (Change cName) (keptName 4 keep) 0x1200  -- 4: bit 13
     ∷ gives (Change bName) (keptName keep 0) 0
     ∷ []
 
 abbrev pub changeCases : List Case
 changeCases = refusedChanges ++ (changes ++ furtherChanges)
+
+-- On a unit of before R-9: 'C' is entry only, and 'D' entry only and permanent. What the lent entry gives is refused, what it keeps is
+-- judged "as the entry would stand after the message".
+abbrev pub refusedOld : List Case
+refusedOld =
+    gives (Change cName) (keptName 4 keep) 0x1200  -- 4: bit 13, which the entry has
+    ∷ gives (Change cName) (keptName 4 0) 0x1200  -- 4: bit 13
+    ∷ gives (Change dName) (keptName 0x0014 keep) 0x1200  -- 4: bit 13
+    ∷ gives (Change cName) (lentEntry dName 4 keep) 0x1200  -- 4: bit 13, before 6
+    ∷ gives (Change cName) (lentEntry dName keep keep) 0x1010  -- 6
+    ∷ gives (Change cName) (keptName keep 1) 0x1200  -- 4: bit 13 kept, with a slice
+    ∷ gives (Change dName) (keptName 0x0010 1) 0x1200  -- 5: permanent, length
+    ∷ gives (Change cName) (keptName 0 8) 0x1100  -- 7: five slices of four
+    ∷ gives (CreateArea cName) [] 0
+    ∷ gives (Change cName) (keptName 0 keep) 0x1200  -- 5: area process
+    ∷ gives (AreaMessage cName 7 (Reserve 3)) [] 0
+    ∷ gives (AreaMessage cName 7 (Transput 3 512 0)) (sectorOf 1) 0x0A00  -- appending: extendable?
+    ∷ gives (AreaMessage cName 7 (Reserve 0)) [] 0
+    ∷ gives (RemoveArea cName) [] 0
+    ∷ []
+
+-- 'C' keeps its attributes by any negative word, becomes 'Z', then an extendable file of two blocks; 'D' becomes an ordinary permanent file.
+abbrev pub changedOld : List Case
+changedOld =
+    gives (Change cName) (keptName 0x8004 keep) 0
+    ∷ gives (Change cName) (keptName keep 0) 0
+    ∷ gives (Change cName) (lentEntry zName keep keep) 0
+    ∷ gives (Change zName) (keptName 1 2) 0
+    ∷ gives (Change zName) (keptName 4 0) 0x1200  -- 4: bit 13
+    ∷ gives (Change dName) (keptName keep keep) 0
+    ∷ gives (Change dName) (keptName 0x0010 keep) 0
+    ∷ []
+
+abbrev pub oldCases : List Case
+oldCases = refusedOld ++ changedOld
 
 abbrev pub shorter : List Case
 shorter = gives (Create aName 4 1) [] 0 ∷ gives (Change aName) (keptName keep 1) 0 ∷ []
@@ -417,7 +460,7 @@ randomInputCases =
     ∷ readsAt 1 0 512 1
     ∷ []
 
--- Files without a block, by 1 and by 5: 'A' is extendable, 'B' fixed, 'C' entry only.
+-- Files without a block, by 1 and by 5: 'A' is extendable, 'B' fixed, 'C', of before R-9, entry only.
 abbrev pub endsAt : Name → ℕ → List Case
 endsAt name word =
     gives (CreateArea name) [] 0
@@ -431,7 +474,6 @@ abbrev pub emptyInputCases : List Case
 emptyInputCases =
     gives (Create aName 0 1) [] 0
     ∷ gives (Create bName 0 0) [] 0
-    ∷ gives (Create cName 0 4) [] 0
     ∷ endsAt aName 0x0810 ++ (endsAt bName 0x0A00 ++ endsAt cName 0x0A00)
 
 -- Output by user 7 or 8: by 3, 7 and 19 alike, as the block is always the user's position.
@@ -526,7 +568,7 @@ pub record Examples : Type 0 where
       ≡ 0x4100 ∷ 0 ∷ 0 ∷ 3 ∷ 4 ∷ 5 ∷ 0x4019 ∷ 3 ∷ 12 ∷ 4 ∷ 10 ∷ 11 ∷ 12 ∷ 13 ∷ 14 ∷ 15 ∷ 0xFFFF ∷ []
   pub create : Shows paperUnit createCases
   pub createWords : wordsAfter (afterCases paperUnit createCases) (LookUp bName) (blank 16)
-      ≡ 0x4200 ∷ 0 ∷ 0 ∷ 0 ∷ 0 ∷ 0 ∷ 4 ∷ 0 ∷ 0 ∷ 0 ∷ noTail
+      ≡ 0x4200 ∷ 0 ∷ 0 ∷ 0 ∷ 0 ∷ 0 ∷ 0x4018 ∷ 0 ∷ 0 ∷ 0 ∷ noTail
   pub character : Shows paperUnit characterCases
   pub system : Shows paperUnit systemCases
   pub keyed : Shows keyFull keyedCases
@@ -548,6 +590,13 @@ pub record Examples : Type 0 where
   -- "For a permanent file optional and tail stay too."
   pub permanentWords : wordsAfter (afterCases paperUnit (refusedChanges ++ changes)) (LookUp bName) (blank 16)
       ≡ 0x4200 ∷ 0 ∷ 0 ∷ 0 ∷ 0 ∷ 0 ∷ 0 ∷ 1 ∷ 16 ∷ 2 ∷ noTail
+  pub old : Shows oldUnit oldCases
+  -- "Change that gives attributes without bit 13 makes it an ordinary file"; a permanent one's optional and tail stay
+  pub oldSlices : slicesIn (fileIn zName (afterCases oldUnit oldCases)) ≡ 2 ∷ 3 ∷ []
+  pub oldWords : wordsAfter (afterCases oldUnit oldCases) (LookUp zName) (blank 16)
+      ≡ 0x5A00 ∷ 0 ∷ 0 ∷ 3 ∷ 4 ∷ 5 ∷ 1 ∷ 2 ∷ 12 ∷ 4 ∷ 10 ∷ 11 ∷ 12 ∷ 13 ∷ 14 ∷ 15 ∷ []
+  pub oldPermanent : wordsAfter (afterCases oldUnit oldCases) (LookUp dName) (blank 16)
+      ≡ 0x4400 ∷ 0 ∷ 0 ∷ 0 ∷ 0 ∷ 0 ∷ 0x0010 ∷ 0 ∷ 0 ∷ 0 ∷ noTail
   pub givenBack : (slicesIn (fileIn aName (afterCases paperUnit shorter)) ≡ 2 ∷ []) × (freeSectors (afterCases paperUnit shorter) ≡ 6)
   pub served : Shows heldUnit servedCases
   pub servedSys : afterCases heldUnit servedCases .sys ≡ 1 ∷ 2 ∷ []
@@ -570,7 +619,7 @@ pub record Examples : Type 0 where
   pub input : Shows openUnit inputCases
   pub inputWords : wordsAfter openUnit (AreaMessage aName 7 (Transput 1 512 0)) (blank 257) ≡ sectorOf 0xA0 ++ blank 1
   pub randomInput : Shows openUnit randomInputCases
-  pub emptyInput : Shows paperUnit emptyInputCases
+  pub emptyInput : Shows oldUnit emptyInputCases
   pub output3 : Shows outputUnit (outputCases 3)
   pub output7 : Shows outputUnit (outputCases 7)
   pub output19 : Shows outputUnit (outputCases 19)

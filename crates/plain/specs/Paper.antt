@@ -1,23 +1,23 @@
--- Section 'Worked on paper': P1 to P8 and the cases not marked, as rows of one stated fact; and of document 02 the end of a file (R-4)
--- and names that differ in small letters (R-8).
+-- Section 'Worked on paper': P1 to P8 and the cases not marked, as rows of one stated fact; and of document 02 the end of a file (R-4),
+-- names that differ in small letters (R-8) and a disc of before that holds an entry-only file (R-9).
 use mathlib.Core.Path.{_≡_}
 use mathlib.Core.List.{List, [], _∷_, _++_}
 use mathlib.Core.Option.{Option, none, some}
 use Prim.Native.Nat.{ℕ}
-use lib.ListN.{getD, replicate}
+use lib.ListN.{getD, take, drop, replicate}
 use Rattle.types.specs.declared.Name.{Name}
 use Rattle.types.specs.declared.Operation.{Operation}
 use Rattle.types.specs.declared.Operation.the-variants.{Reserve, Position, Transput}
-use Rattle.types.specs.declared.Message.the-variants.{Create, LookUp, Change, CreateArea, RemoveArea, AreaMessage}
+use Rattle.types.specs.declared.Message.the-variants.{Set, Create, LookUp, Change, Remove, CreateArea, RemoveArea, AreaMessage, Listing}
 use Rattle.disc.specs.Numbers.{need}
 use Rattle.disc.specs.Names.{named, keyOf, SYS, MAP}
 use Rattle.disc.specs.Stretches.{indexWords}
 use Rattle.disc.specs.Map.{mapWord}
 use Rattle.plain.specs.Table.{tableFind}
-use Rattle.plain.specs.Unit.{Plain, File, M, held, freeSectors}
+use Rattle.plain.specs.Unit.{Plain, File, M, held, freeSectors, withFiles}
 use Rattle.plain.specs.Fresh.{freshUnit}
 use Rattle.plain.specs.Step.{after}
-use Rattle.plain.specs.Cases.{Case, gives, givesAt, callsOf, Shows, wordsAfter}
+use Rattle.plain.specs.Cases.{Case, gives, givesAt, givesCounts, callsOf, Shows, wordsAfter}
 
 -- "H = 1, s = 2, N = 20, F = 10", fresh: unit 0 as Format makes it.
 abbrev pub paperUnit : Plain
@@ -149,6 +149,78 @@ abbrev pub passEntry : ℕ → ℕ → ℕ → ℕ → ℕ → List ℕ
 passEntry first second size index reserved =
     first ∷ second ∷ 0 ∷ 0 ∷ 0 ∷ 0 ∷ 1 ∷ size ∷ index ∷ reserved ∷ 0 ∷ 0 ∷ 0 ∷ 0 ∷ 0 ∷ 0 ∷ replicate 240 9
 
+-- The paper unit as a disc of before R-9 has it: one file, 'PASS', which is entry only.
+abbrev pub entryOnlyUnit : Plain
+entryOnlyUnit = withFiles paperUnit (record {
+  key = named pass;
+  val = record {
+    attributes = 4;
+    optional = 1 ∷ 2 ∷ 3 ∷ [];
+    tail = 10 ∷ 11 ∷ 12 ∷ 13 ∷ 14 ∷ 15 ∷ [];
+    booked = 0;
+    bookedSlices = 0;
+    slices = [];
+    sectors = [];
+  };
+} ∷ [])
+
+-- The words of its entry.
+abbrev pub entryOnlyWords : List ℕ
+entryOnlyWords = 0x5041 ∷ 0x5353 ∷ 0 ∷ 1 ∷ 2 ∷ 3 ∷ 4 ∷ 0 ∷ 0 ∷ 0 ∷ 10 ∷ 11 ∷ 12 ∷ 13 ∷ 14 ∷ 15 ∷ []
+
+-- The record for a Set or Change with these first two words of a name, attributes and length; and the words of an entry after it, with these
+-- length, index sector and reserved sectors.
+abbrev pub recordOf : ℕ → ℕ → ℕ → ℕ → List ℕ
+recordOf first second attributes size =
+    first ∷ second ∷ 0 ∷ 4 ∷ 5 ∷ 6 ∷ attributes ∷ 0 ∷ 0 ∷ size ∷ 20 ∷ 21 ∷ 22 ∷ 23 ∷ 24 ∷ 25 ∷ []
+
+abbrev pub recorded : ℕ → ℕ → ℕ → ℕ → ℕ → ℕ → List ℕ
+recorded first second attributes size index reserved =
+    first ∷ second ∷ 0 ∷ 4 ∷ 5 ∷ 6 ∷ attributes ∷ size ∷ index ∷ reserved ∷ 20 ∷ 21 ∷ 22 ∷ 23 ∷ 24 ∷ 25 ∷ []
+
+-- A Change of 'PASS' that keeps the name, with these attributes and length, and its result word.
+abbrev pub changesPass : ℕ → ℕ → ℕ → Case
+changesPass attributes size result = gives (Change pass) (recordOf 0 0 attributes size) result
+
+-- Look-up's words for a name after some calls on the disc of before.
+abbrev pub entryAfter : Name → List Case → List ℕ
+entryAfter name cases = wordsAfter (after entryOnlyUnit (callsOf cases)) (LookUp name) (replicate 16 0xFFFF)
+
+-- Bit 13 is given; or it is kept, and the file would have a slice.
+abbrev pub refusedCalls : List Case
+refusedCalls =
+    gives (Create zzzzz 0 4) [] 0x1200  -- 4
+    ∷ gives (Set zzzzz) (recordOf 0 0 4 0) 0x1200  -- 4
+    ∷ changesPass 4 0xFFFF 0x1200  -- 4, though the entry has bit 13
+    ∷ changesPass 4 0 0x1200  -- 4
+    ∷ changesPass 0xFFFF 1 0x1200  -- 4: "13 only with no slices"
+    ∷ []
+
+-- 'PASS' keeps its attributes; becomes 'Pass'; is removed; becomes an ordinary file of no block, or of two.
+abbrev pub keptCalls : List Case
+keptCalls = changesPass 0xFFFF 0xFFFF 0 ∷ []
+
+abbrev pub toMixed : List Case
+toMixed = gives (Change pass) (recordOf 0x5061 0x7373 0xFFFF 0xFFFF) 0 ∷ gives (LookUp pass) (replicate 16 0xFFFF) 0x5000 ∷ []  -- 3
+
+abbrev pub removeCalls : List Case
+removeCalls = gives (Remove pass) [] 0 ∷ []
+
+abbrev pub ordinaryCalls : List Case
+ordinaryCalls = changesPass 1 0xFFFF 0 ∷ []
+
+abbrev pub longerCalls : List Case
+longerCalls = changesPass 1 2 0 ∷ []
+
+-- The area of the entry-only file: a fixed file of no block.
+abbrev pub areaCalls : List Case
+areaCalls =
+    gives (CreateArea pass) [] 0
+    ∷ passArea 9 (Reserve 3) [] 0
+    ∷ passInput 1 0 0x0A00 0 0  -- below the length?
+    ∷ passArea 9 (Transput 3 512 0) (sectorOf 1) 0x0A00  -- appending: extendable?
+    ∷ []
+
 -- The fresh unit after the calls of P6, P7 and P8.
 abbrev pub sixth : Plain
 sixth = after paperUnit (callsOf sixCalls)
@@ -213,3 +285,19 @@ pub record Paper : Type 0 where
   -- "stored as given": name, attributes 0001h, length, index sector and reserved sectors; of 'PASS' as booked
   pub renamedWords : (wordsAfter renamed (LookUp smallPass) (sectorOf 9) ≡ passEntry 0x7061 0x7373 2 16 4)
       × (wordsAfter renamed (LookUp pass) (sectorOf 9) ≡ passEntry 0x5041 0x5353 1 14 2)
+  -- "An entry that still has it .. may be used as before": Look-up, a Change that keeps the attributes, a rename
+  pub entryOnlyLooked : entryAfter pass [] ≡ entryOnlyWords
+  pub entryOnlyKept : Shows entryOnlyUnit keptCalls × (entryAfter pass keptCalls ≡ recorded 0x5041 0x5353 4 0 0 0)
+  pub entryOnlyRenamed : Shows entryOnlyUnit toMixed × (entryAfter mixedPass toMixed ≡ recorded 0x5061 0x7373 4 0 0 0)
+  -- the same: area create, and the listing, between MAP and SYS
+  pub entryOnlyArea : Shows entryOnlyUnit areaCalls × (entryAfter pass areaCalls ≡ entryOnlyWords)
+  pub entryOnlyListed : Shows entryOnlyUnit (givesCounts (Listing 0) (replicate 48 9) 0 3 ∷ [])
+      × (take 16 (drop 16 (wordsAfter entryOnlyUnit (Listing 0) (replicate 48 9))) ≡ entryOnlyWords)
+  -- the same: Remove, after which the disc is the fresh one
+  pub entryOnlyRemoved : Shows entryOnlyUnit removeCalls × (after entryOnlyUnit (callsOf removeCalls) ≡ paperUnit)
+  -- "Change that gives attributes without bit 13 makes it an ordinary file": of no block, and of two in slices 2 and 3
+  pub entryOnlyOrdinary : Shows entryOnlyUnit ordinaryCalls × (entryAfter pass ordinaryCalls ≡ recorded 0x5041 0x5353 1 0 0 0)
+  pub entryOnlyLonger : Shows entryOnlyUnit longerCalls × (entryAfter pass longerCalls ≡ recorded 0x5041 0x5353 1 2 12 4)
+  pub entryOnlySlices : passSlices (after entryOnlyUnit (callsOf longerCalls)) ≡ 2 ∷ 3 ∷ []
+  -- "Refused: 1200h at question 4, where Set, Create or Change gives attributes that aren't negative and contain bit 13"
+  pub entryOnlyRefused : Shows entryOnlyUnit refusedCalls × (after entryOnlyUnit (callsOf refusedCalls) ≡ entryOnlyUnit)

@@ -9,7 +9,7 @@ use lib.Dec.{T, leb, leb→le}
 use lib.ListN.{length-append}
 use Rattle.disc.specs.Numbers.{need, negative}
 use Rattle.disc.specs.Names.{SYS, legalName, keyOf}
-use Rattle.disc.specs.Attributes.{legalAttributes, legalWith}
+use Rattle.disc.specs.Attributes.{legalAttributes, givesEntryOnly}
 use Rattle.disc.specs.Slices.{occurrences, taken, lastOf}
 use Rattle.disc.specs.Stretches.{stretchCount, sysFrom}
 use Rattle.disc.specs.Entries.{placeWord, placeCount, nameAt}
@@ -21,6 +21,7 @@ use Rattle.plain.specs.Taking.{layersFor}
 use Rattle.plain.specs.Catalog.{newFile}
 use Rattle.plain.specs.Good.{Good, WordsOf}
 use Rattle.plain.proofs.QuestionLaws.{not-some}
+use Rattle.plain.proofs.AttributeLaws.{given-legal}
 use Rattle.plain.proofs.UnitLaws.{occurrences-held, entry-none}
 use Rattle.plain.proofs.TakingLaws.{sysExtra, sysTaken}
 use Rattle.sound.specs.Places.{Unused}
@@ -48,7 +49,7 @@ pub record Yes (p : Plain) (l n size attributes : ℕ) : Type 0 where
   pub name : T (legalName n)
   pub short : T (not (negative size))
   pub allowed : T (legalAttributes attributes)
-  pub only : T (legalWith attributes (need (p .s) size))
+  pub given : T (not (givesEntryOnly attributes))
   pub vacant : T (not (isSome (entry p n)))
   pub room : T (leb (sysExtra p l + need (p .s) size) (freeSlices p))
   pub sysFew : T (leb (stretchCount (p .sys ++ sysTaken p l)) 127)
@@ -63,7 +64,7 @@ pub newFile-done : (p : Plain) (n size attributes : ℕ) (optional tail lent : L
     → newFile p n size attributes optional tail lent ≡ done (unitAfter p (layersFor p n (p .files)) n size attributes optional tail) lent
 unfolding newFile
 newFile-done p n size attributes optional tail lent y =
-    asks-yes _ _ _ (y .name) ∙ asks-yes _ _ _ (y .short) ∙ asks-yes _ _ _ (y .allowed) ∙ asks-yes _ _ _ (y .only) ∙ asks-yes _ _ _ (y .vacant)
+    asks-yes _ _ _ (y .name) ∙ asks-yes _ _ _ (y .short) ∙ asks-yes _ _ _ (y .allowed) ∙ asks-yes _ _ _ (y .given) ∙ asks-yes _ _ _ (y .vacant)
     ∙ asks-yes _ _ _ (y .room) ∙ asks-yes _ _ _ (y .sysFew) ∙ asks-yes _ _ _ (y .few)
 
 -- ---- SYS stays
@@ -84,7 +85,7 @@ module _ {p : Plain} (g : Good p) (n size attributes : ℕ) (optional tail : Lis
     name = y .name;
     fresh = not-some (entry p n) (y .vacant);
     attributes = y .allowed;
-    entryOnly = y .only;
+    entryOnly = given-legal attributes (need (p .s) size) (y .allowed) (y .given);
     optional = three;
     tail = six;
     slices = refl;
@@ -146,7 +147,7 @@ module _ (p : Plain) (n size attributes : ℕ) (optional tail : List ℕ) where
       name = y .name;
       fresh = entry-but-sys p n (entry-none p n (y .vacant) .1) ∙ not-some (entry p n) (y .vacant);
       attributes = y .allowed;
-      entryOnly = y .only;
+      entryOnly = given-legal attributes (need (p .s) size) (y .allowed) (y .given);
       optional = three;
       tail = six;
       slices = refl;

@@ -1,18 +1,16 @@
 -- Laws of the writes that the messages share: what each stores, what it leaves, and that words stay words.
 use mathlib.Core.Path.{_≡_, refl, sym, ap, _∙_}
-use mathlib.Core.Bool.{Bool, true, false, not}
+use mathlib.Core.Bool.{not}
 use mathlib.Core.List.{List, [], _∷_, _++_, append-nil}
 use mathlib.Core.Logic.{_≢_, ⊎-elim}
 use mathlib.Core.Option.{Option, some}
 use Prim.Native.Nat.{ℕ, zero, suc, _+_, _*_, _/_, _%_, _≤_, _<_}
 use native.Mathlib.Omega.{arith}
 use native.Mathlib.Nat.{mul-le-mul-left}
-use lib.Dec.{T, eqb, eqb→eq}
+use lib.Dec.{T}
 use lib.ListN.{length, replicate}
-use Rattle.disc.specs.Numbers.{bit}
 use Rattle.disc.specs.Words.{word, Words, Holds}
 use Rattle.disc.specs.Names.{SYS, legalName, isSystem, keyOf}
-use Rattle.disc.specs.Attributes.{wordIf, legalAttributes}
 use Rattle.disc.specs.Slices.{occurrences, oneIfNone, freeCount}
 use Rattle.disc.specs.Stretches.{sectorIn, indexWords, stretchCount, sysFrom}
 use Rattle.disc.specs.Kit.{kitSector}
@@ -34,7 +32,7 @@ use Rattle.index.proofs.BlockLaws.{length-wholeIndex, words-wholeIndex, holds-s
 use Rattle.plain.specs.Table.{Table, tableFind}
 use Rattle.plain.specs.Unit.{Plain, File, AreaUser, M, held, freeSectors, fileEntry, entry, withTables}
 use Rattle.plain.specs.Good.{Good}
-use Rattle.plain.proofs.QuestionLaws.{and-left}
+use Rattle.plain.proofs.AttributeLaws.{not-negative}
 use Rattle.plain.proofs.UnitLaws.{mapSome, entry-sys, entry-map, entry-other, not-system, system-cases}
 use Rattle.sound.specs.Places.{Unused}
 use Rattle.refine.specs.Represents.{PlaceOf, CatalogOf, Layout}
@@ -188,14 +186,6 @@ module _ (p : Plain) (g : Ground p) where
 legal-small : (n : ℕ) → T (legalName n) → n < 0x1000000000000
 legal-small n t = omega (arith, legal-begins n t .1)
 
-attributes-small : (a : ℕ) → T (legalAttributes a) → a < 65536
-attributes-small a t =
-    omega (arith, eqb→eq a _ (and-left (eqb a _) _ t), most (bit 1 a) 0x4000, most (bit 11 a) 0x10, most (bit 12 a) 8, most (bit 13 a) 4, most (bit 15 a) 1)
-  where
-    most : (b : Bool) (w : ℕ) → wordIf b w ≤ w
-    most true w = omega arith
-    most false w = omega arith
-
 words-entry : (n : ℕ) (optional : List ℕ) (attributes size index reserved : ℕ) (tail : List ℕ) → n < 0x1000000000000 → Words optional → attributes < 65536 → size < 65536 → index < 65536
     → reserved < 65536 → Words tail → Words (entryWords n optional attributes size index reserved tail)
 words-entry n optional attributes size index reserved tail hn wo ha hs hi hr wt =
@@ -229,7 +219,7 @@ module _ (p : Plain) (g : Good p) where
   words-file-entry n f h =
       let fg = g .files n f h in
       words-entry n (f .optional) (f .attributes) (f .booked) (indexSector (p .F) (p .s) (f .bookedSlices) (f .slices)) (p .s * f .bookedSlices) (f .tail)
-      (legal-small n (fg .name)) (fg .optional .words) (attributes-small (f .attributes) (fg .attributes)) (omega (arith, fg .bookedLow, length-small n f h))
+      (legal-small n (fg .name)) (fg .optional .words) (omega (arith, not-negative (f .attributes) (fg .attributes))) (omega (arith, fg .bookedLow, length-small n f h))
       (index-small n f h (f .bookedSlices) (fg .bookedSlicesLow))
       (omega (arith, mul-le-mul-left (p .s) (fg .bookedSlicesLow), part-sectors p gr (f .slices) (part-file p gr n f h))) (fg .tail .words)
 

@@ -1,5 +1,6 @@
 -- Change on a unit that is on the image: its contract has a result.
 use mathlib.Core.Path.{_≡_, refl, ap, _∙_, subst}
+use mathlib.Core.Bool.{not}
 use mathlib.Core.List.{List}
 use mathlib.Core.Logic.{_≢_}
 use mathlib.Core.Option.{none, some}
@@ -10,6 +11,7 @@ use lib.Dec.{T}
 use Rattle.types.specs.declared.Name.{Name}
 use Rattle.disc.specs.Words.{Words}
 use Rattle.disc.specs.Names.{keyOf, named, unitIn}
+use Rattle.disc.specs.Attributes.{givesEntryOnly}
 use Rattle.disc.specs.Entries.{placeCount, nameAt}
 use Rattle.disc.proofs.Compare.{same-or, below-or}
 use Rattle.plain.specs.Table.{tableFind, tableRemove, isSome}
@@ -17,7 +19,7 @@ use Rattle.plain.specs.Unit.{Plain, File, withFiles, entry}
 use Rattle.plain.specs.Questions.{Outcome, known}
 use Rattle.plain.specs.Good.{Good}
 use Rattle.plain.specs.Taking.{placesTaken}
-use Rattle.plain.specs.Catalog.{isRecord, newName, changeFile, stepChange}
+use Rattle.plain.specs.Catalog.{attributesIn, isRecord, newName, changeFile, stepChange}
 use Rattle.refine.specs.OnDisc.{OnDisc}
 use Rattle.refine.specs.Writes.{emptyPlace, resizedImage, changedImage, renamedImage}
 use Rattle.refine.specs.Replies.{refused, written}
@@ -116,18 +118,20 @@ pub change-ends : {image : List ℕ} {p : Plain} → OnDisc image p → (name : 
     → Ends {I = Unit {0}} p (λ _. lent) (writes image (ChangeDone p image (named name) lent)) (λ _. stepChange p name lent)
 change-ends {image} {p} on name lent words =
     ask (known p (unitIn name)) 0x1200 (omega arith) (λ mine. ask (isSome (entry p n)) 0x5000 (omega arith) (λ entered. ask (isRecord lent) 0x1200 (omega arith) (λ rec.
-    give (tableFind n (p .files)) (refuse 0x1200 (omega arith)) (λ f file. judged mine entered rec f file))))
+    give (tableFind n (p .files)) (refuse 0x1200 (omega arith)) (λ f file.
+    ask (not (givesEntryOnly (attributesIn lent))) 0x1200 (omega arith) (λ no-bit. judged mine entered rec no-bit f file)))))
   where
     n : ℕ
     n = named name
 
-    judged : T (known p (unitIn name)) → T (isSome (entry p (named name))) → T (isRecord lent) → (f : File) → tableFind (named name) (p .files) ≡ some f
+    judged : T (known p (unitIn name)) → T (isSome (entry p (named name))) → T (isRecord lent) → T (not (givesEntryOnly (attributesIn lent)))
+        → (f : File) → tableFind (named name) (p .files) ≡ some f
         → Ends {I = Unit {0}} p (λ _. lent) (writes image (ChangeDone p image (named name) lent)) (λ _. changeFile p (named name) f (newName (named name) lent) (sizeThen f lent) (attributesThen f lent) lent)
-    judged mine entered rec f file = same-or (changeFile p n f (newName n lent) (sizeThen f lent) (attributesThen f lent) lent .answer .result) 0
+    judged mine entered rec no-bit f file = same-or (changeFile p n f (newName n lent) (sizeThen f lent) (attributesThen f lent) lent .answer .result) 0
         (λ z.
         let asked = change-yes p n (newName n lent) (sizeThen f lent) (attributesThen f lent) f lent z in
         let is : stepChange p name lent ≡ changeFile p n f (newName n lent) (sizeThen f lent) (attributesThen f lent) lent =
-        asks-yes _ _ _ mine ∙ asks-yes _ _ _ entered ∙ asks-yes _ _ _ rec ∙ given-some _ f _ _ file in
+        asks-yes _ _ _ mine ∙ asks-yes _ _ _ entered ∙ asks-yes _ _ _ rec ∙ given-some _ f _ _ file ∙ asks-yes _ _ _ no-bit in
         let c = changes (on .good) n file lent words rec asked on (λ e i gf. change-grown name lent (ap (λ (x : Outcome). x .answer .result) is ∙ z) file e on gf) in
         record {
           result = 0;

@@ -96,7 +96,7 @@ module _ {image : List ℕ} {p : Plain} (on : OnDisc image p) where
         ask _ 0x1200 (omega arith) (λ a. ask _ 0x1200 (omega arith) (λ b. ask _ 0x1200 (omega arith) (λ c.
         ask _ 0x1200 (omega arith) (λ d. ask _ 0x1010 (omega arith) (λ e. ask _ 0x1100 (omega arith) (λ f.
         ask _ 0x1008 (omega arith) (λ g. ask _ 0x1008 (omega arith) (λ h.
-        made (record { name = a; short = b; allowed = c; only = d; vacant = e; room = f; sysFew = g; few = h })))))))))
+        made (record { name = a; short = b; allowed = c; given = d; vacant = e; room = f; sysFew = g; few = h })))))))))
 
   -- ---- Create
 

@@ -3,7 +3,8 @@
 use reference::generate::Unit;
 use reference::Answer;
 
-use crate::cases::Cases;
+use crate::cases::{self, Cases};
+use crate::entry_only::{self, Uses};
 use crate::{compare, Difference, Second, Seen, Side, Step};
 
 /// A unit as the proved library and as the second implementation have it.
@@ -12,6 +13,7 @@ pub struct Both<P> {
     second: Second,
     sound: bool,
     cases: Cases,
+    uses: Uses,
 }
 
 impl<P: Side> Both<P> {
@@ -22,12 +24,18 @@ impl<P: Side> Both<P> {
             second: Second::default(),
             sound: false,
             cases: Cases::default(),
+            uses: Uses::default(),
         }
     }
 
     /// The names that differ in case only, as they came up so far.
     pub fn cases(&self) -> &Cases {
         &self.cases
+    }
+
+    /// The uses of entry-only files, as they came up so far.
+    pub fn uses(&self) -> &Uses {
+        &self.uses
     }
 
     /// The second implementation.
@@ -44,11 +52,14 @@ impl<P: Side> Both<P> {
 
     /// Puts a step to both sides and compares them.
     pub fn put(&mut self, step: &Step) -> Result<(Answer, Vec<u16>), Difference> {
+        let mut uses = Vec::new();
         if self.sound {
-            self.cases.add(step, self.second.current());
+            cases::count(&mut self.cases, step, self.second.current());
+            uses = entry_only::met(step, self.second.current());
         }
         let (proved_answer, proved_lent) = self.proved.put(step);
         let (answer, lent) = self.second.put(step);
+        self.uses.add(uses, entry_only::outcome(answer));
         let proved = Seen::of(&self.proved, proved_answer, &proved_lent);
         let second = Seen::of(&self.second, answer, &lent);
         if let Some(difference) = compare(self.sound, &proved, &second) {

@@ -1,14 +1,11 @@
 //! How often calls met names that differ in case only.
 
-use std::collections::BTreeMap;
-use std::fmt;
-
 use reference::generate::{differ_in_case, open_names, Unit};
-use reference::layout::{legal, unit_of};
 use reference::pairs::call_name;
-use reference::raw::message_of;
 use reference::{entered, Message, Name};
 
+use crate::side::named;
+use crate::table::{Row, Table};
 use crate::Step;
 
 /// What a call met that names a file of a sound unit.
@@ -28,20 +25,24 @@ pub enum Case {
     NewIsAnothers,
 }
 
-const CASES: [Case; 6] = [
-    Case::BothStand,
-    Case::OtherStands,
-    Case::BothOpen,
-    Case::OtherOpen,
-    Case::NewIsOwn,
-    Case::NewIsAnothers,
-];
-
 const AREA_MESSAGE: &str = "AreaMessage";
 
-impl Case {
+/// How often each case came up, by call.
+pub type Cases = Table<Case>;
+
+impl Row for Case {
+    const TITLE: &'static str = "names that differ in case only";
+    const ROWS: &'static [Case] = &[
+        Case::BothStand,
+        Case::OtherStands,
+        Case::BothOpen,
+        Case::OtherOpen,
+        Case::NewIsOwn,
+        Case::NewIsAnothers,
+    ];
+
     /// The calls by which it is counted.
-    fn calls(self) -> &'static [&'static str] {
+    fn columns(self) -> &'static [&'static str] {
         const ALL: [&str; 8] = [
             "Set",
             "Create",
@@ -60,62 +61,21 @@ impl Case {
     }
 }
 
-/// How often each case came up, by call.
-#[derive(Clone, Default, Debug)]
-pub struct Cases(BTreeMap<(Case, &'static str), u64>);
-
-impl Cases {
-    /// Counts what a step meets on a sound unit, before it is put.
-    pub fn add(&mut self, step: &Step, unit: &Unit) {
-        let (message, lent) = match step {
-            Step::Format { .. } => return,
-            Step::Call(call) => (Ok(call.message), &call.lent),
-            Step::Raw(call) => (message_of(&call.message), &call.lent),
-        };
-        let Ok(mut message) = message else {
-            return;
-        };
-        let is_known = |name: &Name| unit.state.initialized && unit_of(*name) == unit.state.unit;
-        let named = message.name_mut().copied().filter(is_known);
-        let Some(name) = named.and_then(legal) else {
-            return;
-        };
-        let call = match message {
-            Message::AreaMessage { .. } => AREA_MESSAGE,
-            _ => call_name(&message),
-        };
-        for case in met(unit, &message, name, lent) {
-            if case.calls().contains(&call) {
-                *self.0.entry((case, call)).or_default() += 1;
-            }
-        }
-    }
-
-    /// The cases that never came up.
-    pub fn missing(&self) -> Vec<String> {
-        let pairs = CASES.map(|case| case.calls().iter().map(move |&call| (case, call)));
-        let missing = pairs.into_iter().flatten();
-        let missing = missing.filter(|pair| !self.0.contains_key(pair));
-        missing
-            .map(|(case, call)| format!("{call} {case:?}"))
-            .collect()
-    }
-}
-
-impl fmt::Display for Cases {
-    /// A line for each case: its calls, and how often each of them met it.
-    fn fmt(&self, f: &mut fmt::Formatter<'_>) -> fmt::Result {
-        writeln!(f, "names that differ in case only:")?;
-        for case in CASES {
-            write!(f, "  {:14}", format!("{case:?}"))?;
-            for call in case.calls() {
-                let count = self.0.get(&(case, *call)).unwrap_or(&0);
-                write!(f, "  {call} {count}")?;
-            }
-            writeln!(f)?;
-        }
-        Ok(())
-    }
+/// Counts what a step meets on a sound unit, before it is put.
+pub fn count(cases: &mut Cases, step: &Step, unit: &Unit) {
+    let Some((message, lent)) = step.message() else {
+        return;
+    };
+    let Some(name) = named(&message, unit) else {
+        return;
+    };
+    let call = match message {
+        Message::AreaMessage { .. } => AREA_MESSAGE,
+        _ => call_name(&message),
+    };
+    let mut met = met(unit, &message, name, lent);
+    met.retain(|case| case.columns().contains(&call));
+    cases.add(met, call);
 }
 
 /// The cases that a message of a name meets.
@@ -170,7 +130,7 @@ mod tests {
     fn counted(case: &str, unit: &Unit, lines: &[&str]) -> String {
         let mut cases = Cases::default();
         for line in lines {
-            cases.add(&parse_step(line).expect("a step"), unit);
+            count(&mut cases, &parse_step(line).expect("a step"), unit);
         }
         let table = cases.to_string();
         let line = table

@@ -4,19 +4,22 @@
 //!   compares answer, lent words, image, every word of the state and soundness after it.
 //! * [`stored`] replays lists that stand in files, with the answers that they shall have.
 //! * [`images`] has images of before a request, which are to be read as they were then.
-//! * [`cases`] counts how often calls met names that differ in case only.
+//! * [`cases`] counts how often calls met names that differ in case only, [`entry_only`] how often
+//!   they met entry-only files, or gave the attribute that makes one.
 
 #![warn(missing_docs)]
 
 mod both;
 pub mod cases;
 mod compare;
+pub mod entry_only;
 pub mod images;
 mod proved;
 pub mod random;
 mod side;
 pub mod state;
 pub mod stored;
+pub mod table;
 pub mod text;
 
 pub use both::Both;

@@ -9,6 +9,7 @@ use reference::random::Random;
 use reference::{soundness, Answer, Message};
 
 use crate::cases::Cases;
+use crate::entry_only::Uses;
 use crate::text::{outcome_text, step_text};
 use crate::{Both, Difference, Side, Step};
 
@@ -118,6 +119,11 @@ impl<P: Side> Lists<P> {
         self.both.cases()
     }
 
+    /// The uses of entry-only files, as they came up so far.
+    pub fn uses(&self) -> &Uses {
+        self.both.uses()
+    }
+
     /// Runs the lists from number 0 on until so many calls were put; the number of lists.
     pub fn run(&mut self, calls: u64) -> Result<u64, Box<Failure>> {
         let mut lists = 0;
@@ -187,13 +193,18 @@ impl<P: Side> Lists<P> {
         self.both.set(&unit);
     }
 
-    /// A unit of random words, formatted and initialized.
+    /// A unit of random words, formatted and initialized; at times with entry-only files, which no
+    /// call makes.
     fn formatted(&mut self, random: &mut Random, record: &[u16]) -> Result<(), Box<Failure>> {
         let unit = generate::unformatted(random, record);
         self.begin("random words", unit);
         let (bytes, record) = (18, record.to_vec());
         self.put(&Step::Format { bytes, record })?;
         self.put(&init(self.unit()))?;
+        if random.chance(50) {
+            let unit = generate::with_entries_only(random, self.unit().clone());
+            self.begin("a formatted unit, entry-only files written into it", unit);
+        }
         Ok(())
     }
 

@@ -1,9 +1,10 @@
 //! A unit as one implementation has it.
 
 use reference::generate::{Call, RawCall, Unit};
+use reference::layout::{legal, unit_of};
 use reference::pairs::{call_name, Counts, FORMAT, NO_CALL};
 use reference::raw::{explain_words, message_of, MessageWords};
-use reference::{explain, explain_format, soundness, Answer, Message, State};
+use reference::{explain, explain_format, soundness, Answer, Message, Name, State};
 
 use crate::state::{given_words, kept_words, state_of, words_of, StateWords};
 
@@ -21,6 +22,30 @@ pub enum Step {
     Call(Call),
     /// A message of words, whose number may be no call's.
     Raw(RawCall),
+}
+
+impl Step {
+    /// The message with its lent words, if the step is one of a call.
+    pub(crate) fn message(&self) -> Option<(Message, &[u16])> {
+        match self {
+            Step::Format { .. } => None,
+            Step::Call(call) => Some((call.message, &call.lent)),
+            Step::Raw(call) => Some((message_of(&call.message).ok()?, &call.lent)),
+        }
+    }
+}
+
+/// The name of the file that a message to a known, initialized unit names.
+pub(crate) fn named(message: &Message, unit: &Unit) -> Option<Name> {
+    let mut message = *message;
+    let name = message.name_mut().copied();
+    name.filter(|name| knows(unit, unit_of(*name)))
+        .and_then(legal)
+}
+
+/// Whether the unit is known under this number and initialized.
+pub(crate) fn knows(unit: &Unit, number: u16) -> bool {
+    number <= 3 && number == unit.state.unit && unit.state.initialized
 }
 
 /// An implementation with the unit that it works on.

@@ -4,91 +4,28 @@
 
 mod common;
 
-use common::{found, is_right, Otherwise, Put, Shown};
+use common::{answer, is_found, is_right, passes, places, question, refuse_where};
+use common::{Own, Putting, Showing, Shown, RIGHT};
 use lists::{Second, Side};
 use reference::generate::{open_names, Unit};
-use reference::layout::{key, Kit, ENTRY, MAP, SECTOR, SYS};
-use reference::plain::Plain;
+use reference::layout::{key, Kit, MAP, SYS};
 use reference::raw::words_of;
-use reference::Question::{self, *};
-use reference::{entered, explain, Answer, Message, Name};
+use reference::Question::*;
+use reference::{entered, Answer, Message, Name};
 use ruzkemp::sys::call::*;
 
 /// The stored list of names that differ in case only.
 const CASES: &str = include_str!("../stored/cases.list");
 
-/// How a message is put.
-type Putting = fn(&mut Second, &Message, &mut [u16]) -> Answer;
-/// How what is shown after an accepted call differs, by the unit before it.
-type Showing = fn(&Unit, &mut Shown);
-
-/// A side that puts messages or shows what they did in its own way.
-#[derive(Clone, Copy)]
-struct Folding {
-    put: Putting,
-    show: Showing,
-}
-
-const RIGHT: Folding = Folding {
-    put: |second, message, lent| second.perform(message, lent),
-    show: |_, _| (),
-};
-
-impl Otherwise for Folding {
-    fn put(&self, second: &mut Second, message: &Message, lent: &mut [u16]) -> Answer {
-        (self.put)(second, message, lent)
-    }
-
-    fn show(&self, put: &Put, answer: &mut Answer, _: &mut [u16], shown: &mut Shown) {
-        if answer.result == 0 && put.before.state.initialized {
-            (self.show)(&put.before, shown);
-        }
-    }
-}
-
-/// The calls by their numbers, as lists write them; those to an area process share one.
-const CALLS: [&[&str]; 11] = [
-    &["init"],
-    &["set"],
-    &["create"],
-    &["look-up"],
-    &["change"],
-    &["remove"],
-    &["create-area"],
-    &["remove-area"],
-    &["reserve", "position", "sense", "transput", "other"],
-    &["description"],
-    &["listing"],
-];
-
-/// Whether a failure of the random lists is at a call of this number, in one of its forms.
-fn is_at(failure: &str, number: u16) -> bool {
-    let raw = format!("raw {number}");
-    let mut forms = CALLS[usize::from(number)]
-        .iter()
-        .copied()
-        .chain([raw.as_str()]);
-    forms.any(|form| failure.contains(&format!("  the call: {form} ")))
-}
-
-/// Says that the random lists find the side wrong at a call of one of these numbers, and that the
-/// stored list does at this line.
-fn is_found(side: Folding, calls: &[u16], line: &str) {
-    let [random, stored] = found(line, || side, CASES);
-    let told = calls.iter().any(|call| is_at(&random, *call));
-    assert!(told, "{line}: {random}");
-    let shown = stored.contains(&format!("  stored   {line}"));
-    assert!(shown, "{line}: {stored}");
-}
-
 /// [`is_found`] of a side that only puts messages otherwise.
 fn is_found_put(put: Putting, calls: &[u16], line: &str) {
-    is_found(Folding { put, ..RIGHT }, calls, line);
+    is_found(CASES, Own { put, ..RIGHT }, calls, line);
 }
 
 /// [`is_found`] of a side that only shows otherwise what they did.
 fn is_found_shown(show: Showing, line: &str) {
-    is_found(Folding { show, ..RIGHT }, &[SET, CREATE, CHANGE], line);
+    let calls = [SET, CREATE, CHANGE];
+    is_found(CASES, Own { show, ..RIGHT }, &calls, line);
 }
 
 /// The name in capitals, sixth character as it is.
@@ -125,19 +62,6 @@ fn first_entered(unit: &Unit, name: Name) -> Option<Name> {
     first_of(names, name)
 }
 
-/// The question that a message is refused at, if it is.
-fn question(second: &Second, message: &Message, lent: &[u16]) -> Option<Question> {
-    let Unit { image, state } = &mut second.current().clone();
-    explain(image, state, message, &mut lent.to_vec()).1
-}
-
-fn answer(result: u16) -> Answer {
-    Answer {
-        result,
-        ..Answer::default()
-    }
-}
-
 /// Puts a message with another name, if it has one and is of a unit that passes the first questions.
 fn put_named(
     second: &mut Second,
@@ -154,13 +78,6 @@ fn put_named(
         }
     }
     second.perform(&other, lent)
-}
-
-/// Whether a message is accepted or refused at a question from this one on, of those of a name that
-/// is entered.
-fn passes(second: &Second, message: &Message, lent: &[u16], from: Question) -> bool {
-    let asked = question(second, message, lent);
-    asked.is_none_or(|question| (from..=FewStretches).contains(&question))
 }
 
 #[test]
@@ -194,18 +111,6 @@ fn new_places(before: &Unit, shown: &Shown) -> Vec<usize> {
     let new: Vec<Name> = new.filter(|name| !old.contains(name)).collect();
     let from = places(shown, None).into_iter();
     from.filter(|&from| new.iter().any(|name| shown.image[from..from + 3] == *name))
-        .collect()
-}
-
-/// Where the places of SYS begin, or those of a key.
-fn places(shown: &Shown, key: Option<usize>) -> Vec<usize> {
-    let state = lists::state::state_of(&shown.state);
-    let plain = Plain::read(&shown.image, &state).expect("a sound unit");
-    let kit = Kit::read(&shown.image);
-    let blocks = (0..kit.h * plain.layers).filter(|block| key.is_none_or(|k| block % kit.h == k));
-    let sectors = blocks.map(|block| SECTOR * kit.sys_sector(&plain.sys, block));
-    sectors
-        .flat_map(|from| (from..from + SECTOR).step_by(ENTRY))
         .collect()
 }
 
@@ -340,37 +245,19 @@ fn a_rename_in_case_only_that_is_none_is_found() {
     is_found_put(put, &[CHANGE], "change Pass lent 5041h 5353h ");
 }
 
-/// Refuses whatever asks for soundness where the names that are entered are of some kind.
-fn refuse_where(
-    second: &mut Second,
-    message: &Message,
-    lent: &mut [u16],
-    wrong: fn(&[Name]) -> bool,
-) -> Answer {
-    let asked = question(second, message, lent);
-    let is_known = !matches!(asked, Some(UnitKnown | AreaUnitKnown));
-    if !is_known || !wrong(&entered(&second.current().image)) {
-        return second.perform(message, lent);
-    }
-    let unsound = match message {
-        Message::CreateArea { .. } | Message::RemoveArea { .. } => AreaUnitSound,
-        Message::AreaMessage { .. } => AreaUnitSound,
-        _ => UnitSound,
-    };
-    answer(unsound.word())
-}
-
 #[test]
 fn sound_units_with_small_letters_or_names_in_two_cases_that_are_refused_are_found() {
     let calls: Vec<u16> = (INIT..=LISTING).collect();
     let put: Putting = |second, message, lent| {
-        refuse_where(second, message, lent, |names| {
+        refuse_where(second, message, lent, |unit| {
+            let names = entered(&unit.image);
             names.iter().any(|name| *name != folded(*name))
         })
     };
     is_found_put(put, &calls, "create PASS 0 0 -> 1010h");
     let put: Putting = |second, message, lent| {
-        refuse_where(second, message, lent, |names| {
+        refuse_where(second, message, lent, |unit| {
+            let names = entered(&unit.image);
             let twice = |name: &&Name| first_of(names.iter().copied(), **name) != Some(**name);
             names.iter().any(|name| twice(&name))
         })

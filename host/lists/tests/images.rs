@@ -1,9 +1,10 @@
-//! Images of before R-8 are sound after it, and are read as the same plain unit.
+//! Images of before R-8 are sound after it, and are read as the same plain unit; the entry-only files on
+//! them are used as R-9 says.
 
 use lists::images::{all, blocks_text, entry_line, image_text, parse, unit_text, Kept};
 use reference::plain::Plain;
 use reference::{soundness, State};
-use ruzkemp::{Entry, Error, Result, Role, Unit};
+use ruzkemp::{Attributes, Entry, Error, Name, Result, Role, Unit};
 
 /// The number of the unit that a text tells of.
 fn number(unit: &str) -> u16 {
@@ -22,8 +23,7 @@ fn read(image: &[u16], unit: u16) -> Option<String> {
 /// The lines of the entries as the library gives them, by Listing and Look-up and by reading every
 /// file through an area process; slices are not told.
 fn told(image: &[u16], number: u16) -> Result<String> {
-    let mut unit = Unit::new(image.to_vec(), number);
-    unit.init()?;
+    let mut unit = ready(image, number)?;
     let mut text = String::new();
     for entry in unit.list()? {
         assert_eq!(unit.look_up(entry.name())?, entry);
@@ -123,6 +123,53 @@ fn the_images_are_as_their_comments_say_and_in_capitals() {
     }
     let mut files = crowded.files.values();
     assert!(files.any(|file| file.optional != [0; 3] && file.tail != [0; 6]));
+}
+
+/// The unit of an image, initialized.
+fn ready(image: &[u16], number: u16) -> Result<Unit<Vec<u16>>> {
+    let mut unit = Unit::new(image.to_vec(), number);
+    unit.init()?;
+    Ok(unit)
+}
+
+/// Says that an entry-only file of an image is kept, renamed, made an ordinary file and removed, and not
+/// made an entry only again.
+fn is_used(image: &[u16], number: u16, entry: &Entry) -> Result<()> {
+    let name = entry.name();
+    let kept = Entry::for_change(entry);
+    let mut unit = ready(image, number)?;
+    unit.change(name, &kept)?;
+    assert!(unit.image() == image, "{name}: nothing changes");
+    let again = kept.with_attributes(Attributes::ENTRY_ONLY);
+    assert_eq!(unit.change(name, &again), Err(Error::CatalogParameter));
+    let other = Name::new("Old").expect("a legal name");
+    unit.rename(name, other)?;
+    assert_eq!(unit.look_up(other)?, entry.with_name(other));
+    unit.change(other, &kept.with_attributes(Attributes::NONE))?;
+    let ordinary = entry.with_name(other).with_attributes(Attributes::NONE);
+    assert_eq!(unit.look_up(other)?, ordinary);
+    unit.resize(other, 1)?;
+    let mut unit = ready(image, number)?;
+    unit.remove(name)?;
+    assert_eq!(unit.look_up(name), Err(Error::NoEntry));
+    Ok(())
+}
+
+#[test]
+fn entry_only_files_of_before_are_used() -> Result<()> {
+    let mut used = 0;
+    for kept in all().expect("the images can be read") {
+        let (image, number) = (parse(&kept.image).expect(&kept.name), number(&kept.unit));
+        for entry in ready(&image, number)?.list()? {
+            if entry.attributes().contains(Attributes::ENTRY_ONLY) {
+                is_used(&image, number, &entry)?;
+                used += 1;
+            }
+        }
+    }
+    // NOTE on the sample disc, and 23 files on the crowded one.
+    assert_eq!(used, 24);
+    Ok(())
 }
 
 /// The image with another value of one word.

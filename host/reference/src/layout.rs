@@ -24,13 +24,13 @@ pub const SYS: Name = [0x5359, 0x5300, 0];
 pub const MAP: Name = [0x4D41, 0x5000, 0];
 /// The attributes of SYS and MAP.
 pub const CATALOG_FILE: u16 = 0x8010;
-/// The attributes that a caller may set.
-pub const SETTABLE: u16 = 0x401D;
+/// The attributes that a file may have.
+pub const ATTRIBUTES: u16 = 0x401D;
 /// Bit 11: neither removed nor renamed nor changed in length.
 pub const PERMANENT: u16 = 0x0010;
 /// Bit 12: no output.
 pub const PROTECTED: u16 = 0x0008;
-/// Bit 13: no slices.
+/// Bit 13: no slices. Files that have it come from before R-9.
 pub const ENTRY_ONLY: u16 = 0x0004;
 /// Bit 15: output may append.
 pub const EXTENDABLE: u16 = 0x0001;
@@ -203,12 +203,20 @@ pub fn unit_of(name: Name) -> u16 {
     name[2] & 0x00FF
 }
 
-/// Whether the attributes are such as a caller may set on a file of so many slices.
+/// Whether a file of so many slices may have the attributes: the rule of a sound unit, which R-9
+/// leaves as it was.
 pub fn legal_attributes(attributes: u16, slices: usize) -> bool {
     let both = ENTRY_ONLY | EXTENDABLE;
-    attributes & !SETTABLE == 0
+    attributes & !ATTRIBUTES == 0
         && attributes & both != both
         && (attributes & ENTRY_ONLY == 0 || slices == 0)
+}
+
+/// Whether a caller may give the attributes: "Refused: 1200h at question 4, where Set, Create or
+/// Change gives attributes that aren't negative and contain bit 13" (02, R-9). Without bit 13
+/// slices do not matter. Negative ones are those of SYS and MAP alone; in Change they give none.
+pub fn may_be_given(attributes: u16) -> bool {
+    attributes & !ATTRIBUTES == 0 && attributes & ENTRY_ONLY == 0
 }
 
 /// The word 1bN, which has bit N alone, bit 0 being the highest: 2 to the power 15 - N.

@@ -1,12 +1,12 @@
 //! A second implementation of the RC3600 catalog unit, written from document 01 and the changes
-//! of document 02 alone.
+//! of document 02 alone.
 //!
 //! It is plain rather than fast: the proved implementation is compared with it, call by call
 //! and word by word.
 //!
 //! * [`format()`] and [`perform`] are the calls, exact for all arguments.
 //! * [`soundness`] says whether an image is a sound unit with a state, and if not, why;
-//!   [`is_sound`] only whether; [`entered`] gives the names that stand.
+//!   [`is_sound`] only whether; [`entries`] gives the entries that stand, [`entered`] their names.
 //! * [`plain::Plain`] is the plain unit: a separate account with no map, index or place.
 //! * [`raw`] has the messages as a C program sends them, whose number may be no call's.
 //! * [`pairs`] says which result words are allowed to each call.
@@ -26,6 +26,6 @@ mod types;
 mod unit;
 
 pub use sound::{soundness, IndexFault, Unsound};
-pub use straight::{entered, is_sound};
+pub use straight::{entered, entries, is_sound};
 pub use types::{Answer, Area, Message, Name, Operation, Role, State, User};
 pub use unit::{explain, explain_format, format, perform, Question};

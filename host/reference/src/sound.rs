@@ -55,7 +55,7 @@ pub enum Unsound {
     EntryTwice(Name),
     /// A used entry is in a sector of another key.
     EntryKey(Name),
-    /// A file's attributes are not such as a caller may set.
+    /// A file's attributes are not such as a file may have.
     Attributes(Name),
     /// A file's length is past 32,767.
     FileLength(Name),
@@ -418,7 +418,7 @@ fn file_pairs(
     Ok(pairs)
 }
 
-/// Attributes such as a caller may set, bit 13 only with no slices.
+/// Attributes such as a file may have, bit 13 only with no slices.
 fn check_attributes(entry: &Entry, slices: usize) -> Result<(), Unsound> {
     if !legal_attributes(entry.words[6], 0) {
         return Err(Unsound::Attributes(entry.name()));

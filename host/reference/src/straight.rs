@@ -56,6 +56,14 @@ pub fn is_sound(image: &[u16], state: &State) -> bool {
 /// The names in the used places of SYS, place by place; none where kit, index or length of SYS are
 /// not sound.
 pub fn entered(image: &[u16]) -> Vec<Name> {
+    let entries = entries(image).into_iter();
+    entries
+        .map(|entry| [entry[0], entry[1], entry[2]])
+        .collect()
+}
+
+/// The used places of SYS, as [`entered`] has their names.
+pub fn entries(image: &[u16]) -> Vec<&[u16]> {
     let Some(kit) = sound_kit(image) else {
         return Vec::new();
     };
@@ -64,7 +72,7 @@ pub fn entered(image: &[u16]) -> Vec<Name> {
     let sectors = (0..length).map(|block| kit.sys_sector(&sys, block) * SECTOR);
     let entries = sectors.flat_map(|from| image[from..from + SECTOR].chunks_exact(ENTRY));
     let used = entries.filter(|entry| entry.iter().any(|&word| word != 0));
-    used.map(|entry| [entry[0], entry[1], entry[2]]).collect()
+    used.collect()
 }
 
 /// SYS's slices, which are taken, and its length.

@@ -118,9 +118,11 @@ fn numbers_of_no_call(random: &mut Random, tally: &mut Tally) {
 }
 
 /// What accepted calls must have done at least once.
-const EVENTS: [&str; 30] = [
+const EVENTS: [&str; 33] = [
     "Change: SYS takes, file gives back",
     "Change: SYS takes, file takes",
+    "Change: entry only made ordinary",
+    "Change: entry only takes slices",
     "Change: longer, gives back",
     "Change: longer, no slice",
     "Change: longer, takes",
@@ -147,6 +149,7 @@ const EVENTS: [&str; 30] = [
     "Remove area: books",
     "Remove area: dummy",
     "Remove area: nothing new",
+    "Remove: entry only",
     "SYS grows and takes slices",
     "SYS grows in its slack",
 ];

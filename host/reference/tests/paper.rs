@@ -310,25 +310,21 @@ fn set_takes_its_words_from_the_right_places() {
     entry[9] = 0;
     entry[6] = 0x8001;
     assert_eq!(pair.set("TWO", &entry), 0x1200);
-    entry[6] = 0x0004;
+    entry[6] = 0;
     assert_eq!(pair.set("TWO", &entry), 0);
-    entry[9] = 1;
-    assert_eq!(pair.set("THREE", &entry), 0x1200);
-    assert_eq!(pair.set("TWO", &entry), 0x1200);
-    entry[9] = 0;
     assert_eq!(pair.set("TWO", &entry), 0x1010);
+    entry[6] = 0x0002;
+    assert_eq!(pair.set("TWO", &entry), 0x1200);
 }
 
 #[test]
 fn attributes() {
     for bit in 0..16 {
         let attributes = 1u16 << (15 - bit);
-        let accepted = [1, 11, 12, 13, 15].contains(&bit);
+        let accepted = [1, 11, 12, 15].contains(&bit);
         let result = small().create("A", 0, attributes);
         assert_eq!(result == 0, accepted, "bit {bit}");
     }
-    assert_eq!(small().create("A", 0, 0x0005), 0x1200);
-    assert_eq!(small().create("A", 1, 0x0004), 0x1200);
     assert_eq!(small().create("A", 1, 0x4019), 0);
     // Question 4 comes before 6 and 7.
     assert_eq!(small().create("SYS", 0x7FFF, 0x0002), 0x1200);
@@ -372,11 +368,9 @@ fn change_keeps_and_changes() {
     // Length: down, to nothing, and up again.
     assert_eq!(pair.change("TWO", &record("", KEPT, 1)), 0);
     assert_eq!(pair.entry("TWO")[6..10], [1, 1, 12, 2]);
-    assert_eq!(pair.change("TWO", &record("", 0x0004, 1)), 0x1200);
-    assert_eq!(pair.change("TWO", &record("", 0x0004, 0)), 0);
-    assert_eq!(pair.entry("TWO")[6..10], [4, 0, 0, 0]);
+    assert_eq!(pair.change("TWO", &record("", 0x0008, 0)), 0);
+    assert_eq!(pair.entry("TWO")[6..10], [8, 0, 0, 0]);
     assert_eq!(pair.word(12, 0), 1);
-    assert_eq!(pair.change("TWO", &record("", KEPT, 1)), 0x1200);
     assert_eq!(pair.change("TWO", &record("", 0x0001, 5)), 0);
     assert_eq!(pair.entry("TWO")[6..10], [1, 5, 12, 6]);
     assert_eq!(pair.change("TWO", &record("", KEPT, 1000)), 0x1100);
@@ -432,11 +426,9 @@ fn surplus_slices() {
     unit.image[b + 7] = 0;
     let mut pair = Pair::over(unit);
     assert_eq!(pair.plain.files["A"].slices, [2, 3, 4, 5, 6]);
-    // A kept or equal length touches no slice, and bit 13 is judged by the slices held.
+    // A kept or equal length touches no slice.
     assert_eq!(pair.change("A", &record("", KEPT, 3)), 0);
     assert_eq!(pair.entry("A")[7..10], [3, 12, 10]);
-    assert_eq!(pair.change("B", &record("", 0x0004, 0)), 0x1200);
-    assert_eq!(pair.change("B", &record("", 0x0004, KEPT)), 0x1200);
     // Appending uses the surplus.
     pair.create_area("A");
     pair.area("A", 1, Operation::Reserve(3));
@@ -790,8 +782,7 @@ fn output_past_the_end_is_refused_as_position_is() {
 
 #[test]
 fn a_file_of_no_blocks_ends_where_it_begins() {
-    // An entry-only file has no bit 15 either.
-    for (attributes, end) in ENDS.into_iter().chain([(0x0004, 0x0A00)]) {
+    for (attributes, end) in ENDS {
         let mut pair = one_open(0, attributes);
         assert_eq!(input(&mut pair, 1, 0), [end, 0, 0, 0]);
         assert_eq!(input(&mut pair, 5, 0), [end, 0, 0, 0]);

@@ -26,12 +26,14 @@ impl Attributes {
     pub const PERMANENT: Attributes = Attributes(0x0010);
     /// Bit 12: no output.
     pub const WRITE_PROTECTED: Attributes = Attributes(0x0008);
-    /// Bit 13: the file has no slices.
+    /// Bit 13: the file has no slices. Such files come from old discs and are used like others; Set,
+    /// Create and Change that give the bit are refused. Change that gives attributes without it
+    /// makes the file an ordinary one.
     pub const ENTRY_ONLY: Attributes = Attributes(0x0004);
     /// Bit 15: output at the file's length appends.
     pub const EXTENDABLE: Attributes = Attributes(0x0001);
-    /// The bits that a caller may set.
-    pub const SETTABLE: Attributes = Attributes(0x401D);
+    /// The bits that a caller may give.
+    pub const SETTABLE: Attributes = Attributes(0x4019);
 
     /// The attributes of a word, whatever it is.
     pub const fn from_bits(bits: u16) -> Attributes {

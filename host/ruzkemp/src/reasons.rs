@@ -63,6 +63,16 @@ pub const REASONS: &[Reason] = &[
     (CatalogParameter, &[WITH_SIZE], "the attributes are illegal"),
     (
         CatalogParameter,
+        &[WITH_SIZE],
+        "entry only is asked for (such files are no longer created)",
+    ),
+    (
+        CatalogParameter,
+        &[&[Change]],
+        "an entry-only file would get slices",
+    ),
+    (
+        CatalogParameter,
         &[&[Change, Remove]],
         "the file has an area process",
     ),

@@ -120,15 +120,16 @@ impl<I: AsRef<[u16]> + AsMut<[u16]>> Unit<I> {
         Ok(())
     }
 
-    /// Set Entry: enters a new file with the size, attributes, optional and tail of an entry, as
-    /// [`Entry::for_set`] makes one.
+    /// Set Entry: enters a new file with the size, attributes (of [`Attributes::SETTABLE`]), optional
+    /// and tail of an entry, as [`Entry::for_set`] makes one.
     pub fn set(&mut self, name: Name, entry: &Entry) -> Result<()> {
         let name = self.named(name);
         self.send(Message::Set { name }, &mut entry.words())?;
         Ok(())
     }
 
-    /// Create Entry: enters a new file of so many sectors, all zero.
+    /// Create Entry: enters a new file of so many sectors, all zero, with attributes of
+    /// [`Attributes::SETTABLE`].
     pub fn create(&mut self, name: Name, size: u16, attributes: Attributes) -> Result<()> {
         let name = self.named(name);
         let attributes = attributes.bits();
@@ -149,8 +150,8 @@ impl<I: AsRef<[u16]> + AsMut<[u16]>> Unit<I> {
         Ok(Entry::from_words(words))
     }
 
-    /// Change Entry: gives a file the name, attributes, length, optional and tail of an entry, as
-    /// [`Entry::for_change`] makes one.
+    /// Change Entry: gives a file the name, attributes (of [`Attributes::SETTABLE`], unless they are
+    /// kept), length, optional and tail of an entry, as [`Entry::for_change`] makes one.
     pub fn change(&mut self, name: Name, entry: &Entry) -> Result<()> {
         let name = self.named(name);
         self.send(Message::Change { name }, &mut entry.words())?;

@@ -132,7 +132,6 @@ fn attributes_are_the_bits_of_document_01() {
         (Attributes::SUB_CATALOG, bit(1)),
         (Attributes::PERMANENT, bit(11)),
         (Attributes::WRITE_PROTECTED, bit(12)),
-        (Attributes::ENTRY_ONLY, bit(13)),
         (Attributes::EXTENDABLE, bit(15)),
     ];
     let mut all = Attributes::NONE;
@@ -142,6 +141,7 @@ fn attributes_are_the_bits_of_document_01() {
         all |= named;
     }
     assert_eq!(all, Attributes::SETTABLE);
+    assert_eq!(Attributes::ENTRY_ONLY, bit(13));
     assert_eq!(
         Attributes::CATALOG_FILE | Attributes::PERMANENT,
         Attributes::from_bits(0x8010)

@@ -142,9 +142,9 @@ fn set_enters_a_file_with_the_words_of_its_entry() -> Result<()> {
     ];
     assert_eq!(unit.look_up(gate)?.words(), expected);
     refused(&mut unit, Error::EntryExists, |unit| unit.set(gate, &entry));
-    let both = Entry::for_set(0, Attributes::ENTRY_ONLY | Attributes::EXTENDABLE);
+    let illegal = Entry::for_set(0, Attributes::from_bits(0x0002));
     refused(&mut unit, Error::CatalogParameter, |unit| {
-        unit.set(name("A"), &both)
+        unit.set(name("A"), &illegal)
     });
     refused(&mut unit, Error::CatalogParameter, |unit| unit.remove(gate));
     refused(&mut unit, Error::CatalogParameter, |unit| {
@@ -408,10 +408,97 @@ fn a_file_is_read_to_its_end() -> Result<()> {
         let read = read_to_the_end(&mut unit, empty)?;
         assert_eq!(read, (vec![], end, 0), "{attributes}");
     }
-    let mut unit = ready();
-    unit.create(name("NOTE"), 0, Attributes::ENTRY_ONLY)?;
-    let read = read_to_the_end(&mut unit, name("NOTE"))?;
+    Ok(())
+}
+
+/// NOTE as an old disc may have it: an entry only, with optional words and a tail.
+const NOTE: [u16; 16] = [
+    0x4E4F, 0x5445, 0, 1, 2, 3, 0x0004, 0, 0, 0, 4, 5, 6, 7, 8, 9,
+];
+
+/// An old disc: NOTE in place 2 of sector 10, behind SYS and MAP.
+fn old_disc() -> Unit<Vec<u16>> {
+    let mut image = ready().into_image();
+    image[10 * SECTOR + 32..][..16].copy_from_slice(&NOTE);
+    let mut unit = Unit::new(image, 0);
+    unit.init().expect("a sound unit");
+    unit
+}
+
+/// Document 02, R-9: what an old disc has is used as before.
+#[test]
+fn an_entry_only_file_is_used() -> Result<()> {
+    let mut unit = old_disc();
+    let (note, memo) = (name("NOTE"), name("MEMO"));
+    let entry = unit.look_up(note)?;
+    assert_eq!(entry.words(), NOTE);
+    assert_eq!(entry.attributes(), Attributes::ENTRY_ONLY);
+    assert!(unit.list()?.contains(&entry));
+    // Kept, and renamed; it gets no slices.
+    let mut expected = NOTE;
+    expected[3..6].copy_from_slice(&[7, 7, 7]);
+    unit.change(note, &Entry::for_change(&entry).with_optional([7; 3]))?;
+    assert_eq!(unit.look_up(note)?.words(), expected);
+    unit.rename(note, memo)?;
+    expected[..2].copy_from_slice(&[0x4D45, 0x4D4F]);
+    assert_eq!(unit.look_up(memo)?.words(), expected);
+    refused(&mut unit, Error::CatalogParameter, |unit| {
+        unit.resize(memo, 1)
+    });
+    // Opened, read to its end, and closed.
+    let read = read_to_the_end(&mut unit, memo)?;
     assert_eq!(read, (vec![], Error::AreaIllegal, 0));
+    let end = Err(Error::AreaIllegal);
+    assert_eq!(unit.write_block(memo, 7, &[0; SECTOR]), end);
+    unit.release(memo, 7)?;
+    unit.remove_area(memo)?;
+    assert_eq!(unit.look_up(memo)?.words(), expected);
+    unit.remove(memo)?;
+    assert_eq!(unit.look_up(memo), Err(Error::NoEntry));
+    assert_eq!(unit.describe()?.free, 8);
+    Ok(())
+}
+
+/// Change without bit 13 makes it an ordinary file, with or without a length.
+#[test]
+fn an_entry_only_file_is_made_ordinary() -> Result<()> {
+    let note = name("NOTE");
+    let mut unit = old_disc();
+    let entry = Entry::for_change(&unit.look_up(note)?);
+    unit.change(note, &entry.with_attributes(Attributes::WRITE_PROTECTED))?;
+    assert_eq!(unit.look_up(note)?.words()[6..10], [0x0008, 0, 0, 0]);
+    unit.resize(note, 1)?;
+    assert_eq!(unit.look_up(note)?.words()[6..10], [0x0008, 1, 12, 2]);
+    let mut unit = old_disc();
+    let extendable = entry.with_attributes(Attributes::EXTENDABLE);
+    unit.change(note, &extendable.with_size(2))?;
+    // P6: slices 2 and 3.
+    assert_eq!(unit.look_up(note)?.words()[6..10], [0x0001, 2, 12, 4]);
+    assert_eq!(unit.describe()?.free, 4);
+    Ok(())
+}
+
+/// No call makes one, be there one or not.
+#[test]
+fn entry_only_is_given_to_no_file() -> Result<()> {
+    let mut unit = old_disc();
+    let (note, pass) = (name("NOTE"), name("PASS"));
+    unit.create(pass, 0, Attributes::NONE)?;
+    for others in [Attributes::NONE, Attributes::PERMANENT] {
+        let given = Attributes::ENTRY_ONLY | others;
+        refused(&mut unit, Error::CatalogParameter, |unit| {
+            unit.create(name("NEW"), 0, given)
+        });
+        refused(&mut unit, Error::CatalogParameter, |unit| {
+            unit.set(name("NEW"), &Entry::for_set(0, given))
+        });
+        for file in [note, pass] {
+            refused(&mut unit, Error::CatalogParameter, |unit| {
+                let current = unit.look_up(file)?;
+                unit.change(file, &Entry::for_change(&current).with_attributes(given))
+            });
+        }
+    }
     Ok(())
 }
 

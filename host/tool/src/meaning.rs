@@ -104,7 +104,7 @@ fn found_in_file(unsound: &Unsound) -> Option<String> {
     let (name, found) = match *unsound {
         Unsound::EntryTwice(name) => (name, "it stands in two entries"),
         Unsound::EntryKey(name) => (name, "it is in a sector of another key"),
-        Unsound::Attributes(name) => (name, "a caller may not set its attributes"),
+        Unsound::Attributes(name) => (name, "no file may have its attributes"),
         Unsound::FileLength(name) => (name, "its length is past 32,767"),
         Unsound::IndexSector(name) => (name, "its index sector is no slice's first sector"),
         Unsound::Index(name, fault) => (name, index_fault(fault)),

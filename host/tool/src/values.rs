@@ -2,12 +2,11 @@
 
 use ruzkemp::{Attributes, NameWords};
 
-/// The attributes that have a name; bit 1 is carried without meaning and set by number only.
-pub const ATTRIBUTES: [(&str, Attributes); 4] = [
+/// The attributes that are given by name; bit 1 is carried without meaning and set by number only.
+pub const ATTRIBUTES: [(&str, Attributes); 3] = [
     ("extendable", Attributes::EXTENDABLE),
     ("permanent", Attributes::PERMANENT),
     ("write-protected", Attributes::WRITE_PROTECTED),
-    ("entry-only", Attributes::ENTRY_ONLY),
 ];
 
 /// A 16-bit word: decimal, or base 16 as `0x1F` or `1Fh`.
@@ -74,7 +73,10 @@ pub fn attributes(text: &str) -> Result<Attributes, String> {
     let mut word = Attributes::NONE;
     for part in text.split('+') {
         let named = ATTRIBUTES.iter().find(|(name, _)| *name == part);
-        let (_, bit) = named.ok_or_else(|| format!("'{part}' is no attribute"))?;
+        let (_, bit) = named.ok_or_else(|| match part {
+            "entry-only" => "entry-only files are no longer created".into(),
+            _ => format!("'{part}' is no attribute"),
+        })?;
         word |= *bit;
     }
     Ok(word)
@@ -131,7 +133,9 @@ mod tests {
     fn attributes_have_names() {
         let bits = |text| attributes(text).map(Attributes::bits);
         assert_eq!(bits("extendable+permanent"), Ok(0x0011));
-        assert_eq!(bits("write-protected+entry-only"), Ok(0x000C));
+        assert_eq!(bits("write-protected"), Ok(0x0008));
+        let withdrawn = "entry-only files are no longer created";
+        assert_eq!(bits("permanent+entry-only"), Err(withdrawn.into()));
         assert_eq!(bits("none"), Ok(0));
         assert_eq!(bits("4001h"), Ok(0x4001));
         assert!(attributes("extendible").is_err());

@@ -488,14 +488,6 @@ fn refusals_of_the_catalog_are_told_with_their_word() {
             &["create", "a.img", "NEW", "--attributes", "8000h"],
             "1200h",
         ),
-        (
-            &["create", "a.img", "NEW", "--entry-only", "--size", "1"],
-            "1200h",
-        ),
-        (
-            &["create", "a.img", "NEW", "--entry-only", "--extendable"],
-            "1200h",
-        ),
         (&["set", "a.img", "PASS"], "1010h"),
         (&["change", "a.img", "GATE", "--size", "1"], "5000h"),
         (&["change", "a.img", "SYS", "--size", "1"], "1200h"),

@@ -4,7 +4,7 @@ use native.Mathlib.Omega.{arith}
 use borrow.Author.Needs.{needs}
 use Rattle.unit.proofs.OpenLaws.{searchable}
 use Rattle.unit.proofs.FileLaws.{represented-on}
-use Rattle.change.proofs.ChangeLaws.{changes-none, changes-short, changes-system, changes-open, can-change-file, changes-file}
+use Rattle.change.proofs.ChangeLaws.{changes-none, changes-short, changes-entry-only, changes-system, changes-open, can-change-file, changes-file}
 use Rattle.change.proofs.change.Statement.{statement}
 use Rattle.change.proofs.change.Tie as tie
 
@@ -39,37 +39,56 @@ returns-2 c =
     let a = f .before .before .before .before .before in
     changes-short _ (a .args .name) (a .args .lent .now) (a .pre) (f .before .before .stored .ensures .packed) (f .find-name .ensures) (place .place .given .1) (c .if1 .taken)
 
-is-system-requires : tie.Need-is-system-requires
-is-system-requires c κs = search needs
+shared-slice-read-gives-entry-only : tie.Need-shared-slice-read-gives-entry-only
+shared-slice-read-gives-entry-only c = search needs
+
+gives-entry-only-requires : tie.Need-gives-entry-only-requires
+gives-entry-only-requires c κs = search needs
 
 same-length-3 : tie.Need-same-length-3
 same-length-3 c = search needs
 
 returns-3 : tie.Need-returns-3
 returns-3 c =
-    let test = c .before in
-    let long = test .before in
+    let bit = c .before in
+    let long = bit .before .before in
     let place = long .before .before in
     let f = place .before .before in
     let a = f .before .before .before .before .before in
-    changes-system _ (a .args .name) (a .args .lent .now) (a .pre) (f .before .before .stored .ensures .packed) (f .find-name .ensures) (place .place .given .1) (omega (arith, long .if1 .left)) (sym (test .is-system .ensures) ∙ c .if2 .taken)
+    changes-entry-only _ (a .args .name) (a .args .lent .now) (a .pre) (f .before .before .stored .ensures .packed) (f .find-name .ensures) (place .place .given .1) (omega (arith, long .if1 .left)) (sym (bit .gives-entry-only .ensures) ∙ c .if2 .taken)
 
-is-open-requires : tie.Need-is-open-requires
-is-open-requires c κs = search needs
+is-system-requires : tie.Need-is-system-requires
+is-system-requires c κs = search needs
 
 same-length-4 : tie.Need-same-length-4
 same-length-4 c = search needs
 
 returns-4 : tie.Need-returns-4
 returns-4 c =
-    let live = c .before in
-    let own = live .before in
-    let test = own .before in
-    let long = test .before in
+    let test = c .before in
+    let long = test .before .before .before .before in
     let place = long .before .before in
     let f = place .before .before in
     let a = f .before .before .before .before .before in
-    changes-open _ (a .args .name) (a .args .lent .now) (a .pre) (f .before .before .stored .ensures .packed) (f .find-name .ensures) (place .place .given .1) (omega (arith, long .if1 .left)) (sym (test .is-system .ensures) ∙ own .if2 .left) (sym (live .is-open .ensures) ∙ c .if3 .taken)
+    changes-system _ (a .args .name) (a .args .lent .now) (a .pre) (f .before .before .stored .ensures .packed) (f .find-name .ensures) (place .place .given .1) (omega (arith, long .if1 .left)) (sym (test .is-system .ensures) ∙ c .if3 .taken)
+
+is-open-requires : tie.Need-is-open-requires
+is-open-requires c κs = search needs
+
+same-length-5 : tie.Need-same-length-5
+same-length-5 c = search needs
+
+returns-5 : tie.Need-returns-5
+returns-5 c =
+    let live = c .before in
+    let own = live .before in
+    let test = own .before in
+    let no-bit = test .before in
+    let long = no-bit .before .before .before in
+    let place = long .before .before in
+    let f = place .before .before in
+    let a = f .before .before .before .before .before in
+    changes-open _ (a .args .name) (a .args .lent .now) (a .pre) (f .before .before .stored .ensures .packed) (f .find-name .ensures) (place .place .given .1) (omega (arith, long .if1 .left)) (sym (no-bit .before .gives-entry-only .ensures) ∙ no-bit .if2 .left) (sym (test .is-system .ensures) ∙ own .if3 .left) (sym (live .is-open .ensures) ∙ c .if4 .taken)
 
 change-file-requires : tie.Need-change-file-requires
 change-file-requires c κs =
@@ -77,29 +96,31 @@ change-file-requires c κs =
     let live = shut .before in
     let own = live .before in
     let test = own .before in
-    let long = test .before in
+    let no-bit = test .before in
+    let long = no-bit .before .before .before in
     let place = long .before .before in
     let f = place .before .before in
     let a = f .before .before .before .before .before in
-    can-change-file _ (a .args .name) (a .args .lent .now) (a .pre) (f .before .before .stored .ensures .packed) (f .find-name .ensures) (place .place .given .1) (omega (arith, long .if1 .left)) (sym (test .is-system .ensures) ∙ own .if2 .left)
-    (sym (live .is-open .ensures) ∙ shut .if3 .left)
+    can-change-file _ (a .args .name) (a .args .lent .now) (a .pre) (f .before .before .stored .ensures .packed) (f .find-name .ensures) (place .place .given .1) (omega (arith, long .if1 .left)) (sym (no-bit .before .gives-entry-only .ensures) ∙ no-bit .if2 .left) (sym (test .is-system .ensures) ∙ own .if3 .left)
+    (sym (live .is-open .ensures) ∙ shut .if4 .left)
 
-same-length-5 : tie.Need-same-length-5
-same-length-5 c = search needs
+same-length-6 : tie.Need-same-length-6
+same-length-6 c = search needs
 
-returns-5 : tie.Need-returns-5
-returns-5 c =
+returns-6 : tie.Need-returns-6
+returns-6 c =
     let changed = c .before .before in
     let shut = changed .before .before in
     let live = shut .before in
     let own = live .before in
     let test = own .before in
-    let long = test .before in
+    let no-bit = test .before in
+    let long = no-bit .before .before .before in
     let place = long .before .before in
     let f = place .before .before in
     let a = f .before .before .before .before .before in
-    changes-file _ (a .args .name) (a .args .lent .now) (a .pre) (f .before .before .stored .ensures .packed) (f .find-name .ensures) (place .place .given .1) (omega (arith, long .if1 .left)) (sym (test .is-system .ensures) ∙ own .if2 .left)
-    (sym (live .is-open .ensures) ∙ shut .if3 .left) (changed .change-file .ensures)
+    changes-file _ (a .args .name) (a .args .lent .now) (a .pre) (f .before .before .stored .ensures .packed) (f .find-name .ensures) (place .place .given .1) (omega (arith, long .if1 .left)) (sym (no-bit .before .gives-entry-only .ensures) ∙ no-bit .if2 .left) (sym (test .is-system .ensures) ∙ own .if3 .left)
+    (sym (live .is-open .ensures) ∙ shut .if4 .left) (changed .change-file .ensures)
 
 pub change-spec : {M : Type 1} → statement M
 change-spec =
@@ -113,12 +134,16 @@ change-spec =
     returns
     same-length-2
     returns-2
-    is-system-requires
+    shared-slice-read-gives-entry-only
+    gives-entry-only-requires
     same-length-3
     returns-3
-    is-open-requires
+    is-system-requires
     same-length-4
     returns-4
-    change-file-requires
+    is-open-requires
     same-length-5
-    returns-5)
+    returns-5
+    change-file-requires
+    same-length-6
+    returns-6)

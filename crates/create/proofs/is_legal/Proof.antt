@@ -1,6 +1,6 @@
 -- `create::is_legal` meets its contract. Assumes nothing.
 use borrow.Author.Needs.{needs}
-use Rattle.create.proofs.LegalLaws.{name-illegal, size-illegal, attributes-illegal, slices-decide}
+use Rattle.create.proofs.LegalLaws.{name-illegal, size-illegal, attributes-illegal, bit-decides}
 use Rattle.create.proofs.is_legal.Statement.{statement}
 use Rattle.create.proofs.is_legal.Tie as tie
 
@@ -8,7 +8,7 @@ legal-requires : tie.Need-legal-requires
 legal-requires c κs = search needs
 
 returns : tie.Need-returns
-returns c = let a = c .before .before .args in name-illegal (a .o .slice) _ (a .size) (a .attributes) (c .before .legal .ensures) (c .if1 .taken)
+returns c = let a = c .before .before .args in name-illegal _ (a .size) (a .attributes) (c .before .legal .ensures) (c .if1 .taken)
 
 negative-requires : tie.Need-negative-requires
 negative-requires c κs = search needs
@@ -17,7 +17,7 @@ returns-2 : tie.Need-returns-2
 returns-2 c =
     let one = c .before .before in
     let a = one .before .before .args in
-    size-illegal (a .o .slice) _ (a .size) (a .attributes) (one .before .legal .ensures) (one .if1 .left) (c .before .negative .ensures) (c .if2 .taken)
+    size-illegal _ (a .size) (a .attributes) (one .before .legal .ensures) (one .if1 .left) (c .before .negative .ensures) (c .if2 .taken)
 
 legal-attributes-requires : tie.Need-legal-attributes-requires
 legal-attributes-requires c κs = search needs
@@ -27,24 +27,20 @@ returns-3 c =
     let two = c .before .before in
     let one = two .before .before in
     let a = one .before .before .args in
-    attributes-illegal (a .o .slice) _ (a .size) (a .attributes) (one .before .legal .ensures) (one .if1 .left) (two .before .negative .ensures) (two .if2 .left)
+    attributes-illegal _ (a .size) (a .attributes) (one .before .legal .ensures) (one .if1 .left) (two .before .negative .ensures) (two .if2 .left)
     (c .before .legal-attributes .ensures) (c .if3 .taken)
 
-need-requires : tie.Need-need-requires
-need-requires c κs = search needs
-
-legal-with-requires : tie.Need-legal-with-requires
-legal-with-requires c κs = search needs
+gives-entry-only-requires : tie.Need-gives-entry-only-requires
+gives-entry-only-requires c κs = search needs
 
 returns-4 : tie.Need-returns-4
 returns-4 c =
-    let need = c .before in
-    let three = need .before in
+    let three = c .before in
     let two = three .before .before in
     let one = two .before .before in
     let a = one .before .before .args in
-    slices-decide (a .o .slice) _ (a .size) (a .attributes) (one .before .legal .ensures) (one .if1 .left) (two .before .negative .ensures) (two .if2 .left)
-    (three .before .legal-attributes .ensures) (three .if3 .left) (need .need .ensures) (c .legal-with .ensures)
+    bit-decides _ (a .size) (a .attributes) (one .before .legal .ensures) (one .if1 .left) (two .before .negative .ensures) (two .if2 .left)
+    (three .before .legal-attributes .ensures) (three .if3 .left) (c .gives-entry-only .ensures)
 
 pub is-legal-spec : {M : Type 1} → statement M
 is-legal-spec =
@@ -56,6 +52,5 @@ is-legal-spec =
     returns-2
     legal-attributes-requires
     returns-3
-    need-requires
-    legal-with-requires
+    gives-entry-only-requires
     returns-4)

@@ -2,12 +2,13 @@
 
 use std::collections::BTreeSet;
 
-use super::names::name;
+use super::names::{name, names};
 use super::records::initialize;
 use super::words::write_pairs;
 use super::Unit;
 use crate::layout::*;
 use crate::random::Random;
+use crate::sound::survey;
 use crate::types::{Name, State};
 use crate::unit::mark;
 
@@ -72,6 +73,19 @@ impl Builder {
         assert!(sys.len() == more + 1, "SYS found its slices");
         builder.enter_system(random, &sys);
         builder
+    }
+
+    /// A sound unit that has nothing open, to be added to.
+    pub fn over(unit: Unit) -> Builder {
+        let Unit { image, state } = unit;
+        let survey = survey(&image, &state).expect("a sound unit");
+        let free = (1..=survey.kit.slices()).filter(|&slice| marked_free(&image, slice));
+        Builder {
+            kit: survey.kit,
+            layers: survey.layers,
+            free: free.collect(),
+            image,
+        }
     }
 
     /// Writes SYS in the slices that it took, with SYS and MAP entered.
@@ -227,6 +241,25 @@ impl Builder {
         entered
     }
 
+    /// Adds a file of no slices, often an entry only.
+    pub fn file_of_none(&mut self, random: &mut Random, name: Name) -> bool {
+        let attributes = if random.chance(40) {
+            entry_only(random)
+        } else {
+            attributes(random)
+        };
+        self.file_of(random, name, attributes, &[])
+    }
+
+    /// Adds entry-only files, up to so many.
+    pub fn entries_only(&mut self, random: &mut Random, most: usize) {
+        let number = random.between(0, most);
+        for name in names(random, self.kit.h, number) {
+            let attributes = entry_only(random);
+            self.file_of(random, name, attributes, &[]);
+        }
+    }
+
     /// Fills one key, or all but a place or two of it, with files of no slices.
     pub fn fill_key(&mut self, random: &mut Random) {
         let h = self.kit.h;
@@ -237,8 +270,7 @@ impl Builder {
         while seen.len() < 16 * self.layers - taken - missing + 2 {
             let name = name(random);
             if key(name, h) == full && seen.insert(name) {
-                let attributes = attributes(random);
-                self.file_of(random, name, attributes, &[]);
+                self.file_of_none(random, name);
             }
         }
     }
@@ -264,7 +296,17 @@ impl Builder {
     }
 }
 
-/// Legal attributes, mostly without permanent and write protected.
+/// Attributes of an entry-only file: bit 13 alone, or with bits 1, 11 and 12.
+pub(super) fn entry_only(random: &mut Random) -> u16 {
+    let seldom = [0x4004, 0x0014, 0x000C, 0x401C];
+    if random.chance(70) {
+        ENTRY_ONLY
+    } else {
+        random.pick(&seldom)
+    }
+}
+
+/// Attributes that a caller may give, mostly without permanent and write protected.
 pub(super) fn attributes(random: &mut Random) -> u16 {
     let often = [0, 1, 1, 1, 1, 0x4001, 0x4000];
     let seldom = [0x0010, 0x0011, 0x0008, 0x0009, 0x0018, 0x4019];

@@ -2,8 +2,9 @@
 //!
 //! * [`fresh`] formats a small unit, [`aged`] writes one with a past straight from the layout
 //!   (surplus slices, files in any order, several layers), [`crowded`] one whose indexes and
-//!   free slices lie in close to 127 stretches; [`open_areas`] opens area processes on it,
-//!   [`fill_vacant`] fills what is vacant in its state, and [`unit()`] does some of all this.
+//!   free slices lie in close to 127 stretches; [`with_entries_only`] writes entry-only files into
+//!   a unit, [`open_areas`] opens area processes on it, [`fill_vacant`] fills what is vacant in its
+//!   state, and [`unit()`] does some of all this.
 //! * [`shaped`] writes a unit of a given shape, for measurements; [`add_file`] adds a file with
 //!   given slices.
 //! * [`name()`] and [`names()`] make legal names, many of them in two cases, [`other_case`] one that
@@ -43,7 +44,7 @@ pub use formats::{format_call, FormatCall};
 pub use names::{differ_in_case, name, name_in_capitals, names, other_case};
 pub use past::{aged, crowded};
 pub use raw::{raw, RawCall};
-pub use records::{formatted, fresh, large_record, record, unformatted};
+pub use records::{formatted, fresh, large_record, record, unformatted, with_entries_only};
 pub use shapes::{add_file, shaped, Shape};
 
 use crate::random::Random;

@@ -32,24 +32,16 @@ pub fn aged(random: &mut Random) -> Unit {
     builder.finish(number)
 }
 
-/// Adds a file of at most six slices, if there is room: now and then one of none, or an entry
-/// only.
+/// Adds a file of at most six slices, if there is room: now and then one of none.
 fn add_small_file(random: &mut Random, builder: &mut Builder, name: Name) {
     let spread = random.pick(&SPREADS);
-    match random.below(6) {
-        0 => {
-            builder.file_of(random, name, 0x0004, &[]);
-        }
-        1 => {
-            let attributes = attributes(random);
-            builder.file_of(random, name, attributes, &[]);
-        }
-        _ => {
-            let attributes = attributes(random);
-            let number = random.between(1, 6);
-            builder.file(random, name, attributes, number, spread);
-        }
+    if random.chance(33) {
+        builder.file_of_none(random, name);
+        return;
     }
+    let attributes = attributes(random);
+    let number = random.between(1, 6);
+    builder.file(random, name, attributes, number, spread);
 }
 
 /// A unit whose files, or whose SYS, lie in close to 127 stretches, and whose free slices
@@ -69,6 +61,7 @@ pub fn crowded(random: &mut Random) -> Unit {
         }
         add_crowded_file(random, &mut builder, name);
     }
+    builder.entries_only(random, 2);
     part_free_slices(random, &mut builder);
     let number = random.below(4) as u16;
     builder.finish(number)

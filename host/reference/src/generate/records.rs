@@ -1,5 +1,6 @@
 //! Records of Format, and units just formatted.
 
+use super::builder::Builder;
 use super::Unit;
 use crate::layout::SECTOR;
 use crate::random::Random;
@@ -78,9 +79,66 @@ pub(super) fn initialize(unit: &mut Unit) {
     assert_eq!(answer.result, 0, "a sound unit is accepted");
 }
 
-/// A small unit just formatted and initialized.
+/// A small unit just formatted and initialized, at times with entry-only files written into it.
 pub fn fresh(random: &mut Random) -> Unit {
     let number = random.below(4) as u16;
     let record = record(random, number);
-    formatted(random, &record)
+    let unit = formatted(random, &record);
+    if random.chance(50) {
+        with_entries_only(random, unit)
+    } else {
+        unit
+    }
+}
+
+/// A sound unit that has nothing open, with up to four entry-only files written into it: no call
+/// makes them (02, R-9).
+pub fn with_entries_only(random: &mut Random, unit: Unit) -> Unit {
+    let number = unit.state.unit;
+    let mut builder = Builder::over(unit);
+    builder.entries_only(random, 4);
+    builder.finish(number)
+}
+
+#[cfg(test)]
+mod tests {
+    use std::collections::BTreeSet;
+
+    use super::*;
+    use crate::generate::{aged, crowded};
+    use crate::layout::ENTRY_ONLY;
+    use crate::straight::entries;
+
+    /// The attributes of the entry-only files of a unit.
+    fn entries_only(unit: &Unit) -> Vec<u16> {
+        let attributes = entries(&unit.image).into_iter().map(|entry| entry[6]);
+        attributes.filter(|word| word & ENTRY_ONLY != 0).collect()
+    }
+
+    #[test]
+    fn units_of_each_kind_have_entry_only_files() {
+        let random = &mut Random::new(13);
+        for kind in [fresh, aged, crowded] {
+            let units: Vec<Vec<u16>> = (0..60).map(|_| entries_only(&kind(random))).collect();
+            assert!(units.iter().any(Vec::is_empty));
+            assert!(units.iter().any(|found| found.len() > 1));
+            let all: BTreeSet<u16> = units.concat().into_iter().collect();
+            let expected = [0x0004, 0x000C, 0x0014, 0x4004, 0x401C];
+            assert_eq!(all, BTreeSet::from(expected));
+        }
+    }
+
+    #[test]
+    fn what_is_formatted_has_none() {
+        let random = &mut Random::new(14);
+        let record = record(random, 0);
+        let unit = formatted(random, &record);
+        assert_eq!(entries_only(&unit), []);
+        let words = unit.image.len();
+        let written = with_entries_only(random, unit.clone());
+        assert_eq!(written.state, unit.state);
+        let changed = (0..words).filter(|&word| written.image[word] != unit.image[word]);
+        let most = 16 * entries_only(&written).len();
+        assert!((1..=most).contains(&changed.count()));
+    }
 }

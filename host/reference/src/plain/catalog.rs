@@ -16,11 +16,11 @@ fn tail_in(lent: &[u16]) -> [u16; 6] {
     [lent[10], lent[11], lent[12], lent[13], lent[14], lent[15]]
 }
 
-/// Whether a caller may set these attributes for a file of so many slices.
-fn attributes_allowed(attributes: u16, slices: usize) -> bool {
+/// Whether a caller may give these attributes: bit 13 is withdrawn (02, R-9).
+fn may_give(attributes: u16) -> bool {
     let bit = |number: u32| attributes & (1 << (15 - number)) != 0;
-    let others = (0..16).filter(|number| ![1, 11, 12, 13, 15].contains(number));
-    !others.into_iter().any(bit) && (!bit(13) || (!bit(15) && slices == 0))
+    let others = (0..16).filter(|number| ![1, 11, 12, 15].contains(number));
+    !others.into_iter().any(bit)
 }
 
 /// What a Change asks for: the file as it would stand after the message.
@@ -94,12 +94,11 @@ impl Plain {
     fn add(&mut self, name: Name, mut file: File) -> Outcome {
         let size = file.booked_length;
         ask(size < 32_768, 0x1200)?;
-        let wanted = self.slices_for(size);
         let name = text(name).ok_or(Refused(0x1200, 0))?;
-        ask(attributes_allowed(file.attributes, wanted), 0x1200)?;
+        ask(may_give(file.attributes), 0x1200)?;
         ask(!self.stands(&name), 0x1010)?;
         let grows = self.crowded(&name, None);
-        let (sys, list) = self.lists_after(grows, &[], wanted)?;
+        let (sys, list) = self.lists_after(grows, &[], self.slices_for(size))?;
         self.sys = sys;
         self.layers += usize::from(grows);
         file.booked_slices = list.len();
@@ -159,10 +158,8 @@ impl Plain {
             0 => old.to_string(),
             _ => text([lent[0], lent[1], lent[2]]).ok_or(Refused(0x1200, 0))?,
         };
-        let attributes = match lent[6] {
-            0..=32_767 => lent[6],
-            _ => file.attributes,
-        };
+        let given = (lent[6] < 32_768).then_some(lent[6]);
+        ask(given.is_none_or(may_give), 0x1200)?;
         let length = match lent[9] {
             0..=32_767 => lent[9] as usize,
             _ => file.booked_length,
@@ -173,7 +170,9 @@ impl Plain {
         } else {
             file.slices.len()
         };
-        ask(attributes_allowed(attributes, wanted), 0x1200)?;
+        // A file that keeps bit 13 gets no slices.
+        let attributes = given.unwrap_or(file.attributes);
+        ask(attributes & 4 == 0 || wanted == 0, 0x1200)?;
         Ok(Changed {
             name,
             attributes,

@@ -53,7 +53,7 @@ fn new_file(
     let Some(name) = legal(name) else {
         return Err(Question::Legal.into());
     };
-    if size & NEGATIVE != 0 || !legal_attributes(entry[6], wanted) {
+    if size & NEGATIVE != 0 || !may_be_given(entry[6]) {
         return Err(Question::Legal.into());
     }
     if survey.find(name).is_some() {

@@ -64,7 +64,12 @@ fn changed(kit: &Kit, entry: &Entry, lent: &[u16]) -> Result<Changed, Question> 
     } else {
         kit.need(length as usize)
     };
-    if !legal_attributes(attributes, wanted) {
+    // Kept attributes are judged as the entry would stand after the message.
+    let is_legal = match lent[6] & NEGATIVE {
+        0 => may_be_given(attributes),
+        _ => legal_attributes(attributes, wanted),
+    };
+    if !is_legal {
         return Err(Question::Legal);
     }
     Ok(Changed {

@@ -6,7 +6,7 @@ use std::collections::BTreeMap;
 use reference::generate::{differ_in_case, Call, Caller, Unit};
 use reference::layout::{name_of, stretches};
 use reference::pairs::{call_name, Counts};
-use reference::plain::{image_after, state_after, Plain};
+use reference::plain::{image_after, state_after, File, Plain};
 use reference::random::Random;
 use reference::{explain, soundness, Answer, Message, Operation, Question, State};
 
@@ -31,6 +31,7 @@ impl Tally {
     /// Notes what an accepted call has done to the plain unit.
     fn note(&mut self, message: &Message, before: &Plain, after: &Plain) {
         let mut events = case_events(before, after);
+        events.extend(entry_only_event(message, before, after));
         let grows = after.layers > before.layers;
         let takes = after.sys.len() > before.sys.len();
         if grows {
@@ -154,6 +155,27 @@ fn case_events(before: &Plain, after: &Plain) -> Vec<&'static str> {
         events.push("Create area: beside one in another case");
     }
     events
+}
+
+/// What a call that was accepted has done with an entry-only file. None makes one (02, R-9).
+fn entry_only_event(message: &Message, before: &Plain, after: &Plain) -> Option<&'static str> {
+    let entries_only = |plain: &Plain| {
+        let is_one = |file: &&File| file.attributes & 4 != 0;
+        plain.files.values().filter(is_one).count()
+    };
+    let (old, new) = (entries_only(before), entries_only(after));
+    assert!(new <= old, "{message:?} made an entry-only file");
+    let held = |plain: &Plain| -> usize {
+        let files = plain.files.values();
+        files.map(|file| file.slices.len()).sum()
+    };
+    let takes = held(after) > held(before);
+    match message {
+        Message::Remove { .. } if new < old => Some("Remove: entry only"),
+        Message::Change { .. } if new < old && takes => Some("Change: entry only takes slices"),
+        Message::Change { .. } if new < old => Some("Change: entry only made ordinary"),
+        _ => None,
+    }
 }
 
 /// The state but for the sender's positions.

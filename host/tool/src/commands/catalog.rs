@@ -17,7 +17,6 @@ const ATTRIBUTES: Choice = valued(
 const EXTENDABLE: Choice = flag("--extendable", "attribute: output at the end appends");
 const PERMANENT: Choice = flag("--permanent", "attribute: not removed, renamed or resized");
 const PROTECTED: Choice = flag("--write-protected", "attribute: no output");
-const ENTRY_ONLY: Choice = flag("--entry-only", "attribute: an entry without sectors");
 const OPTIONAL: Choice = valued("--optional", "W,W,W", "the three optional words");
 const TAIL: Choice = valued("--tail", "W,..", "the six words of the tail");
 
@@ -25,9 +24,7 @@ const TAIL: Choice = valued("--tail", "W,..", "the six words of the tail");
 pub const CREATE: Command = Command {
     name: "create",
     operands: &["IMAGE", "NAME"],
-    choices: &[
-        SIZE, ATTRIBUTES, EXTENDABLE, PERMANENT, PROTECTED, ENTRY_ONLY, UNIT,
-    ],
+    choices: &[SIZE, ATTRIBUTES, EXTENDABLE, PERMANENT, PROTECTED, UNIT],
     summary: "Enter a new file of zero sectors",
     about: "Sends Create Entry. Without attributes the file has a fixed length.",
     run: create,
@@ -38,7 +35,7 @@ pub const SET: Command = Command {
     name: "set",
     operands: &["IMAGE", "NAME"],
     choices: &[
-        SIZE, ATTRIBUTES, EXTENDABLE, PERMANENT, PROTECTED, ENTRY_ONLY, OPTIONAL, TAIL, UNIT,
+        SIZE, ATTRIBUTES, EXTENDABLE, PERMANENT, PROTECTED, OPTIONAL, TAIL, UNIT,
     ],
     summary: "Enter a new file with its optional and tail words",
     about: "Sends Set Entry: as create, and the words that are the caller's own are given too\n\
@@ -57,7 +54,6 @@ pub const CHANGE: Command = Command {
         EXTENDABLE,
         PERMANENT,
         PROTECTED,
-        ENTRY_ONLY,
         OPTIONAL,
         TAIL,
         UNIT,
@@ -65,7 +61,8 @@ pub const CHANGE: Command = Command {
     summary: "Change a file's name, length, attributes or words",
     about:
         "Sends Look-up Entry and Change Entry. What is not given is kept. The attributes given\n\
-            replace all others (--attributes none takes all away).",
+            replace all others (--attributes none takes all away, and makes an entry-only file of an\n\
+            old disc an ordinary one).",
     run: change,
 };
 

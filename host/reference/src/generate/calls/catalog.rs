@@ -93,7 +93,7 @@ impl Caller {
             lent[..3].copy_from_slice(&new);
         }
         lent[6] = if random.chance(50) {
-            random.pick(&[0xFFFF, 0x8000, 0x8010])
+            random.pick(&[0xFFFF, 0x8000, 0x8010, 0x8004])
         } else {
             any_attributes(random)
         };

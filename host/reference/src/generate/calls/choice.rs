@@ -1,11 +1,11 @@
 //! Names, sizes, attributes and lent words of calls.
 
 use super::{names_in, Caller, Mix, Sizes};
-use crate::generate::builder::attributes;
+use crate::generate::builder::{attributes, entry_only};
 use crate::generate::names::{in_message, in_two_cases, other_case};
-use crate::layout::{bit_word, Kit, KIT, MAP, SECTOR, SYS};
+use crate::layout::{bit_word, Kit, ENTRY_ONLY, KIT, MAP, SECTOR, SYS};
 use crate::random::Random;
-use crate::sound::survey;
+use crate::sound::{survey, Entry, Survey};
 use crate::types::{Name, State};
 
 impl Caller {
@@ -37,8 +37,8 @@ impl Caller {
         self.name(random, state.unit)
     }
 
-    /// A name that stands in the catalog, most of the time, and often beside one that differs in case
-    /// only; `files` leaves SYS and MAP out.
+    /// A name that stands in the catalog, most of the time, often an entry-only file's or one beside
+    /// which another stands that differs in case only; `files` leaves SYS and MAP out.
     pub(super) fn standing(
         &self,
         random: &mut Random,
@@ -49,8 +49,11 @@ impl Caller {
         if random.chance(80) {
             if let Ok(survey) = survey(image, state) {
                 let mut names = names_in(&survey);
+                let entries_only = entries_only_in(&survey);
                 if random.chance(25) {
                     names = in_two_cases(&names);
+                } else if !entries_only.is_empty() && random.chance(25) {
+                    names = entries_only;
                 }
                 names.retain(|name| !files || (*name != SYS && *name != MAP));
                 return self.one_of(random, &names, state.unit);
@@ -76,6 +79,13 @@ impl Caller {
             size(random, image, self.sizes)
         }
     }
+}
+
+/// The names of the entry-only files.
+fn entries_only_in(survey: &Survey) -> Vec<Name> {
+    let entries = survey.entries.iter();
+    let entries_only = entries.filter(|entry| entry.words[6] & ENTRY_ONLY != 0);
+    entries_only.map(Entry::name).collect()
 }
 
 /// A size, mostly small, at times around what is free or what an index holds.
@@ -115,13 +125,15 @@ fn around(random: &mut Random, middle: usize, s: usize) -> u16 {
     random.between(low, middle + s + 1).min(65_535) as u16
 }
 
-/// Attributes, now and then illegal ones.
+/// Attributes, now and then illegal ones, many of them by bit 13: alone, with bits that a caller may
+/// give, with bit 15, with any one bit.
 pub(super) fn any_attributes(random: &mut Random) -> u16 {
-    match random.below(20) {
-        0 => 0x0004,
+    match random.below(21) {
+        0 => entry_only(random),
         1 => 0x0005,
-        2 => random.word(),
-        3 => bit_word(random.below(16)),
+        2 => ENTRY_ONLY | bit_word(random.below(16)),
+        3 => random.word(),
+        4 => bit_word(random.below(16)),
         _ => attributes(random),
     }
 }
