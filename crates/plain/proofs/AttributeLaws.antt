@@ -3,7 +3,7 @@ use mathlib.Core.Path.{_≡_}
 use mathlib.Core.Bool.{Bool, true, false, not, _&&_, cond}
 use Prim.Native.Nat.{ℕ, _≤_, _<_}
 use native.Mathlib.Omega.{arith}
-use lib.Dec.{T, eqb, ltb, eqb→eq}
+use lib.Dec.{T, T-not, eqb, ltb, eqb→eq}
 use borrow.Author.Tests.{lt-leb}
 use Rattle.disc.specs.Numbers.{bit, bitWord, negative}
 use Rattle.disc.specs.Attributes.{wordIf, entryOnly, extendable, legalAttributes, legalWith, givesEntryOnly}
@@ -43,11 +43,8 @@ given-legal a slices t u = go (entryOnly a) (given-ordinary a t u)
 pub ordinary-most : (w n : ℕ) → T (not (entryOnly w)) → (a : ℕ) → T (entryOnly a) → oneIf (eqb w a) ≤ n
 ordinary-most w n u a t = go (eqb w a) (eqb→eq w a)
   where
-    both : (b : Bool) → T (not b) → T b → ⊥
-    both false v s = s
-
     go : (b : Bool) → (T b → w ≡ a) → oneIf b ≤ n
-    go true e = absurd (both (entryOnly w) u (rw (e tt) t))
+    go true e = absurd (T-not (entryOnly w) u (rw (e tt) t))
     go false e = omega arith
 
 -- a changed file has the attributes a where it had them and they are kept

@@ -33,6 +33,7 @@ use Rattle.plain.proofs.TakingLaws.{layers-up, sysTaken}
 
 -- ---- SYS and the entry-only files
 
+-- What the unit q after any answer keeps of p.
 record Kept (p q : Plain) : Type 0 where
   sys : NeverShrinks p q
   entry-only : NoMoreEntryOnly p q
