@@ -9,8 +9,9 @@ use crate::sys::NO_SUCH_CALL;
 /// A result, or the refusal of a call.
 pub type Result<T> = std::result::Result<T, Error>;
 
-/// A refusal: one variant for each result word. The same word can have several reasons; which
-/// are possible at a call says [`Error::reasons`].
+/// A refusal: one variant for each result word. Shown, it is one short line: the word and its
+/// meaning. The same word can have several reasons; which are possible at a call says
+/// [`Error::reasons`].
 #[derive(Clone, Copy, PartialEq, Eq, Hash, Debug)]
 pub enum Error {
     /// 1200h. Catalog question 1: the unit is not known or not initialized, for Init an area
@@ -52,41 +53,86 @@ pub enum Error {
     BlockSize,
     /// 0C00h. Output: the file is write protected.
     WriteProtected,
-    /// FFFFh. The number of a raw message is no call's. Document 01 does not have this word, and
-    /// no [`Message`](crate::Message) gives it.
+    /// FFFFh. The number of a raw message is no call's; no [`Message`](crate::Message) is answered
+    /// so.
     NoSuchCall,
     /// Any other word; the library is proved to answer none.
     Other(u16),
 }
 
-/// The words with their variants.
-const WORDS: [(u16, Error); 17] = [
-    (0x1200, Error::CatalogParameter),
-    (0x9000, Error::CatalogUnsound),
-    (0x5000, Error::NoEntry),
-    (0x1010, Error::EntryExists),
-    (0x1100, Error::DiscFull),
-    (0x1008, Error::IndexFull),
-    (0x1080, Error::FormatRecord),
-    (0x0A00, Error::AreaIllegal),
-    (0x8800, Error::AreaUnsound),
-    (0x4800, Error::NoArea),
-    (0x0900, Error::AreaFull),
-    (0x0200, Error::AreaReserved),
-    (0x0810, Error::NotUserOrPastEnd),
-    (0x0808, Error::UsersOrIndexFull),
-    (0x0880, Error::BlockSize),
-    (0x0C00, Error::WriteProtected),
-    (NO_SUCH_CALL, Error::NoSuchCall),
+/// The words with their variants and meanings, which `ruzkemp_result_text` of `include/ruzkemp.h`
+/// has too.
+const WORDS: [(u16, Error, &str); 17] = [
+    (
+        0x1200,
+        Error::CatalogParameter,
+        "parameter refused by the catalog",
+    ),
+    (
+        0x9000,
+        Error::CatalogUnsound,
+        "image is not sound with the state",
+    ),
+    (0x5000, Error::NoEntry, "no entry of the name"),
+    (0x1010, Error::EntryExists, "name is used by another file"),
+    (0x1100, Error::DiscFull, "not enough free slices"),
+    (
+        0x1008,
+        Error::IndexFull,
+        "more than 127 stretches in SYS or the file",
+    ),
+    (0x1080, Error::FormatRecord, "not one record of 18 bytes"),
+    (
+        0x0A00,
+        Error::AreaIllegal,
+        "illegal area call, or the end of a fixed file",
+    ),
+    (
+        0x8800,
+        Error::AreaUnsound,
+        "image is not sound with the state, at an area call",
+    ),
+    (
+        0x4800,
+        Error::NoArea,
+        "no area process of the name, or no entry to open",
+    ),
+    (
+        0x0900,
+        Error::AreaFull,
+        "no area process vacant, or no slice free",
+    ),
+    (
+        0x0200,
+        Error::AreaReserved,
+        "another user is exclusive user",
+    ),
+    (
+        0x0810,
+        Error::NotUserOrPastEnd,
+        "sender is no user, or the position is at or past the end",
+    ),
+    (
+        0x0808,
+        Error::UsersOrIndexFull,
+        "no more users or opens, or more than 127 stretches in the file",
+    ),
+    (0x0880, Error::BlockSize, "not one block of 512 bytes"),
+    (0x0C00, Error::WriteProtected, "file is write protected"),
+    (
+        NO_SUCH_CALL,
+        Error::NoSuchCall,
+        "no call has the message's number",
+    ),
 ];
 
 impl Error {
     /// The refusal of a result word; none if it is 0.
     pub fn from_word(word: u16) -> Option<Error> {
-        let named = WORDS.iter().find(|(known, _)| *known == word);
+        let named = WORDS.iter().find(|(known, ..)| *known == word);
         match named {
             _ if word == 0 => None,
-            Some((_, error)) => Some(*error),
+            Some((_, error, _)) => Some(*error),
             None => Some(Error::Other(word)),
         }
     }
@@ -102,8 +148,8 @@ impl Error {
             Error::Other(word) => word,
             named => WORDS
                 .iter()
-                .find(|(_, error)| *error == named)
-                .map_or(0, |(word, _)| *word),
+                .find(|(_, error, _)| *error == named)
+                .map_or(0, |(word, ..)| *word),
         }
     }
 
@@ -122,30 +168,28 @@ impl Error {
 
     /// The word and the reasons that it can have at a call, in plain words.
     pub fn explain(self, call: Call) -> String {
-        self.text(&self.reasons(call))
-    }
-
-    /// The word and these reasons.
-    fn text(self, reasons: &[&str]) -> String {
+        let reasons = self.reasons(call);
         let reasons = if reasons.is_empty() {
-            "for no reason that the documents name".into()
+            "for no reason that the call has".into()
         } else {
             reasons.join(", or ")
         };
         format!("refused with {:04X}h: {reasons}", self.word())
     }
+
+    /// What the word means, in short.
+    fn meaning(self) -> &'static str {
+        WORDS
+            .iter()
+            .find(|(_, error, _)| *error == self)
+            .map_or("no result word of the library", |(.., meaning)| meaning)
+    }
 }
 
 impl fmt::Display for Error {
-    /// The word and all that it can mean.
+    /// The word and what it means, in one line.
     fn fmt(&self, f: &mut fmt::Formatter<'_>) -> fmt::Result {
-        let mut reasons: Vec<&str> = Vec::new();
-        for (_, _, text) in REASONS.iter().filter(|(error, ..)| error == self) {
-            if !reasons.contains(text) {
-                reasons.push(text);
-            }
-        }
-        f.write_str(&self.text(&reasons))
+        write!(f, "{:04X}h: {}", self.word(), self.meaning())
     }
 }
 

@@ -250,10 +250,6 @@ fn a_refusal_is_told_in_plain_words() {
         "refused with 0900h: no slice is free"
     );
     assert_eq!(
-        Error::AreaFull.to_string(),
-        "refused with 0900h: all eight area processes are in use, or no slice is free"
-    );
-    assert_eq!(
         Error::AreaIllegal.explain(Call::Input),
         "refused with 0A00h: the unit is not known or not initialized, or the position is \
          negative, or the position is at the end of a fixed file"
@@ -274,7 +270,39 @@ fn a_refusal_is_told_in_plain_words() {
         "refused with FFFFh: the number is no call's"
     );
     assert_eq!(
-        Error::Other(0x0001).to_string(),
-        "refused with 0001h: for no reason that the documents name"
+        Error::AreaFull.explain(Call::Init),
+        "refused with 0900h: for no reason that the call has"
     );
+}
+
+#[test]
+fn a_refusal_is_shown_in_one_short_line() {
+    for (error, line) in [
+        (
+            Error::CatalogParameter,
+            "1200h: parameter refused by the catalog",
+        ),
+        (Error::DiscFull, "1100h: not enough free slices"),
+        (
+            Error::AreaFull,
+            "0900h: no area process vacant, or no slice free",
+        ),
+        (Error::NoSuchCall, "FFFFh: no call has the message's number"),
+        (Error::Other(0x0001), "0001h: no result word of the library"),
+    ] {
+        assert_eq!(error.to_string(), line);
+    }
+    let mut lines: Vec<String> = Vec::new();
+    for word in 1..=u16::MAX {
+        let error = Error::from_word(word).expect("a refusal");
+        let line = error.to_string();
+        assert!(line.len() <= 80 && !line.contains('\n'), "{line}");
+        if error != Error::Other(word) {
+            lines.push(line[7..].to_string());
+        }
+    }
+    assert_eq!(lines.len(), 17);
+    lines.sort();
+    lines.dedup();
+    assert_eq!(lines.len(), 17, "two words have one meaning");
 }
