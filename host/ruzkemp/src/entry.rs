@@ -8,7 +8,7 @@ use crate::name::{Name, NameWords};
 /// Words in an entry.
 pub const ENTRY: usize = 16;
 
-/// In the attributes or the size lent to Change: keep those of the entry.
+/// In the attributes or the size lent to Change: keep those of the entry. Any negative word does.
 const KEPT: u16 = 0x8000;
 
 /// The attributes of a file. Bit 0 is the highest of the word.
@@ -166,7 +166,8 @@ impl Entry {
         self.part(10)
     }
 
-    /// The entry with this name.
+    /// The entry with this name. One whose first word is 0, which no legal name has, is none for
+    /// Change: it keeps the file's.
     pub fn with_name(self, name: Name) -> Entry {
         self.with_name_words(name.words())
     }
@@ -183,13 +184,15 @@ impl Entry {
         self
     }
 
-    /// The entry with these attributes.
+    /// The entry with these attributes. Bit 0 among them ([`Attributes::CATALOG_FILE`]) makes the
+    /// word negative, and Change keeps the file's.
     pub fn with_attributes(mut self, attributes: Attributes) -> Entry {
         self.words[6] = attributes.bits();
         self
     }
 
-    /// The entry with this length wanted, in the word from which Set and Change take it.
+    /// The entry with this length wanted, in the word from which Set and Change take it. Set refuses
+    /// one above 32,767; for Change the word is negative then, and it keeps the file's length.
     pub fn with_size(mut self, size: u16) -> Entry {
         self.words[9] = size;
         self
@@ -214,6 +217,16 @@ impl Entry {
     /// The entry such that Change keeps the length.
     pub fn keeping_size(self) -> Entry {
         self.with_size(KEPT)
+    }
+
+    /// Whether Change keeps the name.
+    pub(crate) fn keeps_name(&self) -> bool {
+        self.words[0] == 0
+    }
+
+    /// Whether Change keeps the length.
+    pub(crate) fn keeps_size(&self) -> bool {
+        self.words[9] & KEPT != 0
     }
 
     /// So many words from one on.

@@ -152,6 +152,12 @@ impl<I: AsRef<[u16]> + AsMut<[u16]>> Unit<I> {
 
     /// Change Entry: gives a file the name, attributes (of [`Attributes::SETTABLE`], unless they are
     /// kept), length, optional and tail of an entry, as [`Entry::for_change`] makes one.
+    ///
+    /// The entry is sent as it is, and words of it can have no effect though the call is obeyed. Which
+    /// words keep the file's name, attributes or length, [`Entry::with_name`],
+    /// [`Entry::with_attributes`] and [`Entry::with_size`] say. A file that is
+    /// [`PERMANENT`](Attributes::PERMANENT) before the call keeps optional and tail, even where the
+    /// same call takes that attribute away; a [`look_up`](Unit::look_up) tells what stands.
     pub fn change(&mut self, name: Name, entry: &Entry) -> Result<()> {
         let name = self.named(name);
         self.send(Message::Change { name }, &mut entry.words())?;
@@ -160,15 +166,30 @@ impl<I: AsRef<[u16]> + AsMut<[u16]>> Unit<I> {
 
     /// Gives a file another name and keeps all else: a Look-up, then a Change. A name that differs in
     /// case only is another.
+    ///
+    /// A name that Change would read as 'keep' ([`Entry::with_name`]) is refused with
+    /// [`CatalogParameter`](crate::Error::CatalogParameter), as any other illegal name is.
     pub fn rename(&mut self, name: Name, new: Name) -> Result<()> {
         let current = self.look_up(name)?;
-        self.change(name, &Entry::for_change(&current).with_name(new))
+        let entry = Entry::for_change(&current).with_name(new);
+        if entry.keeps_name() {
+            return Err(Error::CatalogParameter);
+        }
+        self.change(name, &entry)
     }
 
     /// Gives a file another length and keeps all else: a Look-up, then a Change.
+    ///
+    /// A length above 32,767, which Change would read as 'keep' ([`Entry::with_size`]), is refused
+    /// with [`CatalogParameter`](crate::Error::CatalogParameter), as [`create`](Unit::create) refuses
+    /// it.
     pub fn resize(&mut self, name: Name, size: u16) -> Result<()> {
         let current = self.look_up(name)?;
-        self.change(name, &Entry::for_change(&current).with_size(size))
+        let entry = Entry::for_change(&current).with_size(size);
+        if entry.keeps_size() {
+            return Err(Error::CatalogParameter);
+        }
+        self.change(name, &entry)
     }
 
     /// Remove Entry.
