@@ -1,13 +1,15 @@
 //! The disc side of the RC3600 Catalog System, proved: one unit over a lent image of words.
 //!
-//! Every call goes to the static library of crate `export`, whose functions are proved against
-//! documents 01 and 02 for every image, state, message and lent words. This crate adds types and
-//! names; it decides nothing itself.
+//! Every call goes to the static library of crate `export`, whose functions are proved against the
+//! specification for every image, state, message and lent words. This crate adds types and names,
+//! and decides one thing itself: [`Unit::rename`] and [`Unit::resize`] refuse what the message
+//! Change would read as 'keep'.
 //!
 //! * [`Unit`] is an image with its state, and has a method for each message.
 //! * [`Name`], [`Entry`], [`Attributes`], [`Record`] and [`Description`] are what the messages
 //!   carry; [`State`], [`Area`], [`User`] and [`Role`] are what is open.
 //! * [`Error`] is a refusal, one variant for each result word.
+//! * [`words_from_bytes`] and [`bytes_from_words`] are for image files, in either [`ByteOrder`].
 //! * [`Message`] and [`Answer`] are the calls as an emulator has them, for [`Unit::perform`].
 //! * [`sys`] is the C interface itself; its messages, of any number, are for
 //!   [`Unit::perform_raw`].
@@ -38,6 +40,7 @@
 #![deny(unsafe_code)]
 
 mod boundary;
+mod bytes;
 mod entry;
 mod error;
 mod kit;
@@ -48,6 +51,7 @@ mod state;
 pub mod sys;
 mod unit;
 
+pub use bytes::{bytes_from_words, words_from_bytes, ByteOrder};
 pub use entry::{Attributes, Entry, ENTRY};
 pub use error::{Error, Result};
 pub use kit::{Description, Record, SECTOR};

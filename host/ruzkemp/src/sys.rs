@@ -5,7 +5,7 @@
 //! reads and writes only the words lent to it.
 //!
 //! A call that is refused leaves every word as it was, but for the sender's position where
-//! document 01 says so. One that is obeyed leaves each word of the state that stands for the new
+//! [`Unit`](crate::Unit) says so. One that is obeyed leaves each word of the state that stands for the new
 //! value already: any but 0 for yes, any from 2 on for an exclusive user.
 
 use core::mem::{align_of, offset_of, size_of};
@@ -92,7 +92,7 @@ pub struct UnitAnswer {
     pub entries: u32,
 }
 
-/// The result word of a message whose number is no call's; document 01 does not have it.
+/// The result word of a message whose number is no call's; no other message is answered so.
 pub const NO_SUCH_CALL: u16 = 0xFFFF;
 
 /// The numbers of the calls.
