@@ -1,7 +1,7 @@
 /*
  * ruzkemp.h: the RC3600 catalog unit for C and C++ programs.
  *
- * A unit is an image (256 words of 16 bits to a sector, in the machine's own byte order) and a state. Both belong to the caller and are lent
+ * A unit is an image (256 words of 16 bits to a sector) and a state. Both belong to the caller and are lent
  * with every call; the library keeps no pointer, has no memory of its own and no locks, so calls on different units may run at once. It
  * reads and writes nothing but the words lent. Every entry point takes any image, state, message and lent words: whatever cannot be
  * done is refused with a result word other than 0, and then no word of image, state and lent words changes but, where said, the sender's
@@ -10,15 +10,21 @@
  * Some words of the state can stand for the same value: any word but 0 for yes, any role from 2 on for an exclusive user. A call that is
  * obeyed leaves a word that stands for the new value already as it is; any other becomes 1 for yes, 0 for no, and 0, 1 or 2 for a role.
  *
+ * Byte order: words are uint16_t, in the machine's own order. An image file of the tool has the high byte of each word first, whatever the
+ * machine, so a program that reads or writes one goes through ruzkemp_load_high_first and ruzkemp_store_high_first; for files with the low
+ * byte first there are ruzkemp_load_low_first and ruzkemp_store_low_first.
+ *
  * Four rules for the caller: pointers are those of uint16_t or of the structs below, never null; state, image and lent words do not
  * overlap; nobody else uses them during a call; a call has 128 KiB of stack (it takes about 40).
  *
- * The library is target/staticlib/libexport.a, made by `rt staticlib export`:
+ * The library is libruzkemp.a, made by ./build into out/ and installed by `make install`:
  *
- *     cc -std=c99 -I include program.c target/staticlib/libexport.a -o program
+ *     cc -std=c99 program.c $(pkg-config --cflags --libs ruzkemp) -o program
+ *     cc -std=c99 -I out/include program.c out/lib/libruzkemp.a -o program
  *
- * The first part below is the library's interface. The second part, from "One function for each message" on, is static inline and only
- * fills a message.
+ * The first part below is the library's interface. The second part, from "One function for each message" on, is static inline: it fills a
+ * message, and only ruzkemp_rename and ruzkemp_resize refuse something themselves. The third part, from "Texts and files" on, is static
+ * inline too and makes no call.
  */
 #ifndef RUZKEMP_H
 #define RUZKEMP_H
@@ -81,7 +87,10 @@ enum {
 };
 
 /* Words of an entry, as Look-up and Listing hand it back. In an entry lent to Set or Change the wanted length stands in
-   RUZKEMP_ENTRY_RESERVED; for Change a name whose first word is 0, and attributes or a length of RUZKEMP_KEPT, keep those of the file. */
+   RUZKEMP_ENTRY_RESERVED. For Change a name whose first word is 0 keeps that of the file, and so do attributes and a length of RUZKEMP_KEPT or
+   any other word with bit 0 set: the call is obeyed, and 40000 sectors or attributes 8001h have no effect. Nor have optional and tail where the
+   file is permanent before the call. An entry as Look-up gave it is not one to lend to Change: the reserved sectors would become the length,
+   and the attributes of an old entry-only file are refused. ruzkemp_entry_for_change makes one of it. */
 enum {
     RUZKEMP_ENTRY_NAME = 0,       /* three words */
     RUZKEMP_ENTRY_OPTIONAL = 3,   /* three words, the caller's own */
@@ -102,7 +111,7 @@ enum {
     RUZKEMP_DESCRIPTION_FREE = 15        /* free sectors */
 };
 
-/* Result words. Where a word has several reasons, the call decides which are possible. */
+/* Result words; ruzkemp_result_text has a line for each. Where a word has several reasons, the call decides which are possible. */
 enum {
     RUZKEMP_OK = 0,
     /* Unit not known or not initialized; Init, Format: area process open. Record, name, size or attributes illegal. Change, Remove: the file
@@ -125,7 +134,7 @@ enum {
     RUZKEMP_USERS_OR_INDEX_FULL = 0x0808,  /* Reserve: three users, or 65,535 opens; output: more than 127 stretches */
     RUZKEMP_BLOCK_SIZE = 0x0880,           /* transput: not 512 bytes, or fewer than 256 words lent */
     RUZKEMP_WRITE_PROTECTED_FILE = 0x0C00, /* output: the file is write protected */
-    RUZKEMP_NO_SUCH_CALL = 0xFFFF          /* the number of the message is no call's; not a word of document 01 */
+    RUZKEMP_NO_SUCH_CALL = 0xFFFF          /* the number of the message is no call's */
 };
 
 /* Which call a message is. Any other number is answered RUZKEMP_NO_SUCH_CALL, and nothing changes. */
@@ -243,7 +252,7 @@ RUZKEMP_FIELD(answer, entries, 8);
 #undef RUZKEMP_FIELD
 #undef RUZKEMP_LAYOUT
 
-/* Whether image and state are a sound unit: the section 'A sound unit' of document 01, for every image and state. */
+/* Whether image and state are a sound unit, for every image and state; docs/RULES.md has the rules. */
 bool ruzkemp_sound(const uint16_t *image, size_t words, ruzkemp_state state);
 
 /* Carries out a call. lent holds what the message lends: the entry of Set and Change, the words that Look-up, Listing and Get Unit
@@ -292,7 +301,7 @@ static inline ruzkemp_unit ruzkemp_fresh_unit(uint16_t unit, uint16_t *image, si
 }
 
 /* The name of a text of one to five characters on a unit, each as given: 'pass' and 'PASS' are two names. A legal one has a letter (A to Z or a to
-   z) and then letters or digits. A longer or empty text gives a name that no file can have. */
+   z) and then letters or digits. A longer or empty text gives a name that no file can have; in an entry lent to Change it keeps the file's name. */
 static inline ruzkemp_name ruzkemp_name_of(const char *text, uint16_t unit)
 {
     unsigned char characters[6] = {0, 0, 0, 0, 0, 0};
@@ -402,22 +411,50 @@ static inline ruzkemp_answer ruzkemp_look_up(ruzkemp_unit *unit, ruzkemp_name na
     return ruzkemp_send(unit, ruzkemp_named_message(RUZKEMP_CALL_LOOK_UP, name), entry, RUZKEMP_ENTRY_WORDS);
 }
 
-/* Change: gives a file the name, attributes (no ENTRY_ONLY, unless they are kept), length, optional and tail of an entry; see RUZKEMP_KEPT. */
+/* Makes of an entry that Look-up gave one that Change is lent: name, attributes and length are kept, optional and tail are its own. What is to be
+   changed is put into it then; the wanted length into RUZKEMP_ENTRY_RESERVED. */
+static inline void ruzkemp_entry_for_change(uint16_t entry[RUZKEMP_ENTRY_WORDS])
+{
+    memset(entry + RUZKEMP_ENTRY_NAME, 0, 3 * sizeof *entry);
+    entry[RUZKEMP_ENTRY_ATTRIBUTES] = RUZKEMP_KEPT;
+    entry[RUZKEMP_ENTRY_RESERVED] = RUZKEMP_KEPT;
+}
+
+/* Change: gives a file the name, attributes (no ENTRY_ONLY, unless they are kept), length, optional and tail of an entry, which is sent as it
+   is: see RUZKEMP_KEPT for the words of it that keep the file's. A permanent file keeps optional and tail, even where the same call takes that
+   attribute away; Look-up tells what stands. */
 static inline ruzkemp_answer ruzkemp_change(ruzkemp_unit *unit, ruzkemp_name name, uint16_t entry[RUZKEMP_ENTRY_WORDS])
 {
     return ruzkemp_send(unit, ruzkemp_named_message(RUZKEMP_CALL_CHANGE, name), entry, RUZKEMP_ENTRY_WORDS);
 }
 
-/* Another name, all else kept: a Look-up, then a Change. */
+/* Another name, all else kept: a Look-up, then a Change. A name that Change would read as 'keep', such as that of a text of no or of more than
+   five characters, is refused with RUZKEMP_CATALOG_PARAMETER, as any other illegal name is. */
 static inline ruzkemp_answer ruzkemp_rename(ruzkemp_unit *unit, ruzkemp_name name, ruzkemp_name other)
 {
     uint16_t entry[RUZKEMP_ENTRY_WORDS];
     ruzkemp_answer answer = ruzkemp_look_up(unit, name, entry);
+    if (answer.result == RUZKEMP_OK && other.words[0] == 0)
+        answer.result = RUZKEMP_CATALOG_PARAMETER;
     if (answer.result != RUZKEMP_OK)
         return answer;
+    ruzkemp_entry_for_change(entry);
     memcpy(entry + RUZKEMP_ENTRY_NAME, other.words, sizeof other.words);
-    entry[RUZKEMP_ENTRY_ATTRIBUTES] = RUZKEMP_KEPT;
-    entry[RUZKEMP_ENTRY_RESERVED] = RUZKEMP_KEPT;
+    return ruzkemp_change(unit, name, entry);
+}
+
+/* Another length, all else kept: a Look-up, then a Change. A length above 32,767, which Change would read as 'keep', is refused with
+   RUZKEMP_CATALOG_PARAMETER, as ruzkemp_create refuses it. */
+static inline ruzkemp_answer ruzkemp_resize(ruzkemp_unit *unit, ruzkemp_name name, uint16_t size)
+{
+    uint16_t entry[RUZKEMP_ENTRY_WORDS];
+    ruzkemp_answer answer = ruzkemp_look_up(unit, name, entry);
+    if (answer.result == RUZKEMP_OK && (size & RUZKEMP_KEPT) != 0)
+        answer.result = RUZKEMP_CATALOG_PARAMETER;
+    if (answer.result != RUZKEMP_OK)
+        return answer;
+    ruzkemp_entry_for_change(entry);
+    entry[RUZKEMP_ENTRY_RESERVED] = size;
     return ruzkemp_change(unit, name, entry);
 }
 
@@ -530,6 +567,75 @@ static inline ruzkemp_answer ruzkemp_list(ruzkemp_unit *unit, uint16_t *entries,
     ruzkemp_message message = ruzkemp_empty_message(RUZKEMP_CALL_LISTING);
     message.unit = unit->state.unit;
     return ruzkemp_send(unit, message, entries, entries_words);
+}
+
+/*
+ * Texts and files.
+ */
+
+/* What a result word means, in one short line without the word; Error of the Rust package has the same texts. */
+static inline const char *ruzkemp_result_text(uint16_t result)
+{
+    switch (result) {
+    case RUZKEMP_OK: return "done";
+    case RUZKEMP_CATALOG_PARAMETER: return "parameter refused by the catalog";
+    case RUZKEMP_CATALOG_UNSOUND: return "image is not sound with the state";
+    case RUZKEMP_NO_ENTRY: return "no entry of the name";
+    case RUZKEMP_ENTRY_EXISTS: return "name is used by another file";
+    case RUZKEMP_DISC_FULL: return "not enough free slices";
+    case RUZKEMP_INDEX_FULL: return "more than 127 stretches in SYS or the file";
+    case RUZKEMP_FORMAT_RECORD: return "not one record of 18 bytes";
+    case RUZKEMP_AREA_ILLEGAL: return "illegal area call, or the end of a fixed file";
+    case RUZKEMP_AREA_UNSOUND: return "image is not sound with the state, at an area call";
+    case RUZKEMP_NO_AREA: return "no area process of the name, or no entry to open";
+    case RUZKEMP_AREA_FULL: return "no area process vacant, or no slice free";
+    case RUZKEMP_AREA_RESERVED: return "another user is exclusive user";
+    case RUZKEMP_NOT_USER_OR_PAST_END: return "sender is no user, or the position is at or past the end";
+    case RUZKEMP_USERS_OR_INDEX_FULL: return "no more users or opens, or more than 127 stretches in the file";
+    case RUZKEMP_BLOCK_SIZE: return "not one block of 512 bytes";
+    case RUZKEMP_WRITE_PROTECTED_FILE: return "file is write protected";
+    case RUZKEMP_NO_SUCH_CALL: return "no call has the message's number";
+    default: return "no result word of the library";
+    }
+}
+
+/* The words of a file's bytes, two bytes each, the high one first as image files of the tool have it. bytes has any alignment, and may be the
+   memory of words itself: a file can be read into the image and turned there. */
+static inline void ruzkemp_load_high_first(uint16_t *words, const unsigned char *bytes, size_t count)
+{
+    size_t i;
+    for (i = 0; i < count; i++)
+        words[i] = (uint16_t)(bytes[2 * i] * 256u + bytes[2 * i + 1]);
+}
+
+/* The bytes of words, for a file with the high byte first; bytes does not overlap words, or is their memory itself. */
+static inline void ruzkemp_store_high_first(unsigned char *bytes, const uint16_t *words, size_t count)
+{
+    size_t i;
+    for (i = 0; i < count; i++) {
+        unsigned word = words[i];
+        bytes[2 * i] = (unsigned char)(word >> 8);
+        bytes[2 * i + 1] = (unsigned char)(word & 0xFF);
+    }
+}
+
+/* As ruzkemp_load_high_first, of a file with the low byte first. */
+static inline void ruzkemp_load_low_first(uint16_t *words, const unsigned char *bytes, size_t count)
+{
+    size_t i;
+    for (i = 0; i < count; i++)
+        words[i] = (uint16_t)(bytes[2 * i + 1] * 256u + bytes[2 * i]);
+}
+
+/* As ruzkemp_store_high_first, for a file with the low byte first. */
+static inline void ruzkemp_store_low_first(unsigned char *bytes, const uint16_t *words, size_t count)
+{
+    size_t i;
+    for (i = 0; i < count; i++) {
+        unsigned word = words[i];
+        bytes[2 * i] = (unsigned char)(word & 0xFF);
+        bytes[2 * i + 1] = (unsigned char)(word >> 8);
+    }
 }
 
 #ifdef __cplusplus

@@ -1,6 +1,6 @@
 //! The C side: the header compiles in every C and C++ that it promises, the example prints what
-//! documents 01 and 02 ask for, and C, Rust and the compiled library agree on where each field
-//! stands.
+//! documents 01 and 02 ask for, C, Rust and the compiled library agree on where each field stands,
+//! and the header's own helpers do what they say.
 
 use std::mem::{offset_of, size_of};
 use std::path::{Path, PathBuf};
@@ -237,4 +237,93 @@ fn the_rust_mirror_has_the_fields_where_the_library_writes_them() -> ruzkemp::Re
     }
     assert_eq!(words_of(unit.state().raw()), state_words());
     Ok(())
+}
+
+/// What a program of `tests/c` prints, in C and in C++ the same.
+fn printed(source: &str) -> String {
+    let path = Path::new(env!("CARGO_MANIFEST_DIR")).join(format!("tests/c/{source}.c"));
+    let in_c = output(&compiled("cc", "c99", &path, source));
+    if has_cpp() {
+        let name = format!("{source}-c++98");
+        assert_eq!(output(&compiled("c++", "c++98", &path, &name)), in_c);
+    }
+    in_c
+}
+
+/// For all 65,536 words; 0 is no refusal.
+#[test]
+fn c_and_rust_have_one_text_for_each_result_word() {
+    let printed = printed("results");
+    let lines: Vec<&str> = printed.lines().collect();
+    assert_eq!(lines.len(), 65_536);
+    assert_eq!(lines[0], "0000h: done");
+    for (word, line) in (0..=u16::MAX).zip(lines).skip(1) {
+        let refusal = Error::from_word(word).expect("a refusal");
+        assert_eq!(refusal.to_string(), line);
+    }
+}
+
+/// 'PASS' is 50h 41h 53h 53h; the bytes after it are FFh 00h 01h 80h.
+#[test]
+fn c_loads_and_stores_words_in_both_orders() {
+    let bytes = "50 41 53 53 FF 00 01 80";
+    let mut expected = String::new();
+    for (words, two, one) in [
+        (
+            "5041 5353 FF00 0180",
+            "5041 5353 A5A5 A5A5",
+            "50 41 A5 A5 A5 A5 A5 A5",
+        ),
+        (
+            "4150 5353 00FF 8001",
+            "4150 5353 A5A5 A5A5",
+            "50 41 A5 A5 A5 A5 A5 A5",
+        ),
+    ] {
+        expected += &format!("words {words}\nbytes {bytes}\n").repeat(2);
+        expected += &format!("in place {words}\nin place {bytes}\n");
+        expected += "none A5A5 A5A5 A5A5 A5A5\nnone A5 A5 A5 A5 A5 A5 A5 A5\n";
+        expected += &format!("two {two}\none {one}\n");
+    }
+    assert_eq!(printed("orders"), expected);
+}
+
+/// Change keeps the name if the entry's first word is 0 and attributes or length if negative, and
+/// optional and tail of a permanent file. PASS has slices 2 to 4 at last, from sector 12 on.
+#[test]
+fn c_refuses_what_change_would_read_as_keep() {
+    let an_old_entry = "look-up 0000
+change as looked up 1200
+change of nothing 0000
+change of optional 0000 changed
+look-up 0000
+4E4F 5445 0000 0007 0002 0003 0004 0000 0000 0000 0004 0005 0006 0007 0008 0009
+change to permanent 0000 changed
+change of a permanent tail 0000
+look-up 0000
+4E4F 5445 0000 0007 0002 0003 0010 0000 0000 0000 0008 0005 0006 0007 0008 0009
+";
+    let without_a_file = "rename 5000\nresize 5000\nrename 9000\nresize 9000\n";
+    let names_and_lengths = "create 0000 changed
+rename 1200
+rename 1200
+rename 1200
+rename 1200
+resize 1200
+resize 1200
+resize 1200
+resize 1100
+resize 0000 changed
+rename 0000 changed
+look-up 0000
+5745 454B 0000 0000 0000 0000 0001 0004 000C 0006 0000 0000 0000 0000 0000 0000
+";
+    let expected = [
+        "init 0000\n",
+        an_old_entry,
+        without_a_file,
+        names_and_lengths,
+    ]
+    .concat();
+    assert_eq!(printed("change"), expected);
 }
