@@ -1,28 +1,31 @@
 /*
  * A season's passes on a unit in memory: formats and initializes it, creates a file, appends two blocks through an area process, sees the
  * length booked when the area process is removed, renames the file and removes it, reads a file of fixed length to its end and keeps two files
- * whose names differ in case only. Every answer is checked against the one that documents 01 and 02 ask for; season.expected holds the output.
+ * whose names differ in case only. Every answer is checked against the one that the specification asks for; season.expected holds the output.
  *
- *     cc -std=c99 -I include examples/c/season.c target/staticlib/libexport.a -o season && ./season
+ *     cc -std=c99 -I out/include examples/c/season.c out/lib/libruzkemp.a -o season && ./season
  */
 #include <stdio.h>
 #include <stdlib.h>
 
 #include "ruzkemp.h"
 
-/* The unit of document 01's worked cases: H = 1, s = 2, N = 20, F = 10. */
+/* The unit of the specification's worked cases: H = 1, s = 2, N = 20, F = 10. */
 enum { UNIT = 0, SYS_SIZE = 1, SLICE_SIZE = 2, SECTORS = 20, FIRST = 10 };
 enum { TILL = 7, GATE = 8 };
 
 static uint16_t image[SECTORS * RUZKEMP_SECTOR_WORDS];
 static uint16_t listing[SECTORS * RUZKEMP_SECTOR_WORDS];
 
-/* Prints a call with its result word, and stops at one that was not expected. */
+/* Prints a call with its result word and, where it is refused, what that means, and stops at one that was not expected. */
 static void expect(const char *call, uint16_t result, uint16_t expected)
 {
-    printf("%-36s %04X\n", call, result);
+    printf("%-36s %04X", call, result);
+    if (result != RUZKEMP_OK)
+        printf(" %s", ruzkemp_result_text(result));
+    printf("\n");
     if (result != expected) {
-        fprintf(stderr, "%s: %04X expected\n", call, expected);
+        fprintf(stderr, "%s: %04X expected (%s)\n", call, expected, ruzkemp_result_text(expected));
         exit(EXIT_FAILURE);
     }
 }
@@ -127,6 +130,7 @@ int main(void)
     ruzkemp_unit unit = ruzkemp_fresh_unit(UNIT, image, sizeof image / sizeof *image);
     ruzkemp_name passes = ruzkemp_name_of("PASS", UNIT);
     ruzkemp_name season = ruzkemp_name_of("S1979", UNIT);
+    ruzkemp_name too_long = ruzkemp_name_of("SEASON79", UNIT);
 
     expect("Init of a blank image", ruzkemp_init(&unit).result, RUZKEMP_CATALOG_UNSOUND);
     expect("Format", ruzkemp_format_unit(&unit, SYS_SIZE, SLICE_SIZE, SECTORS, FIRST), RUZKEMP_OK);
@@ -145,6 +149,7 @@ int main(void)
     expect("Release", ruzkemp_release(&unit, passes, TILL).result, RUZKEMP_OK);
     expect("Remove area", ruzkemp_remove_area(&unit, passes).result, RUZKEMP_OK);
     show_file(&unit, passes);
+    expect("Change to a name of 8 characters", ruzkemp_rename(&unit, passes, too_long).result, RUZKEMP_CATALOG_PARAMETER);
     expect("Change of the name", ruzkemp_rename(&unit, passes, season).result, RUZKEMP_OK);
     show_all(&unit);
     expect("Remove of the old name", ruzkemp_remove(&unit, passes).result, RUZKEMP_NO_ENTRY);
