@@ -23,6 +23,17 @@ pub fn number(text: &str) -> Result<u16, String> {
     u16::from_str_radix(digits, base).map_err(|_| format!("{text} does not fit in 16 bits"))
 }
 
+/// A file's length in sectors. Above 32,767 the word is negative: Create and Set would refuse it,
+/// and Change would read it as 'keep'.
+pub fn sectors(text: &str) -> Result<u16, String> {
+    match number(text)? {
+        sectors @ 0..=0x7FFF => Ok(sectors),
+        sectors => Err(format!(
+            "{sectors} is too large: a file has 0 to 32767 sectors"
+        )),
+    }
+}
+
 /// Words divided by commas, exactly so many.
 pub fn words<const N: usize>(text: &str) -> Result<[u16; N], String> {
     let words = word_list(text)?;
@@ -116,6 +127,15 @@ mod tests {
             "", "h", "0x", "-1", "+1", "1F", "65536", "10000h", "1 ", "0x+1", "12_0",
         ] {
             assert!(number(text).is_err(), "{text}");
+        }
+    }
+
+    #[test]
+    fn a_length_is_not_negative() {
+        assert_eq!(sectors("0"), Ok(0));
+        assert_eq!(sectors("7FFFh"), Ok(32_767));
+        for text in ["32768", "8000h", "65535", "65536", "-1", "ten"] {
+            assert!(sectors(text).is_err(), "{text}");
         }
     }
 

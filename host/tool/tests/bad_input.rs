@@ -483,9 +483,8 @@ fn refusals_of_the_catalog_are_told_with_their_word() {
     for (arguments, word) in [
         (&["create", "a.img", "PASS"][..], "1010h"),
         (&["create", "a.img", "NEW", "--size", "4"], "1100h"),
-        (&["create", "a.img", "NEW", "--size", "32768"], "1200h"),
         (
-            &["create", "a.img", "NEW", "--attributes", "8000h"],
+            &["create", "a.img", "NEW", "--attributes", "0002h"],
             "1200h",
         ),
         (&["set", "a.img", "PASS"], "1010h"),

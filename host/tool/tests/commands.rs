@@ -104,15 +104,8 @@ fn set_enters_the_callers_own_words() {
         PASS[0], PASS[1], 0, 1, 2, 3, 0x4010, 2, 12, 4, 10, 11, 12, 13, 14, 15,
     ];
     assert_eq!(entry, wanted);
-    folder.good(&[
-        "change",
-        "a.img",
-        "PASS",
-        "--tail",
-        "0,0,0,0,0,0",
-        "--write-protected",
-    ]);
     // A permanent file keeps its optional words and its tail.
+    folder.good(&["change", "a.img", "PASS", "--write-protected"]);
     wanted[6] = 0x0008;
     assert_eq!(sector(&folder.words("a.img"), 10, 32, 16), wanted);
 }

@@ -104,7 +104,7 @@ fn arguments(parts: &[&str]) -> Vec<String> {
 }
 
 fn attributes(random: &mut Random) -> u16 {
-    random.pick(&[0, 0, 1, 1, 1, 1, 8, 9, 0x10, 0x4001, 4, 5, 0x8000])
+    random.pick(&[0, 0, 1, 1, 1, 1, 8, 9, 0x10, 0x4001, 4, 5, 0x0020])
 }
 
 fn step(random: &mut Random, unit: u16) -> Step {

@@ -1,12 +1,12 @@
 //! Commands that change the catalog: `create`, `set`, `change`, `rename`, `rm`.
 
-use ruzkemp::{Call, Entry, Name};
+use ruzkemp::{Attributes, Call, Entry, Name};
 
 use crate::arguments::{flag, valued, Choice, Command, Given, UNIT};
 use crate::console::print;
-use crate::failure::Outcome;
+use crate::failure::{Failure, Outcome};
 use crate::session::Session;
-use crate::values::{number, words};
+use crate::values::{sectors, words};
 
 const SIZE: Choice = valued("--size", "N", "the length in sectors (0 if not given)");
 const ATTRIBUTES: Choice = valued(
@@ -62,7 +62,8 @@ pub const CHANGE: Command = Command {
     about:
         "Sends Look-up Entry and Change Entry. What is not given is kept. The attributes given\n\
             replace all others (--attributes none takes all away, and makes an entry-only file of an\n\
-            old disc an ordinary one).",
+            old disc an ordinary one). A permanent file keeps its optional words and its tail: a\n\
+            command that gives others is refused.",
     run: change,
 };
 
@@ -88,8 +89,8 @@ pub const RM: Command = Command {
 
 fn create(given: &Given) -> Outcome {
     let name = given.name(1)?;
-    let size = given.value("--size", number)?.unwrap_or(0);
-    let attributes = given.attributes()?.unwrap_or_default();
+    let size = given.value("--size", sectors)?.unwrap_or(0);
+    let attributes = attributes(given)?.unwrap_or_default();
     let mut session = Session::to_change(given)?;
     session.call(Call::Create, name, |unit| {
         unit.create(name, size, attributes)
@@ -99,8 +100,8 @@ fn create(given: &Given) -> Outcome {
 
 fn set(given: &Given) -> Outcome {
     let name = given.name(1)?;
-    let size = given.value("--size", number)?.unwrap_or(0);
-    let entry = Entry::for_set(size, given.attributes()?.unwrap_or_default());
+    let size = given.value("--size", sectors)?.unwrap_or(0);
+    let entry = Entry::for_set(size, attributes(given)?.unwrap_or_default());
     let entry = with_own_words(given, entry)?;
     let mut session = Session::to_change(given)?;
     session.call(Call::Set, name, |unit| unit.set(name, &entry))?;
@@ -126,21 +127,58 @@ fn change(given: &Given) -> Outcome {
     if given.only("--unit") {
         return Err(given.misused("there is nothing to change".into()));
     }
+    let size = given.value("--size", sectors)?;
+    let attributes = attributes(given)?;
     let mut session = Session::to_change(given)?;
     let current = session.call(Call::LookUp, name, |unit| unit.look_up(name))?;
     let mut entry = with_own_words(given, Entry::for_change(&current))?;
     if let Some(new) = new {
         entry = entry.with_name(new);
     }
-    if let Some(size) = given.value("--size", number)? {
+    if let Some(size) = size {
         entry = entry.with_size(size);
     }
-    if let Some(attributes) = given.attributes()? {
+    if let Some(attributes) = attributes {
         entry = entry.with_attributes(attributes);
     }
+    takes_own_words(name, &current, &entry)?;
     session.call(Call::Change, name, |unit| unit.change(name, &entry))?;
     session.write_back()?;
     print(&format!("{}: changed\n", new.unwrap_or(name)))
+}
+
+/// The attributes that are given. Bit 0 is refused here: Change would read such a word as 'keep'.
+fn attributes(given: &Given) -> Outcome<Option<Attributes>> {
+    let attributes = given.attributes()?;
+    match attributes {
+        Some(word) if word.contains(Attributes::CATALOG_FILE) => {
+            let word = word.bits();
+            Err(given.misused(format!(
+                "--attributes: {word:04X}h has bit 0, which is only for SYS and MAP"
+            )))
+        }
+        _ => Ok(attributes),
+    }
+}
+
+/// Refuses optional words and a tail that Change would drop: a file that is permanent before it
+/// keeps its own. SYS and MAP are left to the unit, which refuses any change of them.
+fn takes_own_words(name: Name, current: &Entry, entry: &Entry) -> Outcome {
+    let is_file = !current.attributes().contains(Attributes::CATALOG_FILE);
+    let permanent = is_file && current.attributes().contains(Attributes::PERMANENT);
+    let kept = (current.optional(), current.tail()) == (entry.optional(), entry.tail());
+    if !permanent || kept {
+        return Ok(());
+    }
+    let new = entry.attributes();
+    let stays = [Attributes::CATALOG_FILE, Attributes::PERMANENT];
+    let also = match stays.iter().any(|bit| new.contains(*bit)) {
+        true => "",
+        false => ", also where the same command makes it no longer permanent: two are needed",
+    };
+    Err(Failure::Usage(format!(
+        "change {name}: the file is permanent: its optional words and tail stay as they are{also}"
+    )))
 }
 
 /// An entry with the optional words and the tail that are given.
