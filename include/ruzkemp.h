@@ -1,11 +1,10 @@
 /*
  * ruzkemp.h: the RC3600 catalog unit for C and C++ programs.
  *
- * A unit is an image (256 words of 16 bits to a sector) and a state. Both belong to the caller and are lent
- * with every call; the library keeps no pointer, has no memory of its own and no locks, so calls on different units may run at once. It
- * reads and writes nothing but the words lent. Every entry point takes any image, state, message and lent words: whatever cannot be
- * done is refused with a result word other than 0, and then no word of image, state and lent words changes but, where said, the sender's
- * position.
+ * A unit is an image (256 words of 16 bits to a sector) and a state. Both belong to the caller and are lent with every call; the library
+ * keeps no pointer, has no memory of its own and no locks, so calls on different units may run at once. It reads and writes nothing but the
+ * words lent. Every entry point takes any image, state, message and lent words: whatever cannot be done is refused with a result word other
+ * than 0, and then no word of image, state and lent words changes but, where said, the sender's position.
  *
  * Some words of the state can stand for the same value: any word but 0 for yes, any role from 2 on for an exclusive user. A call that is
  * obeyed leaves a word that stands for the new value already as it is; any other becomes 1 for yes, 0 for no, and 0, 1 or 2 for a role.
@@ -599,8 +598,11 @@ static inline const char *ruzkemp_result_text(uint16_t result)
     }
 }
 
-/* The words of a file's bytes, two bytes each, the high one first as image files of the tool have it. bytes has any alignment, and may be the
-   memory of words itself: a file can be read into the image and turned there. */
+/* So many words of a file's bytes, two bytes each, the high one first as image files of the tool have it. bytes has any alignment, and may be
+   the memory of words itself, so that a file can be read into the image and turned there:
+
+       sectors = fread(image, 512, most, file);
+       ruzkemp_load_high_first(image, (const unsigned char *)image, RUZKEMP_SECTOR_WORDS * sectors); */
 static inline void ruzkemp_load_high_first(uint16_t *words, const unsigned char *bytes, size_t count)
 {
     size_t i;
@@ -608,7 +610,7 @@ static inline void ruzkemp_load_high_first(uint16_t *words, const unsigned char 
         words[i] = (uint16_t)(bytes[2 * i] * 256u + bytes[2 * i + 1]);
 }
 
-/* The bytes of words, for a file with the high byte first; bytes does not overlap words, or is their memory itself. */
+/* The bytes of so many words, for a file with the high byte first; bytes is apart from words or, as above, their memory itself. */
 static inline void ruzkemp_store_high_first(unsigned char *bytes, const uint16_t *words, size_t count)
 {
     size_t i;

@@ -8,7 +8,7 @@ use crate::name::{Name, NameWords};
 /// Words in an entry.
 pub const ENTRY: usize = 16;
 
-/// In the attributes or the size lent to Change: keep those of the entry. Any negative word does.
+/// In the attributes or the size lent to Change: keep those of the file. Any negative word says so.
 const KEPT: u16 = 0x8000;
 
 /// The attributes of a file. Bit 0 is the highest of the word.
@@ -166,8 +166,8 @@ impl Entry {
         self.part(10)
     }
 
-    /// The entry with this name. One whose first word is 0, which no legal name has, is none for
-    /// Change: it keeps the file's.
+    /// The entry with this name. Where its first word is 0, as no legal name has it, Change keeps the
+    /// file's name.
     pub fn with_name(self, name: Name) -> Entry {
         self.with_name_words(name.words())
     }
@@ -184,15 +184,15 @@ impl Entry {
         self
     }
 
-    /// The entry with these attributes. Bit 0 among them ([`Attributes::CATALOG_FILE`]) makes the
-    /// word negative, and Change keeps the file's.
+    /// The entry with these attributes. Where bit 0 ([`Attributes::CATALOG_FILE`]) is among them, Set
+    /// refuses them and Change keeps the file's.
     pub fn with_attributes(mut self, attributes: Attributes) -> Entry {
         self.words[6] = attributes.bits();
         self
     }
 
-    /// The entry with this length wanted, in the word from which Set and Change take it. Set refuses
-    /// one above 32,767; for Change the word is negative then, and it keeps the file's length.
+    /// The entry with this length wanted, in the word from which Set and Change take it. Where it is
+    /// above 32,767, Set refuses it and Change keeps the file's.
     pub fn with_size(mut self, size: u16) -> Entry {
         self.words[9] = size;
         self

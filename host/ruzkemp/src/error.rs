@@ -153,7 +153,8 @@ impl Error {
         }
     }
 
-    /// The reasons that the refusal can have at a call, in the order of the questions.
+    /// The reasons that the refusal can have at a call, in the order of the questions. A length that
+    /// [`Unit::resize`](crate::Unit::resize) refuses itself is none of Change's.
     pub fn reasons(self, call: Call) -> Vec<&'static str> {
         let possible = |reason: &&Reason| {
             let (error, calls, _) = reason;

@@ -126,7 +126,10 @@ fn a_permanent_file_takes_other_words_by_two_commands() {
     let both = ["--attributes", "none", "--tail", "0,0,0,0,0,0"];
     let line = [&["change", "a.img", "PRICE"], &both[..]].concat();
     let done = folder.bad(&line, 2, STAY);
-    assert!(done.err.ends_with(": two are needed\n"), "{done:?}");
+    assert!(
+        done.err.ends_with("; a second command can give them\n"),
+        "{done:?}"
+    );
     folder.good(&["change", "a.img", "PRICE", "--attributes", "none"]);
     assert_eq!(standing(&folder), price(0, OPTIONAL, TAIL));
     // The command that makes it permanent may give them.

@@ -174,7 +174,7 @@ fn takes_own_words(name: Name, current: &Entry, entry: &Entry) -> Outcome {
     let stays = [Attributes::CATALOG_FILE, Attributes::PERMANENT];
     let also = match stays.iter().any(|bit| new.contains(*bit)) {
         true => "",
-        false => ", also where the same command makes it no longer permanent: two are needed",
+        false => ", also in the command that takes permanent away; a second command can give them",
     };
     Err(Failure::Usage(format!(
         "change {name}: the file is permanent: its optional words and tail stay as they are{also}"
