@@ -6,7 +6,7 @@ use std::path::Path;
 use ruzkemp::{Attributes, Name};
 
 use crate::failure::{Failure, Outcome};
-use crate::host::is_same;
+use crate::host::{is_same, shown, Form, Order};
 use crate::values::{self, ATTRIBUTES};
 
 /// An option of a command.
@@ -39,6 +39,22 @@ pub const fn flag(name: &'static str, help: &'static str) -> Choice {
 
 /// The unit number, which every command on an image takes.
 pub const UNIT: Choice = valued("--unit", "N", "the unit's number, 0 to 3 (0 if not given)");
+
+/// The order of a word's bytes in the image file, which every command on an image takes.
+pub const LOW: Choice = flag(
+    "--low-byte-first",
+    "the image file has the low byte of a word first",
+);
+
+/// Where in its file a unit begins, which every command on an image takes.
+pub const OFFSET: Choice = valued(
+    "--offset",
+    "SECTORS",
+    "the unit begins at this sector of a larger file, a pack",
+);
+
+/// Of every command that changes an image.
+pub const DRY_RUN: Choice = flag("--dry-run", "do everything, but write nothing");
 
 /// A command.
 pub struct Command {
@@ -174,9 +190,11 @@ impl Given {
         self.options.iter().any(|(given, _)| *given == name)
     }
 
-    /// Whether no option but this one is given.
+    /// Whether no option but this one is given, those aside that say where the image lies and
+    /// whether it is written.
     pub fn only(&self, name: &str) -> bool {
-        self.options.iter().all(|(given, _)| *given == name)
+        let aside = [name, LOW.name, OFFSET.name, DRY_RUN.name];
+        self.options.iter().all(|(given, _)| aside.contains(given))
     }
 
     /// An option's value as it was given.
@@ -218,7 +236,7 @@ impl Given {
     /// Refuses to write over the image, which the first operand is.
     pub fn not_the_image(&self, path: &Path) -> Outcome {
         match is_same(path, self.path(0)) {
-            true => Err(self.misused(format!("{} is the image itself", path.display()))),
+            true => Err(self.misused(format!("{} is the image itself", shown(path)))),
             false => Ok(()),
         }
     }
@@ -241,6 +259,21 @@ impl Given {
     /// The unit's number.
     pub fn unit(&self) -> Outcome<u16> {
         Ok(self.value("--unit", values::unit)?.unwrap_or(0))
+    }
+
+    /// How the image lies in its file.
+    pub fn form(&self) -> Outcome<Form> {
+        let order = match self.flag(LOW.name) {
+            true => Order::LowFirst,
+            false => Order::HighFirst,
+        };
+        let offset = self.value(OFFSET.name, values::sector)?;
+        Ok(Form { order, offset })
+    }
+
+    /// Whether nothing is to be written.
+    pub fn is_dry_run(&self) -> bool {
+        self.flag(DRY_RUN.name)
     }
 
     /// The attributes: a word, or one option for each; none if no option is given.

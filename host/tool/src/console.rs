@@ -1,12 +1,56 @@
 //! Standard output.
 
 use std::io::{self, IsTerminal, Write};
+use std::sync::atomic::{AtomicBool, Ordering};
 
 use crate::failure::{Failure, Outcome};
 
-/// Prints to standard output, at once.
+/// Prints to standard output, at once. This is for what is printed before anything is committed:
+/// if it cannot be printed, the command fails and nothing is changed.
 pub fn print(text: &str) -> Outcome {
     print_bytes(text.as_bytes())
+}
+
+/// Whether what is reported was done but for the commit.
+static DRY_RUN: AtomicBool = AtomicBool::new(false);
+
+/// From now on each line reported says that nothing is written.
+pub fn in_dry_run() {
+    DRY_RUN.store(true, Ordering::Relaxed);
+}
+
+/// Prints what has been done, after it was committed. That it cannot be printed is no failure
+/// any more: a warning tells it.
+pub fn report(text: &str) {
+    let mut text = visible(text);
+    let mut done = "it is done";
+    if DRY_RUN.load(Ordering::Relaxed) {
+        done = "nothing is written";
+        let lines = text.lines();
+        text = lines
+            .map(|line| format!("{line} (dry run: {done})\n"))
+            .collect();
+    }
+    if let Err(failure) = print(&text) {
+        warn(&format!("{done}, and not reported: {failure}"));
+    }
+}
+
+/// Prints a warning to standard error; one that cannot be printed is lost.
+pub fn warn(text: &str) {
+    let _ = writeln!(io::stderr(), "ruzkemp: warning: {}", visible(text));
+}
+
+/// A text of lines with no character that a terminal would obey.
+pub fn visible(text: &str) -> String {
+    let mut shown = String::with_capacity(text.len());
+    for character in text.chars() {
+        match character.is_control() && character != '\n' {
+            true => shown.extend(character.escape_default()),
+            false => shown.push(character),
+        }
+    }
+    shown
 }
 
 /// Writes bytes to standard output, at once.

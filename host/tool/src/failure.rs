@@ -5,6 +5,8 @@ use std::path::Path;
 
 use ruzkemp::{Call, Error};
 
+use crate::host::shown;
+
 /// What a command answers.
 pub type Outcome<T = ()> = Result<T, Failure>;
 
@@ -45,7 +47,7 @@ impl Failure {
 
     /// Trouble with a host file.
     pub fn host(path: &Path, trouble: impl fmt::Display) -> Failure {
-        Failure::Host(format!("{}: {trouble}", path.display()))
+        Failure::Host(format!("{}: {trouble}", shown(path)))
     }
 }
 

@@ -9,12 +9,14 @@ mod arguments;
 mod commands;
 mod console;
 mod failure;
+mod hint;
 mod host;
 mod json;
 mod meaning;
 mod palette;
 mod picture;
 mod progress;
+mod room;
 mod script;
 mod session;
 mod terminal;
@@ -30,13 +32,14 @@ use commands::COMMANDS;
 use failure::{Failure, Outcome};
 
 fn main() -> ExitCode {
-    host::outlive_size_limits();
+    host::signals::prepare();
     let arguments: Vec<OsString> = std::env::args_os().skip(1).collect();
     match begin(&arguments) {
         Ok(()) => ExitCode::SUCCESS,
         Err(failure) => {
             // If this cannot be written either, the status still tells.
-            let _ = writeln!(std::io::stderr(), "ruzkemp: {failure}");
+            let told = console::visible(&failure.to_string());
+            let _ = writeln!(std::io::stderr(), "ruzkemp: {told}");
             ExitCode::from(failure.status())
         }
     }
@@ -54,14 +57,27 @@ fn begin(arguments: &[OsString]) -> Outcome {
         (Some("--version" | "-V"), []) => {
             console::print(concat!("ruzkemp ", env!("CARGO_PKG_VERSION"), "\n"))
         }
-        _ => {
-            let command = command(first)?;
-            match Given::new(command, rest)? {
-                Some(given) => (command.run)(&given),
-                None => console::print(&command.page()),
-            }
+        (Some(first @ ("help" | "--help" | "-h" | "--version" | "-V")), _) => {
+            Err(Failure::Usage(format!(
+                "{first}: too much is given ({})",
+                match first {
+                    "help" => "it takes the name of one command, or none",
+                    _ => "it stands alone",
+                }
+            )))
         }
+        _ => obeyed(command(first)?, rest),
     }
+}
+
+fn obeyed(command: &'static Command, arguments: &[OsString]) -> Outcome {
+    let Some(given) = Given::new(command, arguments)? else {
+        return console::print(&command.page());
+    };
+    if given.is_dry_run() {
+        console::in_dry_run();
+    }
+    (command.run)(&given)
 }
 
 fn command(name: &OsString) -> Outcome<&'static Command> {
@@ -84,7 +100,8 @@ fn overview() -> String {
     page.push_str(
         "  help     this page; `ruzkemp COMMAND --help` for one command\n\n\
          Numbers are decimal or base 16 (0x1F or 1Fh). An image file has 512 bytes a sector,\n\
-         the high byte of a word first. It is changed only where the exit status is 0.\n\n\
+         the high byte of a word first (--low-byte-first: the low one), and is one unit\n\
+         (--offset SECTORS: it holds one). It is changed only where the exit status is 0.\n\n\
          Exit status: 0 done; 1 refused by the unit (the result word is printed);\n\
          2 wrong usage or script; 3 trouble with a host file; 4 not the image of a sound unit;\n\
          5 the proved library and the second implementation disagree.\n",

@@ -308,7 +308,14 @@ fn item(
     )
 }
 
+/// A text as the picture may hold it; what XML does not allow is a replacement character.
 fn escaped(text: &str) -> String {
+    let allowed = |character: char| match character {
+        '\t' | '\n' | '\r' => character,
+        '\0'..='\x1F' | '\u{FFFE}' | '\u{FFFF}' => char::REPLACEMENT_CHARACTER,
+        _ => character,
+    };
+    let text: String = text.chars().map(allowed).collect();
     text.replace('&', "&amp;")
         .replace('<', "&lt;")
         .replace('>', "&gt;")

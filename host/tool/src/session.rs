@@ -1,14 +1,15 @@
 //! A unit on an image file, for the length of one command.
 
+use std::fs;
 use std::path::{Path, PathBuf};
 
 use reference::soundness;
-use ruzkemp::{is_sound, Call, Error, Name, State, Unit};
+use ruzkemp::{is_sound, Call, Error, Name, State, Unit, SECTOR};
 
 use crate::arguments::Given;
 use crate::failure::{Failure, Outcome};
-use crate::host::ImageFile;
-use crate::meaning;
+use crate::host::{shown, Form, ImageFile, Replacement};
+use crate::{hint, meaning};
 
 /// The reason for a refusal that Init excludes.
 const NOT_INITIALIZED: &str = "the unit is not known or not initialized";
@@ -17,6 +18,8 @@ const NOT_INITIALIZED: &str = "the unit is not known or not initialized";
 pub struct Session {
     file: ImageFile,
     path: PathBuf,
+    form: Form,
+    dry_run: bool,
     /// The unit: every change of the image is one of its calls.
     pub unit: Unit<Vec<u16>>,
 }
@@ -24,7 +27,7 @@ pub struct Session {
 impl Session {
     /// Opens the command's image to read it only.
     pub fn to_read(given: &Given) -> Outcome<Session> {
-        Session::of(given, ImageFile::read(given.path(0))?)?.initialized()
+        Session::of(given, ImageFile::read(given.path(0), given.form()?)?)?.initialized()
     }
 
     /// Opens the command's image to change it.
@@ -34,7 +37,14 @@ impl Session {
 
     /// Opens the command's image to change it, before Init.
     pub fn uninitialized(given: &Given) -> Outcome<Session> {
-        Session::of(given, ImageFile::read_to_change(given.path(0))?)
+        let file = ImageFile::read_to_change(given.path(0), given.form()?, None)?;
+        Session::of(given, file)
+    }
+
+    /// Opens the command's image to format it. Of a pack, so many sectors are the unit's.
+    pub fn to_format(given: &Given, sectors: u16) -> Outcome<Session> {
+        let file = ImageFile::read_to_change(given.path(0), given.form()?, Some(sectors))?;
+        Session::of(given, file)
     }
 
     fn of(given: &Given, file: ImageFile) -> Outcome<Session> {
@@ -42,6 +52,8 @@ impl Session {
         Ok(Session {
             file,
             path: given.path(0).into(),
+            form: given.form()?,
+            dry_run: given.is_dry_run(),
             unit,
         })
     }
@@ -49,7 +61,7 @@ impl Session {
     fn initialized(mut self) -> Outcome<Session> {
         match self.unit.init() {
             Ok(()) => Ok(self),
-            Err(Error::CatalogUnsound) => Err(unsound(&self.path, self.unit.image())),
+            Err(Error::CatalogUnsound) => Err(unsound(&self.path, self.unit.image(), self.form)),
             Err(error) => {
                 let what = format!("init of unit {}", self.unit.number());
                 Err(Failure::refused(what, error, Call::Init))
@@ -73,32 +85,87 @@ impl Session {
         })
     }
 
-    /// Writes the image back if it is another now. The state is lost then: whatever a command
-    /// does, no image is written that is not sound without it.
+    /// A failure, and behind it what is to be known if the image's length or kit is the reason.
+    pub fn hinted(&self, failure: Failure) -> Failure {
+        match failure {
+            Failure::Refused(_, Error::CatalogUnsound, ..) => {
+                let hint = hint::of(self.unit.image(), self.form);
+                Failure::Unexpected(format!("{failure}{hint}"))
+            }
+            other => other,
+        }
+    }
+
+    /// Writes the image back if it is another now, and in a dry run does all but that. The state
+    /// is lost then: whatever a command does, no image is written that is not sound without it.
     pub fn write_back(self) -> Outcome {
         let image = self.unit.image();
         if image == self.file.words {
             return Ok(());
         }
         if !is_sound(image, &State::new(self.unit.number())) {
-            let path = self.path.display();
+            let path = shown(&self.path);
             return Err(Failure::NotUnit(format!(
                 "{path}: not written: with no area process open it would not be a sound unit"
             )));
         }
-        self.file.replace(image)
+        let new = self.file.replaced(image)?;
+        match self.dry_run {
+            true => new.rehearse(),
+            false => new.commit_image(),
+        }
     }
 }
 
+/// Puts a unit that a command makes in a new file, or with `--force` in the place of an old one;
+/// with `--offset` in its place in a pack that is there.
+pub fn make(given: &Given, made: impl FnOnce() -> Outcome<Unit<Vec<u16>>>) -> Outcome {
+    let (path, form) = (given.path(0), given.form()?);
+    if path == Path::new("-") {
+        return Err(given.misused("a new image needs a file with a name".into()));
+    }
+    if form.offset.is_some() {
+        return make_in_pack(given, made);
+    }
+    let mut file = Replacement::of(path, given.flag("--force"))?;
+    file.write(&form.order.bytes(made()?.image()))?;
+    match given.is_dry_run() {
+        true => file.rehearse(),
+        false => file.commit_image(),
+    }
+}
+
+fn make_in_pack(given: &Given, made: impl FnOnce() -> Outcome<Unit<Vec<u16>>>) -> Outcome {
+    let path = given.path(0);
+    if fs::symlink_metadata(path).is_err() {
+        let what = format!(
+            "--offset: there is no pack {} to hold the unit",
+            shown(path)
+        );
+        return Err(given.misused(what));
+    }
+    if !given.flag("--force") {
+        return Err(Replacement::exists(path));
+    }
+    let unit = made()?;
+    // A unit has at most 32,767 sectors.
+    let sectors = (unit.image().len() / SECTOR) as u16;
+    let mut session = Session::to_format(given, sectors)?;
+    session.unit = unit;
+    session.write_back()
+}
+
 /// The failure that an image which Init does not accept is.
-fn unsound(path: &Path, image: &[u16]) -> Failure {
-    let path = path.display();
+fn unsound(path: &Path, image: &[u16], form: Form) -> Failure {
+    let path = shown(path);
     match soundness(image, &reference::State::default()) {
         Err(unsound) => {
             let broken = meaning::of_unsound(&unsound);
             Failure::NotUnit(format!(
-                "{path}: not a sound unit (Init answers 9000h): {}: {}",
-                broken.rule, broken.found
+                "{path}: not a sound unit (Init answers 9000h): {}: {}{}",
+                broken.rule,
+                broken.found,
+                hint::of(image, form)
             ))
         }
         Ok(_) => Failure::Disagreement(format!(
@@ -136,8 +203,6 @@ pub fn word(call: Call) -> &'static str {
 
 #[cfg(test)]
 mod tests {
-    use std::fs;
-
     use ruzkemp::{Attributes, Record, Role};
 
     use super::*;
@@ -149,11 +214,13 @@ mod tests {
         let new = Unit::formatted(&Record::new(0, 1, 2, 20, 10)).expect("a legal record");
         let bytes = bytes_of(new.image());
         fs::write(&path, &bytes).expect("written");
-        let file = ImageFile::read_to_change(&path).expect("read");
+        let file = ImageFile::read_to_change(&path, Form::default(), None).expect("read");
         let unit = Unit::new(file.words.clone(), 0);
         let session = Session {
             file,
             path: path.clone(),
+            form: Form::default(),
+            dry_run: false,
             unit,
         };
         let mut session = session.initialized().expect("sound");

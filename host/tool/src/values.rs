@@ -11,6 +11,42 @@ pub const ATTRIBUTES: [(&str, Attributes); 3] = [
 
 /// A 16-bit word: decimal, or base 16 as `0x1F` or `1Fh`.
 pub fn number(text: &str) -> Result<u16, String> {
+    let number = long(text).map_err(|wrong| wrong.text(text, 16))?;
+    u16::try_from(number).map_err(|_| Wrong::TooLarge.text(text, 16))
+}
+
+/// A number of bytes of a file, in the same two bases.
+pub fn bytes(text: &str) -> Result<u64, String> {
+    long(text).map_err(|wrong| wrong.text(text, 64))
+}
+
+/// A sector of a file of any length, in the same two bases.
+pub fn sector(text: &str) -> Result<u64, String> {
+    // The last byte of the largest unit that begins there has a place in a file.
+    const LAST: u64 = i64::MAX as u64 / 512 - 32_768;
+    match bytes(text)? {
+        sector @ 0..=LAST => Ok(sector),
+        _ => Err(format!("{text} is past the end of any file")),
+    }
+}
+
+/// Why a text is no number.
+enum Wrong {
+    Form,
+    TooLarge,
+}
+
+impl Wrong {
+    fn text(self, given: &str, bits: u8) -> String {
+        match self {
+            Wrong::Form => format!("'{given}' is no number (write 31, 0x1F or 1Fh)"),
+            Wrong::TooLarge => format!("{given} does not fit in {bits} bits"),
+        }
+    }
+}
+
+/// A number of at most 64 bits: decimal, or base 16 as `0x1F` or `1Fh`.
+fn long(text: &str) -> Result<u64, Wrong> {
     let lower = text.to_ascii_lowercase();
     let (digits, base) = match (lower.strip_prefix("0x"), lower.strip_suffix('h')) {
         (Some(digits), _) | (None, Some(digits)) => (digits, 16),
@@ -18,9 +54,9 @@ pub fn number(text: &str) -> Result<u16, String> {
     };
     let plain = !digits.is_empty() && digits.chars().all(|digit| digit.is_digit(base));
     if !plain {
-        return Err(format!("'{text}' is no number (write 31, 0x1F or 1Fh)"));
+        return Err(Wrong::Form);
     }
-    u16::from_str_radix(digits, base).map_err(|_| format!("{text} does not fit in 16 bits"))
+    u64::from_str_radix(digits, base).map_err(|_| Wrong::TooLarge)
 }
 
 /// A file's length in sectors. Above 32,767 the word is negative: Create and Set would refuse it,
@@ -137,6 +173,18 @@ mod tests {
         for text in ["32768", "8000h", "65535", "65536", "-1", "ten"] {
             assert!(sectors(text).is_err(), "{text}");
         }
+    }
+
+    #[test]
+    fn bytes_and_sectors_may_be_past_16_bits() {
+        assert_eq!(bytes("0x10"), Ok(16));
+        assert_eq!(bytes("10h"), Ok(16));
+        assert_eq!(bytes("65536"), Ok(65_536));
+        assert_eq!(bytes("0xFFFFFFFFFFFFFFFF"), Ok(u64::MAX));
+        assert!(bytes("18446744073709551616").is_err());
+        assert!(bytes("-1").is_err());
+        assert_eq!(sector("70000"), Ok(70_000));
+        assert!(sector("0xFFFFFFFFFFFFFFFF").is_err());
     }
 
     #[test]

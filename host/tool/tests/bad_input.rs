@@ -142,8 +142,8 @@ fn what_is_no_regular_file_is_refused() {
     folder.bad(&["ls", "dir"], 3, "dir: this is no regular file");
     folder.bad(
         &["ls", "/dev/null"],
-        3,
-        "/dev/null: this is no regular file",
+        4,
+        "/dev/null: not a unit image: the file is empty",
     );
     folder.bad(
         &["create", "/dev/null", "A"],
@@ -362,7 +362,7 @@ fn wrong_usage_is_told() {
         ),
         (
             &["get", "a.img", "PASS", "out", "--bytes", "x"],
-            "'x' is no number of bytes",
+            "--bytes: 'x' is no number",
         ),
         (
             &["get", "a.img", "PASS", "out", "--bytes", "1025"],

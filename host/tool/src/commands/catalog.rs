@@ -2,8 +2,8 @@
 
 use ruzkemp::{Attributes, Call, Entry, Name};
 
-use crate::arguments::{flag, valued, Choice, Command, Given, UNIT};
-use crate::console::print;
+use crate::arguments::{flag, valued, Choice, Command, Given, DRY_RUN, LOW, OFFSET, UNIT};
+use crate::console::report;
 use crate::failure::{Failure, Outcome};
 use crate::session::Session;
 use crate::values::{sectors, words};
@@ -24,7 +24,9 @@ const TAIL: Choice = valued("--tail", "W,..", "the six words of the tail");
 pub const CREATE: Command = Command {
     name: "create",
     operands: &["IMAGE", "NAME"],
-    choices: &[SIZE, ATTRIBUTES, EXTENDABLE, PERMANENT, PROTECTED, UNIT],
+    choices: &[
+        SIZE, ATTRIBUTES, EXTENDABLE, PERMANENT, PROTECTED, UNIT, LOW, OFFSET, DRY_RUN,
+    ],
     summary: "Enter a new file of zero sectors",
     about: "Sends Create Entry. Without attributes the file has a fixed length.",
     run: create,
@@ -35,7 +37,8 @@ pub const SET: Command = Command {
     name: "set",
     operands: &["IMAGE", "NAME"],
     choices: &[
-        SIZE, ATTRIBUTES, EXTENDABLE, PERMANENT, PROTECTED, OPTIONAL, TAIL, UNIT,
+        SIZE, ATTRIBUTES, EXTENDABLE, PERMANENT, PROTECTED, OPTIONAL, TAIL, UNIT, LOW, OFFSET,
+        DRY_RUN,
     ],
     summary: "Enter a new file with its optional and tail words",
     about: "Sends Set Entry: as create, and the words that are the caller's own are given too\n\
@@ -57,6 +60,9 @@ pub const CHANGE: Command = Command {
         OPTIONAL,
         TAIL,
         UNIT,
+        LOW,
+        OFFSET,
+        DRY_RUN,
     ],
     summary: "Change a file's name, length, attributes or words",
     about:
@@ -71,7 +77,7 @@ pub const CHANGE: Command = Command {
 pub const RENAME: Command = Command {
     name: "rename",
     operands: &["IMAGE", "OLD", "NEW"],
-    choices: &[UNIT],
+    choices: &[UNIT, LOW, OFFSET, DRY_RUN],
     summary: "Give a file another name",
     about: "Sends Look-up Entry and Change Entry.",
     run: rename,
@@ -81,7 +87,7 @@ pub const RENAME: Command = Command {
 pub const RM: Command = Command {
     name: "rm",
     operands: &["IMAGE", "NAME..."],
-    choices: &[UNIT],
+    choices: &[UNIT, LOW, OFFSET, DRY_RUN],
     summary: "Remove files",
     about: "Sends Remove Entry for each name. If one is refused, none is removed.",
     run: rm,
@@ -113,9 +119,10 @@ fn entered(mut session: Session, name: Name) -> Outcome {
     let entry = session.call(Call::LookUp, name, |unit| unit.look_up(name))?;
     session.write_back()?;
     let (length, reserved) = (entry.length(), entry.reserved());
-    print(&format!(
+    report(&format!(
         "{name}: entered, length {length}, reserved {reserved}\n"
-    ))
+    ));
+    Ok(())
 }
 
 fn change(given: &Given) -> Outcome {
@@ -144,7 +151,8 @@ fn change(given: &Given) -> Outcome {
     takes_own_words(name, &current, &entry)?;
     session.call(Call::Change, name, |unit| unit.change(name, &entry))?;
     session.write_back()?;
-    print(&format!("{}: changed\n", new.unwrap_or(name)))
+    report(&format!("{}: changed\n", new.unwrap_or(name)));
+    Ok(())
 }
 
 /// The attributes that are given. Bit 0 is refused here: Change would read such a word as 'keep'.
@@ -196,7 +204,8 @@ fn rename(given: &Given) -> Outcome {
     let entry = Entry::for_change(&current).with_name(new);
     session.call(Call::Change, old, |unit| unit.change(old, &entry))?;
     session.write_back()?;
-    print(&format!("{old}: renamed to {new}\n"))
+    report(&format!("{old}: renamed to {new}\n"));
+    Ok(())
 }
 
 fn rm(given: &Given) -> Outcome {
@@ -210,5 +219,6 @@ fn rm(given: &Given) -> Outcome {
     }
     session.write_back()?;
     let lines = names.iter().map(|name| format!("{name}: removed\n"));
-    print(&lines.collect::<String>())
+    report(&lines.collect::<String>());
+    Ok(())
 }

@@ -6,12 +6,12 @@ use std::path::Path;
 use reference::layout::Kit;
 use ruzkemp::{Call, Error, Record, Unit};
 
-use crate::arguments::{flag, valued, Command, Given, UNIT};
-use crate::console::print;
+use crate::arguments::{flag, valued, Command, Given, DRY_RUN, LOW, OFFSET, UNIT};
+use crate::console::report;
 use crate::failure::{Failure, Outcome};
-use crate::host::{bytes_of, Replacement};
+use crate::host::shown;
 use crate::meaning;
-use crate::session::Session;
+use crate::session::{make, Session};
 use crate::values::{number, words};
 
 /// `format`.
@@ -39,6 +39,9 @@ pub const FORMAT: Command = Command {
         flag("--force", "format a file that exists: its catalog is lost"),
         flag("--new", "with --force: begin with zero words"),
         UNIT,
+        LOW,
+        OFFSET,
+        DRY_RUN,
     ],
     summary: "Write an empty catalog on a new image file, or with --force on an old one",
     about: "Sends Format. A new file has N sectors of zero words. Of an old one, which must have\n\
@@ -52,17 +55,17 @@ fn format(given: &Given) -> Outcome {
     let record = record(given)?;
     let there = fs::symlink_metadata(path).is_ok();
     if there && given.flag("--force") && !given.flag("--new") {
-        let mut session = Session::uninitialized(given)?;
+        let mut session = Session::to_format(given, record.sectors)?;
         told(&record, session.unit.format(&record))?;
         session.write_back()?;
     } else {
-        let mut file = Replacement::of(path, given.flag("--force"))?;
-        let made = Unit::formatted(&record);
-        let unit = made.map_err(|error| refused(&record, error))?;
-        file.write(&bytes_of(unit.image()))?;
-        file.commit()?;
+        make(given, || {
+            let made = Unit::formatted(&record);
+            made.map_err(|error| refused(&record, error))
+        })?;
     }
-    print(&described(path, &record))
+    report(&described(path, &record));
+    Ok(())
 }
 
 fn record(given: &Given) -> Outcome<Record> {
@@ -102,7 +105,7 @@ fn described(path: &Path, record: &Record) -> String {
     format!(
         "{}: unit {unit} formatted: {sectors} sectors, {slices} slices of {slice_size} from sector \
          {first} on, {sys_size} key{}\n",
-        path.display(),
+        shown(path),
         if *sys_size == 1 { "" } else { "s" }
     )
 }

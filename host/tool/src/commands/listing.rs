@@ -2,7 +2,7 @@
 
 use ruzkemp::{Call, Entry};
 
-use crate::arguments::{flag, Command, Given, UNIT};
+use crate::arguments::{flag, Command, Given, LOW, OFFSET, UNIT};
 use crate::console::print;
 use crate::failure::Outcome;
 use crate::host::SECTOR_BYTES;
@@ -15,7 +15,12 @@ use crate::view::{Holder, View};
 pub const LS: Command = Command {
     name: "ls",
     operands: &["IMAGE"],
-    choices: &[flag("--json", "print JSON in place of a table"), UNIT],
+    choices: &[
+        flag("--json", "print JSON in place of a table"),
+        UNIT,
+        LOW,
+        OFFSET,
+    ],
     summary: "List the files",
     about:
         "Lengths and reserved lengths are in sectors. The order is the listing's: by name, digits\n\
@@ -27,7 +32,7 @@ pub const LS: Command = Command {
 pub const SHOW: Command = Command {
     name: "show",
     operands: &["IMAGE", "NAME"],
-    choices: &[UNIT],
+    choices: &[UNIT, LOW, OFFSET],
     summary: "Show a file's entry and where its slices lie",
     about: "Sends Look-up Entry.",
     run: show,

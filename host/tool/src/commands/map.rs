@@ -2,10 +2,10 @@
 
 use std::path::Path;
 
-use crate::arguments::{flag, valued, Command, Given, UNIT};
-use crate::console::{colours, print};
+use crate::arguments::{flag, valued, Command, Given, LOW, OFFSET, UNIT};
+use crate::console::{colours, print, report};
 use crate::failure::Outcome;
-use crate::host::Replacement;
+use crate::host::{shown, Replacement};
 use crate::session::Session;
 use crate::view::View;
 use crate::{picture, terminal};
@@ -22,6 +22,8 @@ pub const MAP: Command = Command {
         ),
         flag("--force", "replace FILE if it exists"),
         UNIT,
+        LOW,
+        OFFSET,
     ],
     summary: "Draw which slices are free, SYS's and each file's",
     about:
@@ -45,5 +47,6 @@ fn map(given: &Given) -> Outcome {
     let mut file = Replacement::of(path, given.flag("--force"))?;
     file.write(drawn.as_bytes())?;
     file.commit()?;
-    print(&format!("{}: picture written\n", path.display()))
+    report(&format!("{}: picture written\n", shown(path)));
+    Ok(())
 }

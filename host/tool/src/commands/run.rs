@@ -6,10 +6,10 @@ use std::path::Path;
 
 use ruzkemp::{Answer, Call, Entry, Error, Message, Operation, Unit, ENTRY, SECTOR};
 
-use crate::arguments::{flag, Command, Given, UNIT};
-use crate::console::print;
+use crate::arguments::{flag, Command, Given, DRY_RUN, LOW, OFFSET, UNIT};
+use crate::console::{print, report};
 use crate::failure::{Failure, Outcome};
-use crate::host::bytes_of;
+use crate::host::{bytes_of, shown};
 use crate::script::{parse, Lent, Line, Show, Step};
 use crate::session::Session;
 
@@ -27,6 +27,9 @@ pub const RUN: Command = Command {
             "at the end release and remove the area processes left open",
         ),
         UNIT,
+        LOW,
+        OFFSET,
+        DRY_RUN,
     ],
     summary: "Send the messages of a script (- is standard input) and print the answers",
     about: "The image is written back at the end, if no line failed. A refusal ends the script\n\
@@ -40,16 +43,21 @@ fn run(given: &Given) -> Outcome {
     let unit = given.unit()?;
     let script = given.path(1);
     let parsed = parse(&read(script)?, unit);
-    let lines = parsed.map_err(|wrong| Failure::Usage(format!("{}: {wrong}", script.display())))?;
+    let lines = parsed.map_err(|wrong| Failure::Usage(format!("{}: {wrong}", shown(script))))?;
     let mut session = Session::uninitialized(given)?;
     for line in &lines {
-        obey(&mut session.unit, line, given.flag("--keep-going"), print)?;
+        let obeyed = obey(&mut session.unit, line, given.flag("--keep-going"), print);
+        obeyed.map_err(|failure| session.hinted(failure))?;
     }
     if given.flag("--close") {
         close_all(&mut session.unit)?;
     }
     all_closed(&session.unit)?;
-    session.write_back()
+    session.write_back()?;
+    if given.is_dry_run() {
+        report("end");
+    }
+    Ok(())
 }
 
 fn read(path: &Path) -> Outcome<String> {

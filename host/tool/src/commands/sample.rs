@@ -2,12 +2,13 @@
 
 use ruzkemp::Unit;
 
-use crate::arguments::{flag, Command, Given, UNIT};
+use crate::arguments::{flag, Command, Given, DRY_RUN, LOW, OFFSET, UNIT};
 use crate::commands::run::{all_closed, obey};
-use crate::console::print;
+use crate::console::report;
 use crate::failure::{Failure, Outcome};
-use crate::host::{bytes_of, Replacement};
-use crate::script::{parse, Step};
+use crate::host::shown;
+use crate::script::{parse, Line, Step};
+use crate::session::make;
 
 /// The script that makes the sample disc.
 const SCRIPT: &str = include_str!("../sample.script");
@@ -16,7 +17,13 @@ const SCRIPT: &str = include_str!("../sample.script");
 pub const SAMPLE: Command = Command {
     name: "sample",
     operands: &["IMAGE"],
-    choices: &[flag("--force", "replace a file that exists"), UNIT],
+    choices: &[
+        flag("--force", "replace a file that exists"),
+        UNIT,
+        LOW,
+        OFFSET,
+        DRY_RUN,
+    ],
     summary: "Make a sample disc to try the other commands on",
     about: "The files of a small ski area, some of them in several stretches. The script that\n\
             makes it is host/tool/src/sample.script.",
@@ -26,17 +33,20 @@ pub const SAMPLE: Command = Command {
 fn sample(given: &Given) -> Outcome {
     let number = given.unit()?;
     let lines = parse(SCRIPT, number).map_err(Failure::Usage)?;
+    make(given, || made(&lines, number))?;
+    report(&format!("{}: sample disc made\n", shown(given.path(0))));
+    Ok(())
+}
+
+fn made(lines: &[Line], number: u16) -> Outcome<Unit<Vec<u16>>> {
     let words = lines.iter().find_map(|line| match line.step {
         Step::Format(record, _) => Some(ruzkemp::Record::from_words(record).image_words()),
         _ => None,
     });
-    let mut file = Replacement::of(given.path(0), given.flag("--force"))?;
     let mut unit = Unit::new(vec![0; words.unwrap_or(0)], number);
-    for line in &lines {
+    for line in lines {
         obey(&mut unit, line, false, |_| Ok(()))?;
     }
     all_closed(&unit)?;
-    file.write(&bytes_of(unit.image()))?;
-    file.commit()?;
-    print(&format!("{}: sample disc made\n", given.path(0).display()))
+    Ok(unit)
 }

@@ -6,13 +6,14 @@ use std::path::Path;
 
 use ruzkemp::{Attributes, Block, Call, Entry, Error, Name, Role};
 
-use crate::arguments::{flag, valued, Command, Given, UNIT};
-use crate::console::{print, print_bytes};
+use crate::arguments::{flag, valued, Command, Given, DRY_RUN, LOW, OFFSET, UNIT};
+use crate::console::{print_bytes, report};
 use crate::failure::{Failure, Outcome};
-use crate::host::{bytes_of, words_of, Replacement, SECTOR_BYTES};
+use crate::host::{bytes_of, shown, words_of, Replacement, SECTOR_BYTES};
 use crate::progress::Progress;
+use crate::room;
 use crate::session::Session;
-use crate::values::count;
+use crate::values::{self, count};
 
 /// The number under which this tool is a user of an area process.
 const SENDER: u16 = 1;
@@ -27,6 +28,9 @@ pub const PUT: Command = Command {
             "replace the words of a file that is entered already",
         ),
         UNIT,
+        LOW,
+        OFFSET,
+        DRY_RUN,
     ],
     summary: "Copy a host file (- is standard input) into the unit",
     about:
@@ -45,6 +49,8 @@ pub const GET: Command = Command {
         valued("--bytes", "N", "write the first N bytes only"),
         flag("--force", "replace a host file that exists"),
         UNIT,
+        LOW,
+        OFFSET,
     ],
     summary: "Copy a file of the unit to a host file (- is standard output)",
     about: "Writes whole sectors, unless --bytes gives the true length. The host file appears\n\
@@ -68,7 +74,8 @@ fn put(given: &Given) -> Outcome {
     session.call(Call::RemoveArea, name, |unit| unit.remove_area(name))?;
     session.write_back()?;
     let (bytes, blocks) = (count(source.taken, "byte"), count(blocks, "block"));
-    print(&format!("{name}: {bytes} put into {blocks}\n"))
+    report(&format!("{name}: {bytes} put into {blocks}\n"));
+    Ok(())
 }
 
 /// Enters a new file to which blocks can be appended.
@@ -97,17 +104,15 @@ fn emptied(given: &Given, session: &mut Session, name: Name, source: &Source) ->
         source.bytes,
     ) {
         (true, _) => 0,
-        (false, Some(bytes)) => {
-            let blocks = u16::try_from(bytes.div_ceil(SECTOR_BYTES as u64));
-            blocks.map_err(|_| Failure::Host(format!("{bytes} bytes are more than a unit has")))?
-        }
+        (false, Some(bytes)) => room::sectors(name, bytes)?,
         (false, None) => {
             let what = format!("{name} is not extendable: its new length has to be known first");
             return Err(given.misused(what));
         }
     };
     let entry = Entry::for_change(&current).with_size(size);
-    session.call(Call::Change, name, |unit| unit.change(name, &entry))
+    let changed = session.call(Call::Change, name, |unit| unit.change(name, &entry));
+    changed.map_err(|failure| room::told(failure, session.unit.image(), &current, size))
 }
 
 /// Outputs the source's blocks one after the other; how many.
@@ -136,7 +141,7 @@ struct Source {
 
 impl Source {
     fn open(path: &Path) -> Outcome<Source> {
-        let shown = path.display().to_string();
+        let shown = shown(path);
         if path == Path::new("-") {
             let reader = Box::new(io::stdin());
             return Ok(Source::new("standard input".into(), reader, None));
@@ -182,10 +187,7 @@ impl Source {
 
 fn get(given: &Given) -> Outcome {
     let name = given.name(1)?;
-    let wanted = given.value("--bytes", |text| {
-        text.parse::<u64>()
-            .map_err(|_| format!("'{text}' is no number of bytes"))
-    })?;
+    let wanted = given.value("--bytes", values::bytes)?;
     let mut session = Session::to_read(given)?;
     session.call(Call::CreateArea, name, |unit| unit.create_area(name))?;
     session.call(Call::Reserve, name, |unit| {
@@ -209,11 +211,12 @@ fn get(given: &Given) -> Outcome {
     let mut file = Replacement::of(path, given.flag("--force"))?;
     copy_out(&mut session, name, bytes, |part| file.write(part))?;
     file.commit()?;
-    print(&format!(
+    report(&format!(
         "{name}: {} written to {}\n",
         count(bytes, "byte"),
-        path.display()
-    ))
+        shown(path)
+    ));
+    Ok(())
 }
 
 /// Inputs the blocks of so many bytes one after the other. The area process ends with the

@@ -1,0 +1,221 @@
+//! An image file: the words of a unit, which is the whole file or a part of a pack.
+
+use std::fs::File;
+use std::io::{self, Read, Seek, SeekFrom};
+use std::path::{Path, PathBuf};
+
+use reference::layout::{Kit, KIT};
+
+use super::lock::Old;
+use super::{irregular, regular, shown, Form, Order, Replacement, MOST_SECTORS, SECTOR_BYTES};
+use crate::failure::{Failure, Outcome};
+
+const SECTOR: u64 = SECTOR_BYTES as u64;
+
+/// An image file and its words.
+pub struct ImageFile {
+    /// The path as the user gave it.
+    shown: PathBuf,
+    path: PathBuf,
+    form: Form,
+    /// The file, held while the image may be replaced.
+    old: Option<Old>,
+    /// The unit's words.
+    pub words: Vec<u16>,
+}
+
+impl ImageFile {
+    /// Reads an image that is not going to be changed, from any file that can be read to its
+    /// end; `-` is standard input.
+    pub fn read(shown: &Path, form: Form) -> Outcome<ImageFile> {
+        let words = if shown == Path::new("-") {
+            Source::new(shown, io::stdin().lock(), None).words(form, None)?
+        } else {
+            let opened = File::open(shown).and_then(|file| Ok((file.metadata()?, file)));
+            let (metadata, file) = opened.map_err(|error| Failure::host(shown, error))?;
+            if metadata.is_dir() {
+                return Err(irregular(shown));
+            }
+            let bytes = metadata.is_file().then_some(metadata.len());
+            Source::at(shown, file, bytes, form)?.words(form, None)?
+        };
+        Ok(ImageFile {
+            shown: shown.into(),
+            path: shown.into(),
+            form,
+            old: None,
+            words,
+        })
+    }
+
+    /// Reads an image that may be changed, and holds off other changes of it until dropped. A
+    /// unit in a pack has so many sectors as its kit says, or as are given here.
+    pub fn read_to_change(shown: &Path, form: Form, sectors: Option<u16>) -> Outcome<ImageFile> {
+        if shown == Path::new("-") {
+            return Err(Failure::host(shown, "standard input cannot be changed"));
+        }
+        let path = regular(shown)?;
+        let old = Old::locked(shown, &path, true)?;
+        let bytes = Some(old.metadata.len());
+        let words = Source::at(shown, &old.file, bytes, form)?.words(form, sectors)?;
+        Ok(ImageFile {
+            shown: shown.into(),
+            path,
+            form,
+            old: Some(old),
+            words,
+        })
+    }
+
+    /// A file with another image in the place of this one, to be committed; what lies in a pack
+    /// before and behind the unit is copied.
+    pub fn replaced(&self, words: &[u16]) -> Outcome<Replacement> {
+        let old = self.old.as_ref().map(Old::again).transpose();
+        let old = old.map_err(|error| Failure::host(&self.shown, error))?;
+        let mut new = Replacement::begin(&self.shown, &self.path, old)?;
+        let bytes = self.form.order.bytes(words);
+        match self.form.offset {
+            None => new.write(&bytes)?,
+            Some(offset) => {
+                let begin = offset * SECTOR;
+                new.copy(0, Some(begin))?;
+                new.write(&bytes)?;
+                new.copy(begin + bytes.len() as u64, None)?;
+            }
+        }
+        Ok(new)
+    }
+}
+
+/// A file from which an image is read.
+struct Source<'a, R> {
+    shown: &'a Path,
+    reader: R,
+    /// The file's length, where it is known before its end.
+    bytes: Option<u64>,
+    /// How many bytes of it lie before the reader.
+    passed: u64,
+}
+
+impl<'a, R: Read + Seek> Source<'a, R> {
+    /// A file, and of a regular one only what comes from the unit on.
+    fn at(shown: &'a Path, reader: R, bytes: Option<u64>, form: Form) -> Outcome<Source<'a, R>> {
+        let mut source = Source::new(shown, reader, bytes);
+        if let (Some(_), Some(offset)) = (bytes, form.offset) {
+            let begin = offset * SECTOR;
+            let sought = source.reader.seek(SeekFrom::Start(begin));
+            sought.map_err(|error| Failure::host(shown, error))?;
+            source.passed = begin;
+        }
+        Ok(source)
+    }
+}
+
+impl<'a, R: Read> Source<'a, R> {
+    fn new(shown: &'a Path, reader: R, bytes: Option<u64>) -> Source<'a, R> {
+        Source {
+            shown,
+            reader,
+            bytes,
+            passed: 0,
+        }
+    }
+
+    /// The words of the unit that begins as the form says.
+    fn words(mut self, form: Form, sectors: Option<u16>) -> Outcome<Vec<u16>> {
+        let bytes = match form.offset {
+            None => self.whole()?,
+            Some(offset) => self.part(offset, form.order, sectors)?,
+        };
+        Ok(form.order.words(&bytes))
+    }
+
+    /// So many bytes, or fewer at the end.
+    fn next(&mut self, bytes: u64) -> Outcome<Vec<u8>> {
+        let mut read = Vec::new();
+        let done = self.reader.by_ref().take(bytes).read_to_end(&mut read);
+        done.map_err(|error| Failure::host(self.shown, error))?;
+        Ok(read)
+    }
+
+    /// The bytes of a file that is a unit.
+    fn whole(&mut self) -> Outcome<Vec<u8>> {
+        if let Some(bytes) = self.bytes {
+            self.whole_sectors(bytes)?;
+        }
+        let bytes = self.next(SECTOR * (MOST_SECTORS as u64 + 1))?;
+        self.whole_sectors(bytes.len() as u64)?;
+        Ok(bytes)
+    }
+
+    /// An image file has whole sectors, and no more than a unit can have.
+    fn whole_sectors(&self, bytes: u64) -> Outcome {
+        let wrong = if bytes == 0 {
+            "the file is empty".to_string()
+        } else if bytes / SECTOR > MOST_SECTORS as u64 {
+            let sectors = match self.bytes {
+                Some(_) => (bytes / SECTOR).to_string(),
+                None => format!("at least {}", bytes / SECTOR),
+            };
+            format!(
+                "{sectors} sectors, and a unit has at most {MOST_SECTORS} (--offset SECTORS reads \
+                 one unit of a pack)"
+            )
+        } else if !bytes.is_multiple_of(SECTOR) {
+            format!("{bytes} bytes are no whole number of sectors of {SECTOR}")
+        } else {
+            return Ok(());
+        };
+        Err(self.no_image(&wrong))
+    }
+
+    /// The bytes of a unit in a pack: as many sectors as are wanted, or as its kit says, or, if
+    /// that is not within limits, as the unit can have.
+    fn part(&mut self, offset: u64, order: Order, sectors: Option<u16>) -> Outcome<Vec<u8>> {
+        self.pass(offset)?;
+        let mut bytes = match sectors {
+            Some(sectors) => self.next(SECTOR * u64::from(sectors))?,
+            None => self.next(SECTOR * (KIT as u64 + 1))?,
+        };
+        if let Some(sectors) = sectors {
+            self.room(offset, sectors, bytes.len() as u64)?;
+        } else if bytes.len() == SECTOR_BYTES * (KIT + 1) {
+            let kit = Kit::from_words(&order.words(&bytes[SECTOR_BYTES * KIT..][..12]));
+            let all = kit.limits().map_or(MOST_SECTORS, |()| kit.n);
+            bytes.extend(self.next(SECTOR * (all - KIT - 1) as u64)?);
+        }
+        bytes.truncate(bytes.len() / SECTOR_BYTES * SECTOR_BYTES);
+        if bytes.is_empty() {
+            return Err(self.no_image(&format!("it has no sector {offset}")));
+        }
+        Ok(bytes)
+    }
+
+    /// Reads up to the sector at which a unit begins, where the file is not there yet.
+    fn pass(&mut self, offset: u64) -> Outcome {
+        let before = offset * SECTOR - self.passed;
+        let passed = io::copy(&mut self.reader.by_ref().take(before), &mut io::sink());
+        passed.map_err(|error| Failure::host(self.shown, error))?;
+        Ok(())
+    }
+
+    /// A unit that is to be formatted has to fit in the pack.
+    fn room(&self, offset: u64, sectors: u16, bytes: u64) -> Outcome {
+        if bytes == SECTOR * u64::from(sectors) {
+            return Ok(());
+        }
+        let all = self.bytes.unwrap_or(0) / SECTOR;
+        let what = format!(
+            "no room for {sectors} sectors from sector {offset} on: the file has {all} sectors"
+        );
+        Err(Failure::host(self.shown, what))
+    }
+
+    fn no_image(&self, wrong: &str) -> Failure {
+        let path = match self.shown == Path::new("-") {
+            true => "standard input".into(),
+            false => shown(self.shown),
+        };
+        Failure::NotUnit(format!("{path}: not a unit image: {wrong}"))
+    }
+}

@@ -1,0 +1,61 @@
+//! Host files: images read whole, and files replaced in one step or not at all.
+
+mod extended;
+mod form;
+mod image;
+mod lock;
+mod replacement;
+pub mod signals;
+
+use std::fs;
+use std::os::unix::fs::MetadataExt;
+use std::path::{Path, PathBuf};
+
+use crate::console::visible;
+use crate::failure::{Failure, Outcome};
+
+pub use form::{Form, Order};
+pub use image::ImageFile;
+pub use replacement::Replacement;
+
+/// Bytes in a sector.
+pub const SECTOR_BYTES: usize = 512;
+/// The most sectors that a unit can have.
+pub const MOST_SECTORS: usize = 32_767;
+
+/// The words of a host file's bytes, high byte first.
+pub fn words_of(bytes: &[u8]) -> Vec<u16> {
+    Order::HighFirst.words(bytes)
+}
+
+/// The bytes of words for a host file, high byte first.
+pub fn bytes_of(words: &[u16]) -> Vec<u8> {
+    Order::HighFirst.bytes(words)
+}
+
+/// A path as it is told to users: with no character that a terminal would obey.
+pub fn shown(path: &Path) -> String {
+    visible(&path.to_string_lossy()).replace('\n', "\\n")
+}
+
+/// The file that a path leads to, links followed. Anything but a regular file is refused:
+/// it could not be replaced in one step.
+fn regular(path: &Path) -> Outcome<PathBuf> {
+    let metadata = fs::metadata(path).map_err(|error| Failure::host(path, error))?;
+    if !metadata.is_file() {
+        return Err(irregular(path));
+    }
+    fs::canonicalize(path).map_err(|error| Failure::host(path, error))
+}
+
+fn irregular(path: &Path) -> Failure {
+    Failure::host(path, "this is no regular file")
+}
+
+/// Whether two paths lead to one file.
+pub fn is_same(one: &Path, other: &Path) -> bool {
+    match (fs::metadata(one), fs::metadata(other)) {
+        (Ok(one), Ok(other)) => (one.dev(), one.ino()) == (other.dev(), other.ino()),
+        _ => false,
+    }
+}

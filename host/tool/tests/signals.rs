@@ -1,0 +1,196 @@
+//! Signals that end the tool: nothing is left beside a file, the file is as it was, and the end
+//! shows the signal.
+
+mod common;
+
+use std::ffi::c_int;
+use std::fs::{self, File};
+use std::io::Write;
+use std::os::unix::process::ExitStatusExt;
+use std::process::{Child, ExitStatus, Stdio};
+use std::thread::sleep;
+use std::time::Duration;
+
+use common::{Folder, TOOL};
+
+extern "C" {
+    fn kill(process: c_int, signal: c_int) -> c_int;
+}
+
+const HANGUP: c_int = 1;
+const INTERRUPT: c_int = 2;
+const TERMINATE: c_int = 15;
+const ENDING: [c_int; 3] = [HANGUP, INTERRUPT, TERMINATE];
+
+fn send(child: &Child, signal: c_int) {
+    // SAFETY: the POSIX function. The child has not been waited for, so that the number is its own.
+    unsafe { kill(child.id() as c_int, signal) };
+}
+
+/// Whether there is a temporary file of the tool.
+fn has_temporary(folder: &Folder) -> bool {
+    let found = fs::read_dir(folder.path()).expect("the folder is there");
+    found.flatten().any(|file| {
+        let name = file.file_name().into_string().expect("UTF-8");
+        name.starts_with(".ruzkemp-") && name.ends_with(".tmp")
+    })
+}
+
+/// Runs a command and sends it a signal when its temporary file is there; how it ended, or none
+/// if it was too quick.
+fn cut_short(folder: &Folder, arguments: &[&str], signal: c_int) -> Option<ExitStatus> {
+    let mut command = folder.command(arguments);
+    command.stdin(Stdio::null()).stdout(Stdio::null());
+    let mut child = command.spawn().expect("the tool runs");
+    while !has_temporary(folder) {
+        if child.try_wait().expect("it is a child").is_some() {
+            return None;
+        }
+    }
+    send(&child, signal);
+    Some(child.wait().expect("it ends"))
+}
+
+/// Cuts a command short with each signal, while it writes a file: all files are as they were.
+/// Where the file was in its place before the signal came, `again` judges it and makes all as it
+/// was, and the command is tried once more.
+fn is_undone(folder: &Folder, arguments: &[&str], again: impl Fn(&Folder, ExitStatus)) {
+    for signal in ENDING {
+        let is_cut = |_: &usize| {
+            let before = folder.snapshot();
+            let ended = cut_short(folder, arguments, signal);
+            assert!(!has_temporary(folder), "{arguments:?}, signal {signal}");
+            match ended {
+                Some(ended) if folder.snapshot() == before => {
+                    assert_eq!(ended.signal(), Some(signal), "{arguments:?}");
+                    true
+                }
+                ended => {
+                    again(folder, ended.unwrap_or_default());
+                    false
+                }
+            }
+        };
+        let tried = (0..50).find(is_cut);
+        assert!(tried.is_some(), "{arguments:?} is too quick for a signal");
+    }
+}
+
+/// A unit of 32,767 sectors with BIG, of 30,000 sectors.
+fn large() -> Folder {
+    let folder = Folder::new();
+    folder.good(&[
+        "format",
+        "a.img",
+        "--sectors",
+        "32767",
+        "--first",
+        "15",
+        "--slice",
+        "8",
+        "--keys",
+        "1",
+    ]);
+    folder.good(&["create", "a.img", "BIG", "--size", "30000"]);
+    folder
+}
+
+#[test]
+fn a_change_that_is_cut_short_leaves_nothing() {
+    let folder = large();
+    let original = folder.read("a.img");
+    is_undone(&folder, &["create", "a.img", "NEW"], |folder, ended| {
+        assert_eq!(ended.code(), Some(0));
+        folder.write("a.img", &original);
+    });
+}
+
+#[test]
+fn a_host_file_that_is_cut_short_leaves_nothing() {
+    let folder = large();
+    is_undone(&folder, &["get", "a.img", "BIG", "out"], |folder, _| {
+        assert_eq!(folder.read("out").len(), 512 * 30_000);
+        fs::remove_file(folder.file("out")).expect("it was there");
+    });
+    folder.write("old", b"old");
+    let get = ["get", "a.img", "BIG", "old", "--force"];
+    is_undone(&folder, &get, |folder, _| {
+        assert_eq!(folder.read("old").len(), 512 * 30_000);
+        folder.write("old", b"old");
+    });
+}
+
+/// A `put` that waits for its input has no file in the making yet.
+#[test]
+fn a_put_that_is_cut_short_leaves_the_image() {
+    for signal in ENDING {
+        let folder = Folder::new();
+        folder.small("a.img");
+        let before = folder.snapshot();
+        let mut command = folder.command(&["put", "a.img", "NEW", "-"]);
+        command.stdin(Stdio::piped()).stdout(Stdio::null());
+        let mut child = command.spawn().expect("the tool runs");
+        let mut stdin = child.stdin.take().expect("a pipe");
+        stdin.write_all(&[1; 512]).expect("the tool reads");
+        wait_for_lock(&folder);
+        send(&child, signal);
+        let ended = child.wait().expect("it ends");
+        assert_eq!(ended.signal(), Some(signal));
+        assert!(folder.snapshot() == before);
+    }
+}
+
+fn wait_for_lock(folder: &Folder) {
+    let file = File::open(folder.file("a.img")).expect("it is there");
+    while file.try_lock().is_ok() {
+        file.unlock().expect("unlocked");
+        sleep(Duration::from_millis(1));
+    }
+}
+
+/// As under nohup.
+#[test]
+fn a_signal_that_was_ignored_stays_so() {
+    for signal in ENDING {
+        let folder = Folder::new();
+        folder.small("a.img");
+        let mut shell = std::process::Command::new("sh");
+        let script = format!("trap '' {signal}; exec \"$0\" put a.img NEW -");
+        shell.arg("-c").arg(script).arg(TOOL);
+        shell.current_dir(folder.path()).stdin(Stdio::piped());
+        let mut child = shell.stdout(Stdio::null()).spawn().expect("sh runs");
+        let mut stdin = child.stdin.take().expect("a pipe");
+        wait_for_lock(&folder);
+        send(&child, signal);
+        sleep(Duration::from_millis(50));
+        stdin.write_all(b"still there").expect("the tool reads");
+        drop(stdin);
+        let ended = child.wait().expect("it ends");
+        assert_eq!(ended.code(), Some(0), "signal {signal}");
+        let out = folder.good(&["get", "a.img", "NEW", "-", "--bytes", "11"]);
+        assert_eq!(out, "still there");
+    }
+}
+
+/// Whenever a signal comes, status 0 stands for a changed image and the signal for an old one.
+#[test]
+fn the_end_tells_whether_the_image_is_changed() {
+    let folder = Folder::new();
+    folder.small("a.img");
+    let original = folder.read("a.img");
+    let mut ends = [0; 2];
+    for number in 0..200 {
+        let mut command = folder.command(&["create", "a.img", "NEW"]);
+        command.stdin(Stdio::null()).stdout(Stdio::null());
+        let mut child = command.spawn().expect("the tool runs");
+        sleep(Duration::from_micros(number % 100 * 40));
+        send(&child, TERMINATE);
+        let ended = child.wait().expect("it ends");
+        let is_changed = folder.read("a.img") != original;
+        assert_eq!(ended.code() == Some(0), is_changed, "{ended:?}");
+        assert!(!has_temporary(&folder));
+        ends[usize::from(is_changed)] += 1;
+        folder.write("a.img", &original);
+    }
+    println!("{} ended by the signal, {} changed", ends[0], ends[1]);
+}
