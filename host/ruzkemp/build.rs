@@ -1,23 +1,27 @@
-//! Has `rt` prove crate `export` and make its static library, and links a copy of that.
+//! Links a copy of the proved library, and tells the crate its digest and the kit that proved it.
 //!
-//! Each profile of cargo runs this once, and `rt` proves `export` anew each time. So a stamp
-//! beside the library says from which sources it was made, and `rt` runs only if those, or the
-//! library, have changed since. Where `RUZKEMP_LIBRARY` names a library that was made elsewhere,
-//! that one is linked instead.
+//! It is the library that `RUZKEMP_LIBRARY` names, or that of the sources. Whether `rt` has to
+//! prove these first, `host/library` decides: each profile of cargo runs this once, and `rt` is
+//! to run only if the sources have changed.
 
-use std::collections::hash_map::DefaultHasher;
-use std::hash::{Hash, Hasher};
+use std::ffi::OsString;
+use std::os::unix::ffi::OsStringExt;
 use std::path::{Path, PathBuf};
-use std::process::Command;
-use std::{env, fs, io};
+use std::process::{Command, Stdio};
+use std::{env, fs};
+
+mod record;
+mod sha256;
 
 /// Names a library made elsewhere.
 const MADE: &str = "RUZKEMP_LIBRARY";
-/// What the library is made from.
-const SOURCES: [&str; 2] = ["crates", "crates.txt"];
+/// What the library is made from, and by what.
+const SOURCES: [&str; 3] = ["crates", "crates.txt", "host/library"];
 
 fn main() {
     println!("cargo:rerun-if-changed=build.rs");
+    println!("cargo:rerun-if-changed=record.rs");
+    println!("cargo:rerun-if-changed=sha256.rs");
     println!("cargo:rerun-if-env-changed={MADE}");
     if let Err(why) = link() {
         eprintln!("{why}");
@@ -26,89 +30,57 @@ fn main() {
 }
 
 fn link() -> Result<(), String> {
-    let library = match env::var_os(MADE) {
-        Some(made) => given(PathBuf::from(made)),
-        None => current()?,
-    };
+    let library = library()?;
+    let unread = |why| format!("{} cannot be copied: {why}", library.display());
+    let bytes = fs::read(&library).map_err(unread)?;
     let folder = PathBuf::from(env::var_os("OUT_DIR").ok_or("cargo names no OUT_DIR")?);
-    fs::copy(&library, folder.join("libexport.a"))
-        .map_err(|why| format!("{} cannot be copied: {why}", library.display()))?;
+    fs::write(folder.join("libexport.a"), &bytes).map_err(unread)?;
     println!("cargo:rustc-link-search=native={}", folder.display());
     println!("cargo:rustc-link-lib=static=export");
+    let digest = sha256::sha256(&bytes);
+    println!("cargo:rustc-env=RUZKEMP_SHA256={digest}");
+    let record = fs::read_to_string(record_of(&library)).unwrap_or_default();
+    let kit = record::kit(&record, &digest);
+    println!("cargo:rustc-env=RUZKEMP_KIT={kit}");
     Ok(())
 }
 
-/// The library that the caller names.
-fn given(library: PathBuf) -> PathBuf {
-    println!("cargo:rerun-if-changed={}", library.display());
-    library
+/// The library's path: the one that is named, or the one of the sources as they are.
+fn library() -> Result<PathBuf, String> {
+    let Some(made) = env::var_os(MADE).filter(|made| !made.is_empty()) else {
+        return current();
+    };
+    let made = PathBuf::from(made);
+    watch(&made);
+    watch(&record_of(&made));
+    Ok(made)
 }
 
-/// The library of the sources as they are, made by `rt` if there is none.
+/// The path of the library of the sources, which `host/library` has made if need be.
 fn current() -> Result<PathBuf, String> {
     let root = Path::new(env!("CARGO_MANIFEST_DIR")).join("../..");
-    for watched in SOURCES {
-        println!("cargo:rerun-if-changed={}", root.join(watched).display());
+    for source in SOURCES {
+        watch(&root.join(source));
     }
-    let library = root.join("target/staticlib/libexport.a");
-    let stamp = library.with_extension("stamp");
-    let unread = |why: io::Error| format!("the sources cannot be read: {why}");
-    // Taken before rt reads the sources, so that what is edited meanwhile counts as changed.
-    let sources = digest(&SOURCES.map(|source| root.join(source))).map_err(unread)?;
-    let stamped = |library: &Path| {
-        let made = digest(&[library.to_path_buf()]).ok()?;
-        Some(format!("{sources:016x} {made:016x}\n"))
-    };
-    let now = stamped(&library);
-    if now.is_none() || fs::read_to_string(&stamp).ok() != now {
-        prove(&root)?;
-        let made = stamped(&library).ok_or("rt staticlib export has made no library")?;
-        fs::write(&stamp, made).map_err(|why| format!("{}: {why}", stamp.display()))?;
+    let asked = Command::new(root.join("host/library"))
+        .stderr(Stdio::inherit())
+        .output();
+    let asked = asked.map_err(|why| format!("host/library cannot be run: {why}"))?;
+    match asked.status.success() {
+        true => Ok(OsString::from_vec(asked.stdout.trim_ascii_end().to_vec()).into()),
+        false => Err("there is no proved library to link".into()),
     }
-    Ok(library)
 }
 
-/// Has `rt` prove the sources and make the library.
-fn prove(root: &Path) -> Result<(), String> {
-    let absent = |why: io::Error| {
-        format!("rt, of the Rattle kit, cannot be run ({why}); {MADE} may name a library made elsewhere")
-    };
-    let made = Command::new("rt")
-        .args(["staticlib", "export"])
-        .current_dir(root)
-        .output()
-        .map_err(absent)?;
-    if made.status.success() {
-        return Ok(());
+/// Has cargo run this again when a file, or one in a folder, changes. What is not there would
+/// have it run always.
+fn watch(path: &Path) {
+    if path.exists() {
+        println!("cargo:rerun-if-changed={}", path.display());
     }
-    let said = [made.stderr, made.stdout].concat();
-    let said = String::from_utf8_lossy(&said);
-    // Of what rt says, the lines that tell why; all of it if there are none.
-    let why = |line: &&str| line.contains("error") || line.contains("not proved");
-    let told: Vec<&str> = said.lines().filter(why).collect();
-    let told = if told.is_empty() {
-        said.to_string()
-    } else {
-        told.join("\n")
-    };
-    Err(format!("rt staticlib export has failed:\n{told}"))
 }
 
-/// A digest of the names and contents of files and of all files in folders.
-fn digest(paths: &[PathBuf]) -> io::Result<u64> {
-    let mut hasher = DefaultHasher::new();
-    let mut left = paths.to_vec();
-    while let Some(path) = left.pop() {
-        path.file_name().hash(&mut hasher);
-        if path.is_dir() {
-            let inside: io::Result<Vec<_>> = fs::read_dir(&path)?.collect();
-            let mut inside: Vec<PathBuf> = inside?.iter().map(fs::DirEntry::path).collect();
-            inside.sort();
-            inside.len().hash(&mut hasher);
-            left.extend(inside);
-        } else {
-            fs::read(&path)?.hash(&mut hasher);
-        }
-    }
-    Ok(hasher.finish())
+/// The file beside a library that names the kit which proved it.
+fn record_of(library: &Path) -> PathBuf {
+    library.with_extension("kit")
 }

@@ -13,6 +13,7 @@
 //! * [`Message`] and [`Answer`] are the calls as an emulator has them, for [`Unit::perform`].
 //! * [`sys`] is the C interface itself; its messages, of any number, are for
 //!   [`Unit::perform_raw`].
+//! * [`origin`] says which library is linked.
 //!
 //! ```
 //! use ruzkemp::{Attributes, Name, Record, Role, Unit};
@@ -46,6 +47,7 @@ mod error;
 mod kit;
 mod message;
 mod name;
+pub mod origin;
 mod reasons;
 mod state;
 pub mod sys;

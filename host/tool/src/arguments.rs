@@ -3,10 +3,10 @@
 use std::ffi::{OsStr, OsString};
 use std::path::Path;
 
-use ruzkemp::{Attributes, Name};
+use ruzkemp::{Attributes, ByteOrder, Name};
 
 use crate::failure::{Failure, Outcome};
-use crate::host::{is_same, shown, Form, Order};
+use crate::host::{is_same, shown, Form};
 use crate::values::{self, ATTRIBUTES};
 
 /// An option of a command.
@@ -60,7 +60,7 @@ pub const DRY_RUN: Choice = flag("--dry-run", "do everything, but write nothing"
 pub struct Command {
     /// Its name.
     pub name: &'static str,
-    /// Its operands; one that ends in `...` stands for one or more, and is the last.
+    /// Its operands; one with `...` stands for one or more, and one in brackets may be missing.
     pub operands: &'static [&'static str],
     /// Its options.
     pub choices: &'static [Choice],
@@ -106,11 +106,9 @@ impl Command {
 
     /// Whether a number of operands is right.
     fn takes(&self, given: usize) -> bool {
-        let many = self
-            .operands
-            .last()
-            .is_some_and(|last| last.ends_with("..."));
-        given == self.operands.len() || many && given > self.operands.len()
+        let needed = self.operands.iter().filter(|name| !name.starts_with('['));
+        let many = self.operands.iter().any(|name| name.contains("..."));
+        given >= needed.count() && (many || given <= self.operands.len())
     }
 
     fn misused(&self, what: String) -> Failure {
@@ -167,7 +165,7 @@ impl Given {
             .command
             .choices
             .iter()
-            .find(|choice| choice.name == name);
+            .find(|choice| choice.name == name || (choice.name, name) == ("--output", "-o"));
         let choice = choice.ok_or_else(|| misused(format!("there is no option {name}")))?;
         if self.flag(choice.name) {
             return Err(misused(format!("{name} is given twice")));
@@ -228,6 +226,11 @@ impl Given {
         self.command.misused(what)
     }
 
+    /// An operand as a text.
+    pub fn text(&self, place: usize) -> String {
+        self.operands[place].to_string_lossy().into_owned()
+    }
+
     /// An operand that is a path.
     pub fn path(&self, place: usize) -> &Path {
         Path::new(&self.operands[place])
@@ -264,8 +267,8 @@ impl Given {
     /// How the image lies in its file.
     pub fn form(&self) -> Outcome<Form> {
         let order = match self.flag(LOW.name) {
-            true => Order::LowFirst,
-            false => Order::HighFirst,
+            true => ByteOrder::LowFirst,
+            false => ByteOrder::HighFirst,
         };
         let offset = self.value(OFFSET.name, values::sector)?;
         Ok(Form { order, offset })

@@ -3,7 +3,7 @@
 use std::fmt;
 use std::path::Path;
 
-use ruzkemp::{Call, Error};
+use ruzkemp::Error;
 
 use crate::host::shown;
 
@@ -13,11 +13,15 @@ pub type Outcome<T = ()> = Result<T, Failure>;
 /// Why a command failed. Whichever it is, no image file has been changed.
 #[derive(Debug)]
 pub enum Failure {
-    /// The unit refused a call: what was asked for, the refusal with its result word, and what
-    /// it can mean.
-    Refused(String, Error, Vec<&'static str>),
+    /// The unit refused a call: what was asked for, the refusal with its result word, and the
+    /// reason.
+    Refused(String, Error, String),
     /// A call of a script was not answered as the script expects.
     Unexpected(String),
+    /// Two images differ: no failure but an answer, which the status gives as diff(1) does.
+    Differ(String),
+    /// No entry is found where it was looked for without the unit's help.
+    NotFound(String),
     /// The command line or a script is wrong.
     Usage(String),
     /// A host file cannot be read or written.
@@ -32,17 +36,13 @@ impl Failure {
     /// The exit status.
     pub fn status(&self) -> u8 {
         match self {
-            Failure::Refused(..) | Failure::Unexpected(_) => 1,
+            Failure::Refused(..) | Failure::Unexpected(_) | Failure::NotFound(_) => 1,
+            Failure::Differ(_) => 1,
             Failure::Usage(_) => 2,
             Failure::Host(_) => 3,
             Failure::NotUnit(_) => 4,
             Failure::Disagreement(_) => 5,
         }
-    }
-
-    /// The refusal of a call.
-    pub fn refused(what: String, error: Error, call: Call) -> Failure {
-        Failure::Refused(what, error, error.reasons(call))
     }
 
     /// Trouble with a host file.
@@ -54,11 +54,13 @@ impl Failure {
 impl fmt::Display for Failure {
     fn fmt(&self, to: &mut fmt::Formatter) -> fmt::Result {
         match self {
-            Failure::Refused(what, error, reasons) => {
-                let (word, reasons) = (error.word(), reasons.join(", or "));
-                write!(to, "{what}: refused with {word:04X}h: {reasons}")
+            Failure::Refused(what, error, reason) => {
+                let word = error.word();
+                write!(to, "{what}: refused with {word:04X}h: {reason}")
             }
+            Failure::Differ(text) => to.write_str(text),
             Failure::Unexpected(text)
+            | Failure::NotFound(text)
             | Failure::Usage(text)
             | Failure::Host(text)
             | Failure::NotUnit(text) => to.write_str(text),

@@ -1,11 +1,11 @@
-//! What else a user wants to know where an image's length or kit is wrong: both lengths, and
-//! whether the other byte order or a place in the file makes a unit of it.
+//! What else a user wants to know where an image's length or kit is wrong: whether the other byte
+//! order or a place in the file makes a unit of it. What is wrong, the broken rule says.
 
 use reference::layout::{Kit, KIT, MAP_INDEX, SECTOR};
+use ruzkemp::ByteOrder;
 
 use crate::arguments::{LOW, OFFSET};
-use crate::host::{Form, Order};
-use crate::values::count;
+use crate::host::Form;
 
 /// The hints for the words read as a form says, in parentheses behind a message; empty if
 /// length and kit are right.
@@ -20,24 +20,15 @@ pub fn of(image: &[u16], form: Form) -> String {
 /// The hints, one by one.
 pub fn list(image: &[u16], form: Form) -> Vec<String> {
     let sectors = image.len() / SECTOR;
-    let Some(kit) = kit_at(image, 0, false) else {
-        return vec![too_short(sectors, form)];
-    };
-    let is_within = kit.limits().is_ok();
-    if is_within && kit.n == sectors {
+    let kit = kit_at(image, 0, false);
+    let is_within = kit.is_some_and(|kit| kit.limits().is_ok());
+    if is_within && kit.is_some_and(|kit| kit.n == sectors) {
         return Vec::new();
     }
     let mut hints = Vec::new();
-    if kit.n != sectors {
-        let from = from(form);
-        hints.push(format!(
-            "the file has {sectors} sectors{from}, its kit says N = {}",
-            kit.n
-        ));
-    }
     if let Some(offset) = form.offset.filter(|_| !is_within) {
         let sector = offset + KIT as u64;
-        hints.push(format!("the kit was read at sector {sector} of the file"));
+        hints.push(format!("the kit is read at sector {sector} of the file"));
     }
     hints.extend(other_order(image, form));
     if form.offset.is_none() {
@@ -46,23 +37,12 @@ pub fn list(image: &[u16], form: Form) -> Vec<String> {
     hints
 }
 
-fn too_short(sectors: usize, form: Form) -> String {
-    let from = from(form);
-    let sectors = count(sectors as u64, "sector");
-    format!("the file has {sectors}{from}, and the kit is in sector {KIT}")
-}
-
-fn from(form: Form) -> String {
-    let from = |offset| format!(" from sector {offset} on");
-    form.offset.map_or(String::new(), from)
-}
-
 /// That the other byte order makes a kit within limits.
 fn other_order(image: &[u16], form: Form) -> Option<String> {
     let kit = kit_at(image, 0, true).filter(|kit| kit.limits().is_ok())?;
     let with = match form.order {
-        Order::HighFirst => "with",
-        Order::LowFirst => "without",
+        ByteOrder::HighFirst => "with",
+        ByteOrder::LowFirst => "without",
     };
     Some(format!(
         "{with} {} its kit is within limits: N = {}",
@@ -75,7 +55,7 @@ fn place(image: &[u16], form: Form) -> Option<String> {
     let sectors = 0..image.len() / SECTOR;
     let mut places = sectors.flat_map(|sector| [(sector, false), (sector, true)]);
     let (sector, turned) = places.find(|&(sector, turned)| may_begin(image, sector, turned))?;
-    let low = match turned == (form.order == Order::HighFirst) {
+    let low = match turned == (form.order == ByteOrder::HighFirst) {
         true => format!(" {}", LOW.name),
         false => String::new(),
     };

@@ -7,20 +7,29 @@
 
 mod arguments;
 mod commands;
+mod completions;
 mod console;
+mod explained;
 mod failure;
 mod hint;
 mod host;
 mod json;
+mod letters;
+mod manual;
 mod meaning;
+mod numbers;
+mod pages;
 mod palette;
 mod picture;
 mod progress;
+mod report;
 mod room;
 mod script;
 mod session;
 mod terminal;
+mod text;
 mod values;
+mod version;
 mod view;
 
 use std::ffi::OsString;
@@ -53,10 +62,9 @@ fn begin(arguments: &[OsString]) -> Outcome {
     };
     match (first.to_str(), rest) {
         (Some("help" | "--help" | "-h"), []) => console::print(&overview()),
+        (Some("help"), asked) if pages::is_asked(asked) => pages::print(asked),
         (Some("help"), [name]) => console::print(&command(name)?.page()),
-        (Some("--version" | "-V"), []) => {
-            console::print(concat!("ruzkemp ", env!("CARGO_PKG_VERSION"), "\n"))
-        }
+        (Some("--version" | "-V"), []) => console::print(&version::lines()),
         (Some(first @ ("help" | "--help" | "-h" | "--version" | "-V")), _) => {
             Err(Failure::Usage(format!(
                 "{first}: too much is given ({})",
@@ -99,12 +107,14 @@ fn overview() -> String {
     }
     page.push_str(
         "  help     this page; `ruzkemp COMMAND --help` for one command\n\n\
+         `ruzkemp help --man` prints the manual page, `ruzkemp help --completions SHELL` the\n\
+         completions for bash, zsh or fish.\n\n\
          Numbers are decimal or base 16 (0x1F or 1Fh). An image file has 512 bytes a sector,\n\
          the high byte of a word first (--low-byte-first: the low one), and is one unit\n\
          (--offset SECTORS: it holds one). It is changed only where the exit status is 0.\n\n\
-         Exit status: 0 done; 1 refused by the unit (the result word is printed);\n\
-         2 wrong usage or script; 3 trouble with a host file; 4 not the image of a sound unit;\n\
-         5 the proved library and the second implementation disagree.\n",
+         Exit status: 0 done; 1 refused by the unit (the result word is printed), or two images\n\
+         that differ; 2 wrong usage or script; 3 trouble with a host file; 4 not the image of a\n\
+         sound unit; 5 the proved library and the second implementation disagree.\n",
     );
     page
 }

@@ -100,7 +100,7 @@ pub fn svg(view: &View, heading: &str) -> String {
 }
 
 /// The colour of a holder by its number; SYS is the first.
-fn tint(number: usize) -> Colour {
+pub fn tint(number: usize) -> Colour {
     match number {
         0 => SYS,
         _ => colour(number - 1),

@@ -1,6 +1,6 @@
 //! Scripts: lists of messages in a text form, which docs/TOOL.md describes.
 
-use ruzkemp::{Call, Entry, Message, NameWords, Operation, Record, SECTOR};
+use ruzkemp::{Entry, Message, NameWords, Operation, Record, SECTOR};
 
 use crate::values::{attributes, name_words, number, unit, word_list, words};
 
@@ -22,16 +22,6 @@ pub enum Step {
     Format([u16; 9], u16),
     /// Any other call, with the words lent, and what of them is printed.
     Send(Message, Lent, Show),
-}
-
-impl Step {
-    /// Which call it is.
-    pub fn call(&self) -> Call {
-        match self {
-            Step::Format(..) => Call::Format,
-            Step::Send(message, ..) => message.call(),
-        }
-    }
 }
 
 /// The words lent with a call.

@@ -3,16 +3,13 @@
 use std::fs;
 use std::path::{Path, PathBuf};
 
-use reference::soundness;
-use ruzkemp::{is_sound, Call, Error, Name, State, Unit, SECTOR};
+use ruzkemp::{is_sound, Call, Error, Name, State, SECTOR};
 
 use crate::arguments::Given;
+use crate::explained::Explained;
 use crate::failure::{Failure, Outcome};
+use crate::hint;
 use crate::host::{shown, Form, ImageFile, Replacement};
-use crate::{hint, meaning};
-
-/// The reason for a refusal that Init excludes.
-const NOT_INITIALIZED: &str = "the unit is not known or not initialized";
 
 /// An image file's unit, initialized.
 pub struct Session {
@@ -21,13 +18,21 @@ pub struct Session {
     form: Form,
     dry_run: bool,
     /// The unit: every change of the image is one of its calls.
-    pub unit: Unit<Vec<u16>>,
+    pub unit: Explained,
 }
 
 impl Session {
     /// Opens the command's image to read it only.
     pub fn to_read(given: &Given) -> Outcome<Session> {
         Session::of(given, ImageFile::read(given.path(0), given.form()?)?)?.initialized()
+    }
+
+    /// Opens another image of the command, an operand, to read it only.
+    pub fn to_read_at(given: &Given, place: usize) -> Outcome<Session> {
+        let path = given.path(place);
+        let mut session = Session::of(given, ImageFile::read(path, given.form()?)?)?;
+        session.path = path.into();
+        session.initialized()
     }
 
     /// Opens the command's image to change it.
@@ -48,7 +53,7 @@ impl Session {
     }
 
     fn of(given: &Given, file: ImageFile) -> Outcome<Session> {
-        let unit = Unit::new(file.words.clone(), given.unit()?);
+        let unit = Explained::new(file.words.clone(), given.unit()?);
         Ok(Session {
             file,
             path: given.path(0).into(),
@@ -64,25 +69,20 @@ impl Session {
             Err(Error::CatalogUnsound) => Err(unsound(&self.path, self.unit.image(), self.form)),
             Err(error) => {
                 let what = format!("init of unit {}", self.unit.number());
-                Err(Failure::refused(what, error, Call::Init))
+                Err(self.unit.refused(what, error))
             }
         }
     }
 
-    /// Makes a call about a name; what it answers, or the refusal. The unit is initialized, so
-    /// that this cannot be the reason.
+    /// Makes a call about a name; what it answers, or the refusal with its reason.
     pub fn call<T>(
         &mut self,
         call: Call,
         name: Name,
-        make: impl FnOnce(&mut Unit<Vec<u16>>) -> ruzkemp::Result<T>,
+        make: impl FnOnce(&mut Explained) -> ruzkemp::Result<T>,
     ) -> Outcome<T> {
         let what = format!("{} {name}", word(call));
-        make(&mut self.unit).map_err(|error| {
-            let mut reasons = error.reasons(call);
-            reasons.retain(|reason| *reason != NOT_INITIALIZED);
-            Failure::Refused(what, error, reasons)
-        })
+        make(&mut self.unit).map_err(|error| self.unit.refused(what, error))
     }
 
     /// A failure, and behind it what is to be known if the image's length or kit is the reason.
@@ -119,7 +119,7 @@ impl Session {
 
 /// Puts a unit that a command makes in a new file, or with `--force` in the place of an old one;
 /// with `--offset` in its place in a pack that is there.
-pub fn make(given: &Given, made: impl FnOnce() -> Outcome<Unit<Vec<u16>>>) -> Outcome {
+pub fn make(given: &Given, made: impl FnOnce() -> Outcome<Explained>) -> Outcome {
     let (path, form) = (given.path(0), given.form()?);
     if path == Path::new("-") {
         return Err(given.misused("a new image needs a file with a name".into()));
@@ -128,14 +128,14 @@ pub fn make(given: &Given, made: impl FnOnce() -> Outcome<Unit<Vec<u16>>>) -> Ou
         return make_in_pack(given, made);
     }
     let mut file = Replacement::of(path, given.flag("--force"))?;
-    file.write(&form.order.bytes(made()?.image()))?;
+    file.write(&form.bytes(made()?.image()))?;
     match given.is_dry_run() {
         true => file.rehearse(),
         false => file.commit_image(),
     }
 }
 
-fn make_in_pack(given: &Given, made: impl FnOnce() -> Outcome<Unit<Vec<u16>>>) -> Outcome {
+fn make_in_pack(given: &Given, made: impl FnOnce() -> Outcome<Explained>) -> Outcome {
     let path = given.path(0);
     if fs::symlink_metadata(path).is_err() {
         let what = format!(
@@ -158,17 +158,16 @@ fn make_in_pack(given: &Given, made: impl FnOnce() -> Outcome<Unit<Vec<u16>>>) -
 /// The failure that an image which Init does not accept is.
 fn unsound(path: &Path, image: &[u16], form: Form) -> Failure {
     let path = shown(path);
-    match soundness(image, &reference::State::default()) {
-        Err(unsound) => {
-            let broken = meaning::of_unsound(&unsound);
+    match reference::findings(image).first() {
+        Some(first) => {
+            let number = first.rule.number();
             Failure::NotUnit(format!(
-                "{path}: not a sound unit (Init answers 9000h): {}: {}{}",
-                broken.rule,
-                broken.found,
+                "{path}: not a sound unit: rule {number} (docs/RULES.md): {first}{} \
+                 (ruzkemp check --all says more)",
                 hint::of(image, form)
             ))
         }
-        Ok(_) => Failure::Disagreement(format!(
+        None => Failure::Disagreement(format!(
             "{path}: the proved library does not accept the image, the second implementation \
              finds it sound"
         )),
@@ -203,7 +202,7 @@ pub fn word(call: Call) -> &'static str {
 
 #[cfg(test)]
 mod tests {
-    use ruzkemp::{Attributes, Record, Role};
+    use ruzkemp::{Attributes, Record, Role, Unit};
 
     use super::*;
     use crate::host::bytes_of;
@@ -215,7 +214,7 @@ mod tests {
         let bytes = bytes_of(new.image());
         fs::write(&path, &bytes).expect("written");
         let file = ImageFile::read_to_change(&path, Form::default(), None).expect("read");
-        let unit = Unit::new(file.words.clone(), 0);
+        let unit = Explained::new(file.words.clone(), 0);
         let session = Session {
             file,
             path: path.clone(),
@@ -241,15 +240,5 @@ mod tests {
         fs::remove_file(&path).expect("removed");
         assert_eq!(failure.status(), 4);
         assert!(kept == bytes);
-    }
-
-    #[test]
-    fn the_reason_that_init_excludes_is_a_reason() {
-        for (error, call) in [
-            (Error::CatalogParameter, Call::Remove),
-            (Error::AreaIllegal, Call::Output),
-        ] {
-            assert!(error.reasons(call).contains(&NOT_INITIALIZED));
-        }
     }
 }

@@ -60,7 +60,7 @@ impl View {
         let listed = session.unit.list();
         let entries = listed.map_err(|error| {
             let what = format!("list of unit {number}");
-            Failure::refused(what, error, ruzkemp::Call::Listing)
+            session.unit.refused(what, error)
         })?;
         let image = session.unit.image();
         let plain = Plain::read(image, &reference::State::new(number)).map_err(|unsound| {

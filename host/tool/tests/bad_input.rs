@@ -108,13 +108,13 @@ fn a_truncated_or_lengthened_unit_is_told() {
     folder.bad(
         &["ls", "a.img"],
         4,
-        "its length is not that of the kit's N sectors",
+        "the image has 19 sectors (9728 bytes), the kit says 20 sectors (10240 bytes)",
     );
     folder.write("a.img", &[&whole[..], &[0; 512]].concat());
     folder.bad(
         &["ls", "a.img"],
         4,
-        "its length is not that of the kit's N sectors",
+        "the image has 21 sectors (10752 bytes), the kit says 20 sectors (10240 bytes)",
     );
 }
 
@@ -357,10 +357,6 @@ fn wrong_usage_is_told() {
             "--tail: 6 words expected, 2 given",
         ),
         (
-            &["format", "b.img", "--sectors", "20"],
-            "--keys has to be given",
-        ),
-        (
             &["get", "a.img", "PASS", "out", "--bytes", "x"],
             "--bytes: 'x' is no number",
         ),
@@ -473,7 +469,7 @@ fn the_limits_of_format_are_told() {
         "1",
         "--force",
     ];
-    folder.bad(&arguments, 1, "256 words for each sector");
+    folder.bad(&arguments, 1, "the file has 20 sectors, and N is 22");
 }
 
 #[test]

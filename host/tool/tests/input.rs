@@ -234,12 +234,12 @@ fn a_host_file_too_large_for_a_fixed_file_is_told_why() {
     folder.bad(
         &put,
         1,
-        "change FIX (needed: 101 slices for 200 sectors and the index; its own: 1; free: 3): \
-         refused with 1100h: there are not enough free slices",
+        "change FIX: refused with 1100h: there are not enough free slices: 100 are needed and 3 \
+         are free\n",
     );
     // 7 sectors and the index need the 4 slices, 8 do not fit in them.
     folder.write("host", &[1; 512 * 7 + 1]);
-    folder.bad(&put, 1, "needed: 5 slices for 8 sectors");
+    folder.bad(&put, 1, "4 are needed and 3 are free\n");
     folder.write("host", &[1; 512 * 7]);
     folder.good(&put);
     // A word that is negative would keep the length.
@@ -254,5 +254,5 @@ fn a_host_file_too_large_for_a_fixed_file_is_told_why() {
     }
     let file = fs::File::create(folder.file("host")).expect("created");
     file.set_len(512 * 32_767).expect("a sparse file");
-    folder.bad(&put, 1, "needed: 16384 slices for 32767 sectors");
+    folder.bad(&put, 1, "16380 are needed and 0 are free\n");
 }

@@ -212,11 +212,7 @@ fn places_past_the_end_are_told() {
             4,
             "u.img: not a unit image: it has no sector 70000",
         ),
-        (
-            "15",
-            4,
-            "(the file has 5 sectors from sector 15 on, and the kit is in sector 8)",
-        ),
+        ("15", 4, "(the kit is read at sector 23 of the file)"),
         ("0x7FFFFFFFFFFFFFFF", 2, "is past the end of any file"),
         ("-1", 2, "--offset: '-1' is no number"),
         ("x", 2, "--offset: 'x' is no number"),
@@ -234,8 +230,8 @@ fn the_other_byte_order_is_told() {
     let unit = folder.read("u.img");
     folder.write("low.img", &turned(&unit));
     // N is 0014h, 1400h the other way round.
-    let with = "the file has 20 sectors, its kit says N = 5120; with --low-byte-first its kit is \
-                within limits: N = 20";
+    let lengths = "the image has 20 sectors (10240 bytes), the kit says 5120 sectors";
+    let with = "with --low-byte-first its kit is within limits: N = 20";
     let without = with.replace("with --low", "without --low");
     let commands = COMMANDS
         .iter()
@@ -245,7 +241,8 @@ fn the_other_byte_order_is_told() {
             .iter()
             .map(|argument| argument.replace("u.img", "low.img").leak() as &str)
             .collect();
-        folder.bad(&low, 4, &format!("({with})"));
+        let done = folder.bad(&low, 4, &format!("({with})"));
+        assert!(done.err.contains(lengths), "{done:?}");
         let wrong = [arguments, &["--low-byte-first"][..]].concat();
         folder.bad(&wrong, 4, &format!("({without})"));
     }
@@ -253,15 +250,15 @@ fn the_other_byte_order_is_told() {
     let checked = folder
         .bad(&["check", "low.img"], 4, "low.img: not a sound unit")
         .out;
-    for hint in with.split("; ") {
-        assert!(checked.contains(&format!(" {hint}\n")), "{checked}");
+    for said in [lengths, &format!("note: {with}\n")] {
+        assert!(checked.contains(said), "{checked}");
     }
     // In a pack, too.
     folder.write("pack", &packed(&turned(&unit)));
     let hint = "with --low-byte-first its kit is within limits: N = 20";
     let done = folder.bad(&["ls", "pack", "--offset", OFFSET], 4, hint);
     // 11 sectors before it, and 8 in it.
-    let place = "the kit was read at sector 19 of the file";
+    let place = "the kit is read at sector 19 of the file";
     assert!(done.err.contains(place), "{done:?}");
 }
 
@@ -283,11 +280,11 @@ fn both_lengths_are_told_and_where_a_unit_may_be() {
     let folder = folder();
     let unit = folder.read("u.img");
     folder.write("cut.img", &unit[..512 * 19]);
-    let lengths = "(the file has 19 sectors, its kit says N = 20)";
+    let lengths = "the image has 19 sectors (9728 bytes), the kit says 20 sectors (10240 bytes)";
     folder.bad(&["ls", "cut.img"], 4, lengths);
     folder.write("long.img", &[&unit[..], &[0; 1024]].concat());
-    let told = "(the file has 22 sectors, its kit says N = 20; a unit may begin at sector 0 of \
-                it: --offset 0)";
+    let told = "the image has 22 sectors (11264 bytes), the kit says 20 sectors (10240 bytes) (a \
+                unit may begin at sector 0 of it: --offset 0)";
     folder.bad(&["ls", "long.img"], 4, told);
     folder.good(&["ls", "long.img", "--offset", "0"]);
     folder.write("pack", &[&[0; 512 * 11][..], &unit].concat());

@@ -12,7 +12,7 @@ use std::sync::OnceLock;
 use common::{Done, Folder};
 
 /// Commands that write a file and then print what they have done.
-const WRITING: [&[&str]; 17] = [
+const WRITING: [&[&str]; 24] = [
     &["create", "a.img", "NEW", "--size", "1"],
     &["set", "a.img", "NEW", "--tail", "1,2,3,4,5,6"],
     &["change", "a.img", "PASS", "--size", "1"],
@@ -39,17 +39,32 @@ const WRITING: [&[&str]; 17] = [
     &["get", "a.img", "PASS", "host", "--force"],
     &["map", "a.img", "--svg", "out"],
     &["map", "a.img", "--svg", "host", "--force"],
+    &["report", "a.img", "-o", "out"],
+    &["report", "a.img", "-o", "host", "--force"],
+    &["get", "a.img", "PASS", "out", "--unsound"],
+    &["get", "a.img", "PASS", "GATE", "--into", "new"],
+    &["get", "a.img", "--all", "new"],
+    &["put", "a.img", "host", "--from", "."],
+    &["put", "a.img", "NEW", "host", "--text", "--danish"],
 ];
 
 /// Commands that print before they commit, if they do that at all.
-const PRINTING: [&[&str]; 12] = [
+const PRINTING: [&[&str]; 20] = [
     &["run", "a.img", "script"],
     &["run", "a.img", "open", "--close"],
     &["check", "a.img"],
+    &["check", "a.img", "--json"],
+    &["ls", "a.img", "--unsound"],
+    &["map", "a.img", "--unsound"],
+    &["dump", "a.img", "8"],
+    &["report", "a.img", "-o", "-"],
     &["ls", "a.img"],
     &["ls", "a.img", "--json"],
     &["show", "a.img", "PASS"],
+    &["show", "a.img", "PASS", "--json"],
     &["map", "a.img"],
+    &["map", "a.img", "--json"],
+    &["diff", "a.img", "a.img"],
     &["map", "a.img", "--svg", "-"],
     &["get", "a.img", "PASS", "-"],
     &["help"],
@@ -233,7 +248,7 @@ fn a_script_that_cannot_print_to_its_end_changes_nothing() {
 fn a_dry_run_that_cannot_report_changes_nothing() {
     for short in WRITING
         .iter()
-        .filter(|short| !["get", "map"].contains(&short[0]))
+        .filter(|short| !["get", "map", "report"].contains(&short[0]))
     {
         let arguments = [&arguments(short)[..], &["--dry-run"]].concat();
         for ran in all(&arguments) {

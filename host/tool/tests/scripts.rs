@@ -83,7 +83,7 @@ fn a_fourth_user_is_refused_as_on_paper() {
     assert_eq!(done.status, 0, "{done:?}");
     let refused =
         "7 reserve PASS: result=0808h bytes=0 block=0 entries=0  # all three user entries \
-                   are taken, or the sender's open count is 65,535\n";
+                   are taken\n";
     assert!(done.out.contains(refused), "{done:?}");
     let ends = done.out.lines().filter(|line| line.starts_with("end "));
     let ends: Vec<&str> = ends
@@ -270,13 +270,14 @@ format keys=1 slice=5 sectors=20 first=10 words=1,2
 }
 
 /// What is told of an input at the end of a fixed file.
-const FIXED_END: &str = "0A00h bytes=0 block=2 entries=0  # the unit is not known or not \
-                         initialized, or the position is negative, or the position is at the end \
-                         of a fixed file";
-/// What is told of one at the end of an extendable file, and past the end of any file.
-const OTHER_END: &str = "0810h bytes=0 block=2 entries=0  # the sender is 0, or the sender is no \
-                         user, or the position is past the length, or the position is at the end \
-                         of an extendable file";
+const FIXED_END: &str =
+    "0A00h bytes=0 block=2 entries=0  # the position is at the end of a fixed file";
+/// What is told of one at the end of an extendable file.
+const OTHER_END: &str =
+    "0810h bytes=0 block=2 entries=0  # the position is at the end of an extendable file";
+/// What is told of one past the end of any file.
+const PAST_END: &str =
+    "0810h bytes=0 block=2 entries=0  # the position is past the length: 3 is above 2";
 
 #[test]
 fn the_end_of_a_file_is_told_by_its_kind() {
@@ -292,7 +293,7 @@ fn the_end_of_a_file_is_told_by_its_kind() {
         assert_eq!(done.status, 0, "{done:?}");
         let lines: Vec<&str> = done.out.lines().skip(4).take(4).collect();
         let line = |number, words| format!("{number} input {name}: result={words}");
-        let expected = [line(5, end), line(6, end), line(7, OTHER_END), line(8, end)];
+        let expected = [line(5, end), line(6, end), line(7, PAST_END), line(8, end)];
         assert_eq!(lines, expected);
         // Where a script does not expect the end, it stops there.
         let (word, means) = (&end[..5], end.split_once("# ").expect("it is told").1);

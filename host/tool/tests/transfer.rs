@@ -131,7 +131,7 @@ fn files_whose_names_differ_in_case_only_have_their_own_bytes() {
         folder.good(&["get", "a.img", name, "out", "--bytes", count, "--force"]);
         assert!(folder.read("out") == *host, "{name}");
     }
-    let unknown = "create-area pass: refused with 4800h: the name does not stand in the catalog";
+    let unknown = "create-area pass: refused with 4800h: pass does not stand in the catalog";
     folder.bad(&["get", "a.img", "pass", "new"], 1, unknown);
     // What replaces one leaves the other.
     folder.good(&["put", "a.img", "Pass", "large", "--replace"]);

@@ -8,20 +8,20 @@ use crate::sound::{Entry, Survey};
 use crate::types::{Answer, Name, State};
 
 /// What a Change asks for: the file as it would stand after the message.
-struct Changed {
-    name: Name,
+pub(super) struct Changed {
+    pub(super) name: Name,
     attributes: u16,
     length: u16,
     /// How many slices the file shall have.
-    wanted: usize,
+    pub(super) wanted: usize,
 }
 
 impl Changed {
-    fn renames(&self, entry: &Entry) -> bool {
+    pub(super) fn renames(&self, entry: &Entry) -> bool {
         self.name != entry.name()
     }
 
-    fn resizes(&self, entry: &Entry) -> bool {
+    pub(super) fn resizes(&self, entry: &Entry) -> bool {
         self.length != entry.words[7]
     }
 }
@@ -48,7 +48,7 @@ pub(super) fn change(image: &mut [u16], state: &State, name: Name, lent: &[u16])
 }
 
 /// Question 4: name kept if entry word 0 is 0, attributes or length if negative.
-fn changed(kit: &Kit, entry: &Entry, lent: &[u16]) -> Result<Changed, Question> {
+pub(super) fn changed(kit: &Kit, entry: &Entry, lent: &[u16]) -> Result<Changed, Question> {
     if lent.len() < ENTRY {
         return Err(Question::Legal);
     }

@@ -6,6 +6,7 @@ mod change;
 mod formatting;
 mod image;
 mod question;
+mod reasons;
 mod slices;
 mod transput;
 
@@ -17,6 +18,7 @@ use question::Refusal;
 pub use formatting::{explain_format, format};
 pub(crate) use image::{book, count_free, enter, mark, write_index};
 pub use question::Question;
+pub use reasons::{format_reason, reason, Reason};
 
 type Outcome = Result<Answer, Refusal>;
 

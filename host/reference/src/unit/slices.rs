@@ -32,6 +32,67 @@ pub(super) struct Plan {
     pub(super) file: Vec<usize>,
 }
 
+/// The slices that a message asks for.
+pub(super) struct Demand {
+    /// SYS's layers after it.
+    layers: usize,
+    /// SYS's slices after it.
+    sys_slices: usize,
+    /// How many more SYS takes.
+    pub(super) for_sys: usize,
+    /// How many more the file takes.
+    pub(super) for_file: usize,
+    /// How many are free.
+    pub(super) free: usize,
+}
+
+/// What a message asks for. `entering` is the key that needs a place, with a place that counts as
+/// unused; the file has `held` slices and shall have `wanted`.
+pub(super) fn demand(
+    image: &[u16],
+    survey: &Survey,
+    entering: Option<(usize, Option<(usize, usize)>)>,
+    held: usize,
+    wanted: usize,
+) -> Demand {
+    let kit = &survey.kit;
+    let full = entering.is_some_and(|(key, counted_unused)| {
+        unused_place(image, kit, &survey.sys, survey.layers, key, counted_unused).is_none()
+    });
+    let layers = survey.layers + full as usize;
+    let sys_slices = (kit.h * layers).div_ceil(kit.s);
+    let free = free_slices(image, kit).into_iter();
+    Demand {
+        layers,
+        sys_slices,
+        for_sys: sys_slices - survey.sys.len(),
+        for_file: wanted.saturating_sub(held),
+        free: free.filter(|&free| free).count(),
+    }
+}
+
+/// The slices that SYS and the file have when it is met; there are enough.
+pub(super) fn chosen(
+    image: &[u16],
+    survey: &Survey,
+    demand: &Demand,
+    held: &[usize],
+    wanted: usize,
+) -> Plan {
+    let mut free = free_slices(image, &survey.kit);
+    let mut sys = survey.sys.clone();
+    while sys.len() < demand.sys_slices {
+        take(&mut free, &mut sys);
+    }
+    let mut file = held.to_vec();
+    file.truncate(wanted);
+    while file.len() < wanted {
+        take(&mut free, &mut file);
+    }
+    let layers = demand.layers;
+    Plan { layers, sys, file }
+}
+
 /// Catalog questions 7 and 8. `entering` is the key that needs a place, with a place that
 /// counts as unused; `held` are the file's slices and `wanted` how many it shall have.
 pub(super) fn plan(
@@ -41,30 +102,15 @@ pub(super) fn plan(
     held: &[usize],
     wanted: usize,
 ) -> Result<Plan, Question> {
-    let kit = &survey.kit;
-    let full = entering.is_some_and(|(key, counted_unused)| {
-        unused_place(image, kit, &survey.sys, survey.layers, key, counted_unused).is_none()
-    });
-    let layers = survey.layers + full as usize;
-    let sys_slices = (kit.h * layers).div_ceil(kit.s);
-    let mut free = free_slices(image, kit);
-    let enough = free.iter().filter(|&&free| free).count();
-    if sys_slices - survey.sys.len() + wanted.saturating_sub(held.len()) > enough {
+    let demand = demand(image, survey, entering, held.len(), wanted);
+    if demand.for_sys + demand.for_file > demand.free {
         return Err(Question::EnoughFree);
     }
-    let mut sys = survey.sys.clone();
-    while sys.len() < sys_slices {
-        take(&mut free, &mut sys);
-    }
-    let mut file = held.to_vec();
-    file.truncate(wanted);
-    while file.len() < wanted {
-        take(&mut free, &mut file);
-    }
-    if stretches(&sys).len() > STRETCHES || stretches(&file).len() > STRETCHES {
+    let plan = chosen(image, survey, &demand, held, wanted);
+    if stretches(&plan.sys).len() > STRETCHES || stretches(&plan.file).len() > STRETCHES {
         return Err(Question::FewStretches);
     }
-    Ok(Plan { layers, sys, file })
+    Ok(plan)
 }
 
 /// Lets SYS grow as planned.

@@ -3,16 +3,17 @@
 use std::fs;
 use std::path::Path;
 
-use reference::layout::Kit;
-use ruzkemp::{Call, Error, Record, Unit};
+use ruzkemp::{Error, Record};
 
 use crate::arguments::{flag, valued, Command, Given, DRY_RUN, LOW, OFFSET, UNIT};
 use crate::console::report;
+use crate::explained::Explained;
 use crate::failure::{Failure, Outcome};
-use crate::host::shown;
+use crate::host::{shown, SECTOR_BYTES};
 use crate::meaning;
+use crate::numbers::{Numbers, Wanted, OPTIONS};
 use crate::session::{make, Session};
-use crate::values::{number, words};
+use crate::values;
 
 /// `format`.
 pub const FORMAT: Command = Command {
@@ -22,18 +23,18 @@ pub const FORMAT: Command = Command {
         valued(
             "--sectors",
             "N",
-            "N, the sectors of the unit, at most 32767",
+            "N, the sectors of the unit, at most 32767 (1034)",
         ),
-        valued("--first", "F", "F, the first data sector, at least 10"),
+        valued("--first", "F", "F, the first data sector, at least 10 (10)"),
         valued(
             "--slice",
             "S",
-            "s, the sectors of a slice, 2 to 64, a divisor of N - F",
+            "s, the sectors of a slice, 2 to 64, a divisor of N - F (4)",
         ),
         valued(
             "--keys",
             "H",
-            "H, the keys of the catalog: SYS's size, 1 to 64",
+            "H, the keys of the catalog: SYS's size, 1 to 64 (8)",
         ),
         valued("--words", "W,W", "kit words 6 and 7 (0,0 if not given)"),
         flag("--force", "format a file that exists: its catalog is lost"),
@@ -46,50 +47,99 @@ pub const FORMAT: Command = Command {
     summary: "Write an empty catalog on a new image file, or with --force on an old one",
     about: "Sends Format. A new file has N sectors of zero words. Of an old one, which must have\n\
             N sectors, Format leaves all words but sectors 6 to 9 and SYS as they are, unless\n\
-            --new is given too.",
+            --new is given too. Numbers that are not given are chosen so that they suit those\n\
+            that are; in brackets those of a unit of which none is given. An old file keeps its\n\
+            length. Where the numbers are refused, the nearest legal ones are told.",
     run: format,
 };
 
 fn format(given: &Given) -> Outcome {
     let path = given.path(0);
-    let record = record(given)?;
     let there = fs::symlink_metadata(path).is_ok();
-    if there && given.flag("--force") && !given.flag("--new") {
+    let stays = there && given.flag("--force") && !given.flag("--new");
+    let wanted = wanted(given, stays)?;
+    let record = record(given, &wanted)?;
+    if stays {
         let mut session = Session::to_format(given, record.sectors)?;
-        told(&record, session.unit.format(&record))?;
+        formatted(&mut session.unit, &record, &wanted)?;
         session.write_back()?;
     } else {
         make(given, || {
-            let made = Unit::formatted(&record);
-            made.map_err(|error| refused(&record, error))
+            let mut unit = Explained::new(vec![0; record.image_words()], record.unit);
+            formatted(&mut unit, &record, &wanted)?;
+            Ok(unit)
         })?;
     }
     report(&described(path, &record));
     Ok(())
 }
 
-fn record(given: &Given) -> Outcome<Record> {
-    let keys = given.needed("--keys", number)?;
-    let slice = given.needed("--slice", number)?;
-    let sectors = given.needed("--sectors", number)?;
-    let first = given.needed("--first", number)?;
+/// The numbers that are given, and the length of a file that stays. How much of a pack is the
+/// unit's has to be given.
+fn wanted(given: &Given, stays: bool) -> Outcome<Wanted> {
+    let mut wanted = Wanted::default();
+    for (number, option) in wanted.given.iter_mut().zip(OPTIONS) {
+        *number = given.value(option, values::number)?;
+    }
+    if given.flag(OFFSET.name) {
+        given.needed(OPTIONS[0], values::number)?;
+    } else if stays {
+        let metadata = fs::metadata(given.path(0)).ok();
+        let sectors = metadata.map(|metadata| metadata.len() / SECTOR_BYTES as u64);
+        wanted.file = sectors.and_then(|sectors| u16::try_from(sectors).ok());
+    }
+    Ok(wanted)
+}
+
+fn record(given: &Given, wanted: &Wanted) -> Outcome<Record> {
+    let Numbers {
+        sectors,
+        first,
+        slice,
+        keys,
+    } = wanted.chosen();
     let mut record = Record::new(given.unit()?, keys, slice, sectors, first);
-    record.carried = given.value("--words", words::<2>)?.unwrap_or_default();
+    let carried = given.value("--words", values::words::<2>)?;
+    record.carried = carried.unwrap_or_default();
     Ok(record)
 }
 
-fn told(record: &Record, result: ruzkemp::Result<()>) -> Outcome {
-    result.map_err(|error| refused(record, error))
+/// Formats a unit.
+fn formatted(unit: &mut Explained, record: &Record, wanted: &Wanted) -> Outcome {
+    let result = unit.format(record);
+    result.map_err(|error| refused(unit, record, wanted, error))
 }
 
-/// The refusal, with the limit that the numbers break, if they break one.
-fn refused(record: &Record, error: Error) -> Failure {
-    let kit = Kit::from_words(&record.words()[1..7]);
-    let mut what = format!("format of unit {}", record.unit);
-    if let Err(fault) = kit.limits() {
-        what += &format!(": {}", meaning::of_limit(fault));
-    }
-    Failure::refused(what, error, Call::Format)
+/// The refusal; where the numbers are the reason, with the limit that they break, named as an
+/// option, and the nearest numbers that are legal.
+fn refused(unit: &Explained, record: &Record, wanted: &Wanted, error: Error) -> Failure {
+    let what = format!("format of unit {}", record.unit);
+    let failure = unit.refused(what, error);
+    let numbers = wanted.chosen();
+    let broken = match (wanted.file, numbers.broken()) {
+        // Better numbers would not help a unit that is not known.
+        _ if record.unit > 3 => None,
+        (Some(file), _) if file != numbers.sectors => {
+            let sectors = numbers.sectors;
+            Some(format!("the file has {file} sectors, and N is {sectors}"))
+        }
+        (_, fault) => fault.map(|fault| meaning::of_limit(fault).into()),
+    };
+    let (Failure::Refused(what, error, _), Some(broken)) = (&failure, broken) else {
+        return failure;
+    };
+    let Numbers {
+        sectors,
+        first,
+        slice,
+        keys,
+    } = numbers;
+    let nearest = match wanted.nearest() {
+        none if none.is_empty() => String::new(),
+        nearest => format!(" (legal: {})", nearest.join(", ")),
+    };
+    let what = format!("{what} with N {sectors}, F {first}, s {slice}, H {keys}");
+    Failure::Refused(what, *error, format!("{broken}{nearest}"))
 }
 
 fn described(path: &Path, record: &Record) -> String {

@@ -2,7 +2,8 @@
 
 use ruzkemp::{Call, Entry};
 
-use crate::arguments::{flag, Command, Given, LOW, OFFSET, UNIT};
+use super::rescue::{self, FIRST, KEYS, SLICE, UNSOUND};
+use crate::arguments::{flag, Choice, Command, Given, LOW, OFFSET, UNIT};
 use crate::console::print;
 use crate::failure::Outcome;
 use crate::host::SECTOR_BYTES;
@@ -11,12 +12,19 @@ use crate::session::Session;
 use crate::values::count;
 use crate::view::{Holder, View};
 
+/// The option for programs that read what is printed.
+const JSON: Choice = flag("--json", "print JSON");
+
 /// `ls`.
 pub const LS: Command = Command {
     name: "ls",
     operands: &["IMAGE"],
     choices: &[
         flag("--json", "print JSON in place of a table"),
+        UNSOUND,
+        KEYS,
+        SLICE,
+        FIRST,
         UNIT,
         LOW,
         OFFSET,
@@ -32,13 +40,16 @@ pub const LS: Command = Command {
 pub const SHOW: Command = Command {
     name: "show",
     operands: &["IMAGE", "NAME"],
-    choices: &[UNIT, LOW, OFFSET],
+    choices: &[JSON, UNSOUND, KEYS, SLICE, FIRST, UNIT, LOW, OFFSET],
     summary: "Show a file's entry and where its slices lie",
-    about: "Sends Look-up Entry.",
+    about: "Sends Look-up Entry. With --unsound NAME may be SECTOR:PLACE.",
     run: show,
 };
 
 fn ls(given: &Given) -> Outcome {
+    if rescue::asked(given)? {
+        return rescue::ls(given);
+    }
     let view = View::of(&mut Session::to_read(given)?)?;
     match given.flag("--json") {
         true => print(&json::listing(&view)),
@@ -70,12 +81,18 @@ fn table(view: &View) -> String {
 }
 
 fn show(given: &Given) -> Outcome {
+    if rescue::asked(given)? {
+        return rescue::show(given);
+    }
     let name = given.name(1)?;
     let mut session = Session::to_read(given)?;
     let entry = session.call(Call::LookUp, name, |unit| unit.look_up(name))?;
     let view = View::of(&mut session)?;
     let holder = view.files.iter().find(|file| file.name == name);
-    print(&shown(&view, &entry, holder))
+    match holder {
+        Some(holder) if given.flag(JSON.name) => print(&json::file(&view, holder)),
+        _ => print(&shown(&view, &entry, holder)),
+    }
 }
 
 fn shown(view: &View, entry: &Entry, holder: Option<&Holder>) -> String {

@@ -2,13 +2,14 @@
 
 use std::path::Path;
 
+use super::rescue::{self, FIRST, KEYS, SLICE, UNSOUND};
 use crate::arguments::{flag, valued, Command, Given, LOW, OFFSET, UNIT};
 use crate::console::{colours, print, report};
 use crate::failure::Outcome;
 use crate::host::{shown, Replacement};
 use crate::session::Session;
 use crate::view::View;
-use crate::{picture, terminal};
+use crate::{json, picture, terminal};
 
 /// `map`.
 pub const MAP: Command = Command {
@@ -21,6 +22,14 @@ pub const MAP: Command = Command {
             "draw a picture into FILE (- is standard output)",
         ),
         flag("--force", "replace FILE if it exists"),
+        flag(
+            "--json",
+            "print JSON: all stretches, in the order of the slices",
+        ),
+        UNSOUND,
+        KEYS,
+        SLICE,
+        FIRST,
         UNIT,
         LOW,
         OFFSET,
@@ -34,7 +43,13 @@ pub const MAP: Command = Command {
 };
 
 fn map(given: &Given) -> Outcome {
+    if rescue::asked(given)? {
+        return rescue::map(given);
+    }
     let view = View::of(&mut Session::to_read(given)?)?;
+    if given.flag("--json") {
+        return in_json(given, &view);
+    }
     let Some(path) = given.raw("--svg").map(Path::new) else {
         return print(&terminal::map(&view, colours()));
     };
@@ -49,4 +64,11 @@ fn map(given: &Given) -> Outcome {
     file.commit()?;
     report(&format!("{}: picture written\n", shown(path)));
     Ok(())
+}
+
+fn in_json(given: &Given, view: &View) -> Outcome {
+    match given.flag("--svg") {
+        true => Err(given.misused("--json and --svg exclude each other".into())),
+        false => print(&json::map(view)),
+    }
 }

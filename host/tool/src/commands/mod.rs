@@ -2,9 +2,14 @@
 
 mod catalog;
 mod check;
+mod diff;
+mod dump;
 mod format;
 mod listing;
+mod many;
 mod map;
+mod report;
+mod rescue;
 mod run;
 mod sample;
 mod transfer;
@@ -16,9 +21,12 @@ pub const COMMANDS: &[&Command] = &[
     &format::FORMAT,
     &sample::SAMPLE,
     &check::CHECK,
+    &diff::DIFF,
     &listing::LS,
     &listing::SHOW,
     &map::MAP,
+    &dump::DUMP,
+    &report::REPORT,
     &catalog::CREATE,
     &catalog::SET,
     &catalog::CHANGE,

@@ -4,10 +4,11 @@ use std::fs;
 use std::io::{self, Read};
 use std::path::Path;
 
-use ruzkemp::{Answer, Call, Entry, Error, Message, Operation, Unit, ENTRY, SECTOR};
+use ruzkemp::{Answer, Entry, Error, Message, Operation, Unit, ENTRY, SECTOR};
 
 use crate::arguments::{flag, Command, Given, DRY_RUN, LOW, OFFSET, UNIT};
 use crate::console::{print, report};
+use crate::explained::Explained;
 use crate::failure::{Failure, Outcome};
 use crate::host::{bytes_of, shown};
 use crate::script::{parse, Lent, Line, Show, Step};
@@ -72,32 +73,41 @@ fn read(path: &Path) -> Outcome<String> {
 
 /// Does what a line asks for and hands its answer to `tell`.
 pub fn obey(
-    unit: &mut Unit<Vec<u16>>,
+    unit: &mut Explained,
     line: &Line,
     keep_going: bool,
     tell: impl Fn(&str) -> Outcome,
 ) -> Outcome {
     let (answer, handed) = perform(unit, &line.step);
+    let refusal = refusal(unit, &answer)?;
+    let place = line.number.to_string();
     tell(&answer_line(
-        &line.number.to_string(),
+        &place,
         &line.title,
-        line.step.call(),
         &answer,
         &handed,
+        &refusal,
     ))?;
-    let what = format!("line {}, {}", line.number, line.title);
-    match (line.expected, Error::from_word(answer.result)) {
+    let what = format!("line {place}, {}", line.title);
+    match (line.expected, refusal) {
         (Some(expected), _) if expected != answer.result => Err(Failure::Unexpected(format!(
             "{what}: answered {:04X}h, and {expected:04X}h is expected",
             answer.result
         ))),
-        (None, Some(error)) if !keep_going => Err(Failure::refused(what, error, line.step.call())),
+        (None, Some((error, reason))) if !keep_going => Err(Failure::Refused(what, error, reason)),
         _ => Ok(()),
     }
 }
 
+/// The refusal that an answer is, if it is one, and its reason.
+fn refusal(unit: &Explained, answer: &Answer) -> Outcome<Option<(Error, String)>> {
+    let error = Error::from_word(answer.result);
+    let reason = |error| Ok((error, unit.reason(error)?));
+    error.map(reason).transpose()
+}
+
 /// The answer to a step, and what is printed of the words handed back.
-fn perform(unit: &mut Unit<Vec<u16>>, step: &Step) -> (Answer, String) {
+fn perform(unit: &mut Explained, step: &Step) -> (Answer, String) {
     match step {
         Step::Format(record, bytes) => {
             let result = unit.format_words(record, *bytes);
@@ -155,15 +165,21 @@ fn handed_back(words: &[u16], show: Show) -> String {
 }
 
 /// An answer in the form that docs/TOOL.md describes.
-fn answer_line(place: &str, title: &str, call: Call, answer: &Answer, handed: &str) -> String {
+fn answer_line(
+    place: &str,
+    title: &str,
+    answer: &Answer,
+    handed: &str,
+    refusal: &Option<(Error, String)>,
+) -> String {
     let Answer {
         result,
         bytes,
         block,
         entries,
     } = answer;
-    let meaning = match Error::from_word(*result) {
-        Some(error) => format!("  # {}", error.reasons(call).join(", or ")),
+    let meaning = match refusal {
+        Some((_, reason)) => format!("  # {reason}"),
         None => String::new(),
     };
     format!(
@@ -173,7 +189,7 @@ fn answer_line(place: &str, title: &str, call: Call, answer: &Answer, handed: &s
 }
 
 /// Releases all users and removes all area processes, which books their lengths.
-fn close_all(unit: &mut Unit<Vec<u16>>) -> Outcome {
+fn close_all(unit: &mut Explained) -> Outcome {
     let areas: Vec<_> = unit.state().areas().collect();
     for area in areas {
         let name = area.name.on_unit(unit.number());
@@ -193,11 +209,17 @@ fn close_all(unit: &mut Unit<Vec<u16>>) -> Outcome {
     Ok(())
 }
 
-fn close(unit: &mut Unit<Vec<u16>>, title: &str, message: &Message) -> Outcome {
+fn close(unit: &mut Explained, title: &str, message: &Message) -> Outcome {
     let answer = unit.perform(message, &mut []);
-    print(&answer_line("end", title, message.call(), &answer, ""))?;
-    let refused = |error| Failure::refused(format!("at the end, {title}"), error, message.call());
-    Error::check(answer.result).map_err(refused)
+    let refusal = refusal(unit, &answer)?;
+    print(&answer_line("end", title, &answer, "", &refusal))?;
+    match refusal {
+        Some((error, reason)) => {
+            let what = format!("at the end, {title}");
+            Err(Failure::Refused(what, error, reason))
+        }
+        None => Ok(()),
+    }
 }
 
 /// Whether no area process is open: without the state, an image on which one is open need not

@@ -1,10 +1,9 @@
 //! `sample`: a sample disc, made by a script through the same calls as any other.
 
-use ruzkemp::Unit;
-
 use crate::arguments::{flag, Command, Given, DRY_RUN, LOW, OFFSET, UNIT};
 use crate::commands::run::{all_closed, obey};
 use crate::console::report;
+use crate::explained::Explained;
 use crate::failure::{Failure, Outcome};
 use crate::host::shown;
 use crate::script::{parse, Line, Step};
@@ -38,12 +37,12 @@ fn sample(given: &Given) -> Outcome {
     Ok(())
 }
 
-fn made(lines: &[Line], number: u16) -> Outcome<Unit<Vec<u16>>> {
+fn made(lines: &[Line], number: u16) -> Outcome<Explained> {
     let words = lines.iter().find_map(|line| match line.step {
         Step::Format(record, _) => Some(ruzkemp::Record::from_words(record).image_words()),
         _ => None,
     });
-    let mut unit = Unit::new(vec![0; words.unwrap_or(0)], number);
+    let mut unit = Explained::new(vec![0; words.unwrap_or(0)], number);
     for line in lines {
         obey(&mut unit, line, false, |_| Ok(()))?;
     }

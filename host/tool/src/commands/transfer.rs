@@ -1,81 +1,131 @@
-//! `put` and `get`: a file's blocks from and to a host file.
+//! `put` and `get`: files' blocks from and to host files.
 
-use std::fs::File;
-use std::io::{self, BufReader, Read};
+use std::fs::{self, File};
+use std::io::{self, BufReader, Cursor, Read};
 use std::path::Path;
 
 use ruzkemp::{Attributes, Block, Call, Entry, Error, Name, Role};
 
+use super::rescue::{self, FIRST, KEYS, SLICE, UNSOUND};
 use crate::arguments::{flag, valued, Command, Given, DRY_RUN, LOW, OFFSET, UNIT};
+use crate::commands::many::{beside, host_files, Folder, Which, ALL, FROM, INTO};
 use crate::console::{print_bytes, report};
 use crate::failure::{Failure, Outcome};
 use crate::host::{bytes_of, shown, words_of, Replacement, SECTOR_BYTES};
 use crate::progress::Progress;
 use crate::room;
 use crate::session::Session;
+use crate::text::{Wording, DANISH, TEXT};
 use crate::values::{self, count};
 
 /// The number under which this tool is a user of an area process.
-const SENDER: u16 = 1;
+pub const SENDER: u16 = 1;
+/// The most bytes of a text that can fit on a unit: a Danish letter has two on the host.
+const MOST_TEXT: u64 = 2 * 32_767 * SECTOR_BYTES as u64;
 
 /// `put`.
 pub const PUT: Command = Command {
     name: "put",
-    operands: &["IMAGE", "NAME", "HOSTFILE"],
+    operands: &["IMAGE", "[NAME...]", "[HOSTFILE]"],
     choices: &[
         flag(
             "--replace",
             "replace the words of a file that is entered already",
         ),
+        FROM,
+        ALL,
+        TEXT,
+        DANISH,
         UNIT,
         LOW,
         OFFSET,
         DRY_RUN,
     ],
-    summary: "Copy a host file (- is standard input) into the unit",
-    about:
-        "Enters an extendable file, outputs block by block as its exclusive user and books the\n\
+    summary: "Copy a host file (- is standard input) or many into the unit",
+    about: "put IMAGE NAME HOSTFILE, or put IMAGE NAME... --from DIR, or put IMAGE --all DIR.\n\n\
+            Enters an extendable file, outputs block by block as its exclusive user and books the\n\
             length. The last block is filled up with zeros: the catalog keeps lengths in sectors\n\
             only. With --replace an entered file keeps its attributes, optional words and tail,\n\
-            and gets the new length.",
+            and gets the new length. Of many files all are put or none; --all refuses a folder in\n\
+            which something is no regular file or has no file's name.\n\n\
+            --text makes line ends CR LF. --danish also makes Æ Ø Å æ ø å the codes of\n\
+            [ \\ ] { | } and refuses what has no code, saying line and column.",
     run: put,
 };
 
 /// `get`.
 pub const GET: Command = Command {
     name: "get",
-    operands: &["IMAGE", "NAME", "HOSTFILE"],
+    operands: &["IMAGE", "[NAME...]", "[HOSTFILE]"],
     choices: &[
         valued("--bytes", "N", "write the first N bytes only"),
         flag("--force", "replace a host file that exists"),
+        INTO,
+        ALL,
+        TEXT,
+        DANISH,
+        UNSOUND,
+        KEYS,
+        SLICE,
+        FIRST,
         UNIT,
         LOW,
         OFFSET,
     ],
-    summary: "Copy a file of the unit to a host file (- is standard output)",
-    about: "Writes whole sectors, unless --bytes gives the true length. The host file appears\n\
-            when it is complete, or not at all.",
+    summary: "Copy a file of the unit to a host file (- is standard output) or many",
+    about:
+        "get IMAGE NAME HOSTFILE, or get IMAGE NAME... --into DIR, or get IMAGE --all DIR: all\n\
+            files but SYS and MAP. DIR is made if it is missing.\n\n\
+            Writes whole sectors, unless --bytes gives the true length. A host file appears when\n\
+            it is complete, or not at all; if one exists, none is written without --force.\n\n\
+            --text takes off the zeros at the end and makes line ends LF, --danish also makes the\n\
+            codes of [ \\ ] { | } the letters Æ Ø Å æ ø å.",
     run: get,
 };
 
 fn put(given: &Given) -> Outcome {
-    let name = given.name(1)?;
-    let mut source = Source::open(given.path(2))?;
+    let which = Which::of(given, &FROM)?;
+    let many = !matches!(which, Which::One(..));
+    let files = host_files(given, which)?;
+    let wording = Wording::of(given);
     let mut session = Session::to_change(given)?;
-    match given.flag("--replace") {
-        true => emptied(given, &mut session, name, &source)?,
-        false => entered(&mut session, name)?,
+    let mut lines = String::new();
+    for (name, path) in &files {
+        let mut source = Source::open(path, wording)?;
+        let blocks = put_file(given, &mut session, *name, &mut source)?;
+        let (bytes, blocks) = (count(source.taken, "byte"), count(blocks, "block"));
+        lines += &format!("{name}: {bytes} put into {blocks}\n");
     }
-    session.call(Call::CreateArea, name, |unit| unit.create_area(name))?;
-    let role = Role::ExclusiveUser;
-    session.call(Call::Reserve, name, |unit| unit.reserve(name, SENDER, role))?;
-    let blocks = copy_in(&mut session, name, &mut source)?;
-    session.call(Call::Release, name, |unit| unit.release(name, SENDER))?;
-    session.call(Call::RemoveArea, name, |unit| unit.remove_area(name))?;
+    if many {
+        lines += &format!("{} put\n", count(files.len() as u64, "file"));
+    }
     session.write_back()?;
-    let (bytes, blocks) = (count(source.taken, "byte"), count(blocks, "block"));
-    report(&format!("{name}: {bytes} put into {blocks}\n"));
+    report(&lines);
     Ok(())
+}
+
+/// Puts a host file's bytes into a file; how many blocks it has.
+fn put_file(given: &Given, session: &mut Session, name: Name, source: &mut Source) -> Outcome<u64> {
+    match given.flag("--replace") {
+        true => emptied(given, session, name, source)?,
+        false => entered(session, name)?,
+    }
+    open_area(session, name, Role::ExclusiveUser)?;
+    let blocks = copy_in(session, name, source)?;
+    close_area(session, name)?;
+    Ok(blocks)
+}
+
+/// Creates a file's area process and makes this tool its user.
+pub fn open_area(session: &mut Session, name: Name, role: Role) -> Outcome {
+    session.call(Call::CreateArea, name, |unit| unit.create_area(name))?;
+    session.call(Call::Reserve, name, |unit| unit.reserve(name, SENDER, role))
+}
+
+/// Removes the area process, which books the length.
+pub fn close_area(session: &mut Session, name: Name) -> Outcome {
+    session.call(Call::Release, name, |unit| unit.release(name, SENDER))?;
+    session.call(Call::RemoveArea, name, |unit| unit.remove_area(name))
 }
 
 /// Enters a new file to which blocks can be appended.
@@ -83,10 +133,10 @@ fn entered(session: &mut Session, name: Name) -> Outcome {
     let attributes = Attributes::EXTENDABLE;
     let created = session.call(Call::Create, name, |unit| unit.create(name, 0, attributes));
     created.map_err(|failure| match failure {
-        Failure::Refused(what, error @ Error::EntryExists, reasons) => Failure::Refused(
+        Failure::Refused(what, error @ Error::EntryExists, reason) => Failure::Refused(
             format!("{what} (--replace replaces its words)"),
             error,
-            reasons,
+            reason,
         ),
         other => other,
     })
@@ -111,8 +161,7 @@ fn emptied(given: &Given, session: &mut Session, name: Name, source: &Source) ->
         }
     };
     let entry = Entry::for_change(&current).with_size(size);
-    let changed = session.call(Call::Change, name, |unit| unit.change(name, &entry));
-    changed.map_err(|failure| room::told(failure, session.unit.image(), &current, size))
+    session.call(Call::Change, name, |unit| unit.change(name, &entry))
 }
 
 /// Outputs the source's blocks one after the other; how many.
@@ -140,7 +189,16 @@ struct Source {
 }
 
 impl Source {
-    fn open(path: &Path) -> Outcome<Source> {
+    /// A host file's bytes as they are to stand on the unit.
+    fn open(path: &Path, wording: Wording) -> Outcome<Source> {
+        let source = Source::of(path)?;
+        match wording {
+            Wording::Bytes => Ok(source),
+            Wording::Text | Wording::Danish => source.converted(wording),
+        }
+    }
+
+    fn of(path: &Path) -> Outcome<Source> {
         let shown = shown(path);
         if path == Path::new("-") {
             let reader = Box::new(io::stdin());
@@ -159,6 +217,23 @@ impl Source {
             bytes,
             taken: 0,
         }
+    }
+
+    /// The source of a text, which is read whole.
+    fn converted(mut self, wording: Wording) -> Outcome<Source> {
+        let trouble = |what: String| Failure::Host(format!("{}: {what}", self.shown));
+        let mut bytes = Vec::new();
+        let mut reader = self.reader.by_ref().take(MOST_TEXT + 1);
+        let read = reader.read_to_end(&mut bytes);
+        read.map_err(|error| trouble(error.to_string()))?;
+        if bytes.len() as u64 > MOST_TEXT {
+            return Err(trouble("the text is longer than a unit".into()));
+        }
+        let text = wording.to_unit(bytes);
+        let text = text.map_err(|stray| trouble(stray.to_string()))?;
+        let length = text.len() as u64;
+        let reader = Box::new(Cursor::new(text));
+        Ok(Source::new(self.shown, reader, Some(length)))
     }
 
     fn blocks(&self) -> Option<u64> {
@@ -186,47 +261,122 @@ impl Source {
 }
 
 fn get(given: &Given) -> Outcome {
-    let name = given.name(1)?;
+    if rescue::asked(given)? {
+        return rescue::get(given);
+    }
+    match Which::of(given, &INTO)? {
+        Which::One(name, path) => get_one(given, name, &path),
+        Which::Named(names, folder) => get_many(given, &folder, Some(names)),
+        Which::All(folder) => get_many(given, &folder, None),
+    }
+}
+
+fn get_one(given: &Given, name: Name, path: &Path) -> Outcome {
     let wanted = given.value("--bytes", values::bytes)?;
     let mut session = Session::to_read(given)?;
-    session.call(Call::CreateArea, name, |unit| unit.create_area(name))?;
-    session.call(Call::Reserve, name, |unit| {
-        unit.reserve(name, SENDER, Role::Sharing)
-    })?;
-    let length = session
-        .unit
-        .state()
-        .area(name)
-        .map_or(0, |area| area.length);
-    let whole = u64::from(length) * SECTOR_BYTES as u64;
+    let whole = opened(&mut session, name)?;
     let bytes = wanted.unwrap_or(whole);
     if bytes > whole {
         return Err(given.misused(format!("--bytes {bytes}: {name} has only {whole}")));
     }
-    let path = given.path(2);
     if path == Path::new("-") {
-        return copy_out(&mut session, name, bytes, print_bytes);
+        return print_bytes(&content(&mut session, name, bytes, Wording::of(given))?);
     }
     given.not_the_image(path)?;
-    let mut file = Replacement::of(path, given.flag("--force"))?;
-    copy_out(&mut session, name, bytes, |part| file.write(part))?;
-    file.commit()?;
-    report(&format!(
-        "{name}: {} written to {}\n",
-        count(bytes, "byte"),
-        shown(path)
-    ));
+    let file = Replacement::of(path, given.flag("--force"))?;
+    let content = content(&mut session, name, bytes, Wording::of(given))?;
+    report(&written(name, file, &content, path)?);
     Ok(())
 }
 
-/// Inputs the blocks of so many bytes one after the other. The area process ends with the
-/// session, which does not write back.
-fn copy_out(
-    session: &mut Session,
-    name: Name,
-    bytes: u64,
-    mut write: impl FnMut(&[u8]) -> Outcome,
-) -> Outcome {
+/// Gets files, all if no names are given, into a folder. All is read, and every host file that
+/// exists found, before one is written.
+fn get_many(given: &Given, folder: &Path, names: Option<Vec<Name>>) -> Outcome {
+    if given.flag("--bytes") {
+        return Err(given.misused("--bytes is for one file with its HOSTFILE".into()));
+    }
+    let mut session = Session::to_read(given)?;
+    let names = match names {
+        Some(names) => names,
+        None => all_files(&mut session)?,
+    };
+    let mut files = Vec::new();
+    for name in names {
+        let bytes = opened(&mut session, name)?;
+        let content = content(&mut session, name, bytes, Wording::of(given))?;
+        close_area(&mut session, name)?;
+        files.push((name, content));
+    }
+    for (name, _) in &files {
+        may_be_written(given, &beside(folder, *name))?;
+    }
+    report(&all_written(given, folder, &files)?);
+    Ok(())
+}
+
+/// The names of all files, in the listing's order; SYS and MAP are the unit's own.
+fn all_files(session: &mut Session) -> Outcome<Vec<Name>> {
+    let what = format!("list of unit {}", session.unit.number());
+    let listed = session.unit.list();
+    let entries = listed.map_err(|error| session.unit.refused(what, error))?;
+    let names = entries.iter().map(Entry::name);
+    let own = |name: &Name| [Name::SYS, Name::MAP].contains(name);
+    Ok(names.filter(|name| !own(name)).collect())
+}
+
+/// Whether a host file may be written, as far as that is seen before.
+fn may_be_written(given: &Given, path: &Path) -> Outcome {
+    given.not_the_image(path)?;
+    match fs::symlink_metadata(path) {
+        Ok(_) if !given.flag("--force") => Err(Replacement::exists(path)),
+        _ => Ok(()),
+    }
+}
+
+/// Writes files into a folder, each complete or not at all; what is to be said of it.
+fn all_written(given: &Given, folder: &Path, files: &[(Name, Vec<u8>)]) -> Outcome<String> {
+    let made = Folder::at(folder)?;
+    let total = count(files.len() as u64, "file");
+    let mut lines = String::new();
+    for (done, (name, content)) in files.iter().enumerate() {
+        let path = beside(folder, *name);
+        let file = Replacement::of(&path, given.flag("--force"));
+        let line = file.and_then(|file| written(*name, file, content, &path));
+        lines += &line.map_err(|failure| {
+            Failure::Host(format!("{failure}; {done} of {total} were written before"))
+        })?;
+    }
+    made.keep();
+    lines += &format!("{total} written to {}\n", shown(folder));
+    Ok(lines)
+}
+
+/// Writes a file's content to a host file; what is to be said of it.
+fn written(name: Name, mut file: Replacement, content: &[u8], path: &Path) -> Outcome<String> {
+    file.write(content)?;
+    file.commit()?;
+    let bytes = count(content.len() as u64, "byte");
+    Ok(format!("{name}: {bytes} written to {}\n", shown(path)))
+}
+
+/// Makes this tool a user of a file; how many bytes its blocks have.
+fn opened(session: &mut Session, name: Name) -> Outcome<u64> {
+    open_area(session, name, Role::Sharing)?;
+    let area = session.unit.state().area(name);
+    let length = area.map_or(0, |area| area.length);
+    Ok(u64::from(length) * SECTOR_BYTES as u64)
+}
+
+/// So many bytes of a file as they are to stand on the host.
+fn content(session: &mut Session, name: Name, bytes: u64, wording: Wording) -> Outcome<Vec<u8>> {
+    let mut content = Vec::with_capacity(bytes as usize);
+    copy_out(session, name, bytes, |part| content.extend(part))?;
+    let text = wording.to_host(content);
+    text.map_err(|stray| Failure::Usage(format!("get: --danish: {name}: {stray}")))
+}
+
+/// Inputs the blocks of so many bytes one after the other.
+fn copy_out(session: &mut Session, name: Name, bytes: u64, mut take: impl FnMut(&[u8])) -> Outcome {
     let sector = SECTOR_BYTES as u64;
     let mut progress = Progress::new(name.to_string(), Some(bytes.div_ceil(sector)));
     let mut rest = bytes;
@@ -236,7 +386,7 @@ fn copy_out(
             unit.read_block(name, SENDER, &mut block)
         })?;
         let part = rest.min(sector);
-        write(&bytes_of(&block)[..part as usize])?;
+        take(&bytes_of(&block)[..part as usize]);
         rest -= part;
         progress.advance();
     }

@@ -7,7 +7,7 @@ use std::path::{Path, PathBuf};
 use reference::layout::{Kit, KIT};
 
 use super::lock::Old;
-use super::{irregular, regular, shown, Form, Order, Replacement, MOST_SECTORS, SECTOR_BYTES};
+use super::{irregular, regular, shown, Form, Replacement, MOST_SECTORS, SECTOR_BYTES};
 use crate::failure::{Failure, Outcome};
 
 const SECTOR: u64 = SECTOR_BYTES as u64;
@@ -73,7 +73,7 @@ impl ImageFile {
         let old = self.old.as_ref().map(Old::again).transpose();
         let old = old.map_err(|error| Failure::host(&self.shown, error))?;
         let mut new = Replacement::begin(&self.shown, &self.path, old)?;
-        let bytes = self.form.order.bytes(words);
+        let bytes = self.form.bytes(words);
         match self.form.offset {
             None => new.write(&bytes)?,
             Some(offset) => {
@@ -125,9 +125,9 @@ impl<'a, R: Read> Source<'a, R> {
     fn words(mut self, form: Form, sectors: Option<u16>) -> Outcome<Vec<u16>> {
         let bytes = match form.offset {
             None => self.whole()?,
-            Some(offset) => self.part(offset, form.order, sectors)?,
+            Some(offset) => self.part(offset, form, sectors)?,
         };
-        Ok(form.order.words(&bytes))
+        Ok(form.words(&bytes))
     }
 
     /// So many bytes, or fewer at the end.
@@ -171,7 +171,7 @@ impl<'a, R: Read> Source<'a, R> {
 
     /// The bytes of a unit in a pack: as many sectors as are wanted, or as its kit says, or, if
     /// that is not within limits, as the unit can have.
-    fn part(&mut self, offset: u64, order: Order, sectors: Option<u16>) -> Outcome<Vec<u8>> {
+    fn part(&mut self, offset: u64, form: Form, sectors: Option<u16>) -> Outcome<Vec<u8>> {
         self.pass(offset)?;
         let mut bytes = match sectors {
             Some(sectors) => self.next(SECTOR * u64::from(sectors))?,
@@ -180,7 +180,7 @@ impl<'a, R: Read> Source<'a, R> {
         if let Some(sectors) = sectors {
             self.room(offset, sectors, bytes.len() as u64)?;
         } else if bytes.len() == SECTOR_BYTES * (KIT + 1) {
-            let kit = Kit::from_words(&order.words(&bytes[SECTOR_BYTES * KIT..][..12]));
+            let kit = Kit::from_words(&form.words(&bytes[SECTOR_BYTES * KIT..][..12]));
             let all = kit.limits().map_or(MOST_SECTORS, |()| kit.n);
             bytes.extend(self.next(SECTOR * (all - KIT - 1) as u64)?);
         }

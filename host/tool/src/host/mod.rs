@@ -14,7 +14,7 @@ use std::path::{Path, PathBuf};
 use crate::console::visible;
 use crate::failure::{Failure, Outcome};
 
-pub use form::{Form, Order};
+pub use form::Form;
 pub use image::ImageFile;
 pub use replacement::Replacement;
 
@@ -25,12 +25,12 @@ pub const MOST_SECTORS: usize = 32_767;
 
 /// The words of a host file's bytes, high byte first.
 pub fn words_of(bytes: &[u8]) -> Vec<u16> {
-    Order::HighFirst.words(bytes)
+    Form::default().words(bytes)
 }
 
 /// The bytes of words for a host file, high byte first.
 pub fn bytes_of(words: &[u16]) -> Vec<u8> {
-    Order::HighFirst.bytes(words)
+    Form::default().bytes(words)
 }
 
 /// A path as it is told to users: with no character that a terminal would obey.

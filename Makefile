@@ -1,0 +1,58 @@
+# Installs what ./build has put into out/. It builds nothing: what root installs was built without root.
+#
+#     make install [PREFIX=/usr/local] [DESTDIR=]     make uninstall, with the same words, removes these files again
+
+PREFIX = /usr/local
+DESTDIR =
+INSTALL = install
+BINDIR = $(PREFIX)/bin
+LIBDIR = $(PREFIX)/lib
+INCLUDEDIR = $(PREFIX)/include
+DATADIR = $(PREFIX)/share
+
+# Each file below out/ with the folder that it is installed in.
+TOOL = $(BINDIR)/ruzkemp
+LIBRARY = $(LIBDIR)/libruzkemp.a
+KIT = $(LIBDIR)/libruzkemp.kit
+PC = $(LIBDIR)/pkgconfig/ruzkemp.pc
+HEADER = $(INCLUDEDIR)/ruzkemp.h
+MANUAL = $(DATADIR)/man/man1/ruzkemp.1
+BASH = $(DATADIR)/bash-completion/completions/ruzkemp
+ZSH = $(DATADIR)/zsh/site-functions/_ruzkemp
+FISH = $(DATADIR)/fish/vendor_completions.d/ruzkemp.fish
+ALL = $(TOOL) $(LIBRARY) $(KIT) $(PC) $(HEADER) $(MANUAL) $(BASH) $(ZSH) $(FISH)
+
+# A folder as the pkg-config file names it: below the prefix, if it is, so that that file can be used elsewhere too.
+below = $(patsubst $(PREFIX)/%,$${prefix}/%,$(1))
+
+BUILT = bin/ruzkemp lib/libruzkemp.a lib/libruzkemp.kit lib/pkgconfig/ruzkemp.pc include/ruzkemp.h share/man/man1/ruzkemp.1 \
+	share/bash-completion/completions/ruzkemp share/zsh/site-functions/_ruzkemp share/fish/vendor_completions.d/ruzkemp.fish
+
+all:
+	./build
+
+built:
+	@for file in $(BUILT); do \
+		test -f "out/$$file" || { echo "make install: there is no out/$$file: run ./build first (not as root)" >&2; exit 1; }; \
+	done
+
+install: built
+	@for file in $(ALL); do $(INSTALL) -d "$(DESTDIR)$$(dirname "$$file")" || exit 1; done
+	$(INSTALL) -m 755 out/bin/ruzkemp "$(DESTDIR)$(TOOL)"
+	$(INSTALL) -m 644 out/lib/libruzkemp.a "$(DESTDIR)$(LIBRARY)"
+	$(INSTALL) -m 644 out/lib/libruzkemp.kit "$(DESTDIR)$(KIT)"
+	$(INSTALL) -m 644 out/include/ruzkemp.h "$(DESTDIR)$(HEADER)"
+	$(INSTALL) -m 644 out/share/man/man1/ruzkemp.1 "$(DESTDIR)$(MANUAL)"
+	$(INSTALL) -m 644 out/share/bash-completion/completions/ruzkemp "$(DESTDIR)$(BASH)"
+	$(INSTALL) -m 644 out/share/zsh/site-functions/_ruzkemp "$(DESTDIR)$(ZSH)"
+	$(INSTALL) -m 644 out/share/fish/vendor_completions.d/ruzkemp.fish "$(DESTDIR)$(FISH)"
+	sed -e 's|^prefix=.*|prefix=$(PREFIX)|' -e 's|^libdir=.*|libdir=$(call below,$(LIBDIR))|' \
+		-e 's|^includedir=.*|includedir=$(call below,$(INCLUDEDIR))|' out/lib/pkgconfig/ruzkemp.pc > "$(DESTDIR)$(PC)"
+	chmod 644 "$(DESTDIR)$(PC)"
+
+# The folders stay: others may use them.
+uninstall:
+	@for file in $(ALL); do rm -f "$(DESTDIR)$$file" || exit 1; done
+	@echo "removed from $(DESTDIR)$(PREFIX): $(notdir $(ALL))"
+
+.PHONY: all built install uninstall

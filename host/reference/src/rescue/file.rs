@@ -1,0 +1,144 @@
+//! A file as far as it can be read.
+
+use std::iter::repeat;
+use std::ops::Range;
+
+use super::index::Pair;
+use crate::layout::{legal, ENTRY, MAP, SYS};
+use crate::types::Name;
+
+/// What an entry is about.
+#[derive(Clone, Copy, PartialEq, Eq, Debug)]
+pub enum Kind {
+    /// The catalog.
+    Sys,
+    /// The map.
+    Map,
+    /// A file, whose index block is the first of its sectors.
+    Ordinary,
+}
+
+impl Kind {
+    /// What the entry of a name is about.
+    pub(super) fn of(name: Name) -> Kind {
+        match name {
+            SYS => Kind::Sys,
+            MAP => Kind::Map,
+            _ => Kind::Ordinary,
+        }
+    }
+
+    /// How many sectors go before block 0.
+    fn ahead(self) -> usize {
+        usize::from(self == Kind::Ordinary)
+    }
+}
+
+/// A file as far as it can be read, and what is doubtful about it.
+#[derive(Clone, PartialEq, Eq, Debug)]
+pub struct File {
+    /// The sector of the entry.
+    pub sector: usize,
+    /// The place in it, 0 to 15.
+    pub place: usize,
+    /// The entry's sixteen words.
+    pub words: [u16; ENTRY],
+    /// What the entry is about.
+    pub kind: Kind,
+    /// The pairs of the index block that are followed, in file order.
+    pub pairs: Vec<Pair>,
+    /// What is doubtful, a line each; none if all is as it has to be.
+    pub doubts: Vec<String>,
+    /// The sectors of the image where blocks can lie.
+    pub(super) readable: Range<usize>,
+}
+
+impl File {
+    /// The name as it stands.
+    pub fn name(&self) -> Name {
+        [self.words[0], self.words[1], self.words[2]]
+    }
+
+    /// The name in letters and digits, with all else as `%` and two digits of base 16.
+    pub fn shown(&self) -> String {
+        shown(self.name())
+    }
+
+    /// Whether this is neither SYS nor MAP.
+    pub fn is_ordinary(&self) -> bool {
+        self.kind == Kind::Ordinary
+    }
+
+    /// The length in sectors as the entry has it.
+    pub fn length(&self) -> usize {
+        self.words[7] as usize
+    }
+
+    /// The joined stretches in sectors, those of no block among them.
+    pub fn total(&self) -> usize {
+        self.pairs.iter().map(|pair| pair.length).sum()
+    }
+
+    /// The sectors of the blocks below the length, in file order; none where one cannot be read.
+    pub fn blocks(&self) -> impl Iterator<Item = Option<usize>> + '_ {
+        let joined = self.pairs.iter().flat_map(|pair| pair.sectors());
+        let found = joined.map(|sector| self.readable.contains(&sector).then_some(sector));
+        let blocks = found.skip(self.kind.ahead()).chain(repeat(None));
+        blocks.take(self.length())
+    }
+
+    /// The blocks that cannot be read, in stretches of first and last. They are found pair by pair,
+    /// so that a wrong length costs no time.
+    pub fn missing(&self) -> Vec<(usize, usize)> {
+        let mut unread: Vec<Range<usize>> = Vec::new();
+        let mut position = 0;
+        for pair in &self.pairs {
+            let sectors = pair.sectors();
+            let within = |sector: usize| sector.clamp(sectors.start, sectors.end) - sectors.start;
+            let readable = within(self.readable.start)..within(self.readable.end);
+            unread.push(position..position + readable.start);
+            unread.push(position + readable.end.max(readable.start)..position + pair.length);
+            position += pair.length;
+        }
+        unread.push(position..usize::MAX);
+        self.in_blocks(&unread)
+    }
+
+    /// The blocks below the length at places in the joined stretches, which come in order.
+    fn in_blocks(&self, places: &[Range<usize>]) -> Vec<(usize, usize)> {
+        let mut found: Vec<(usize, usize)> = Vec::new();
+        for place in places {
+            let first = self.block_at(place.start).unwrap_or(0);
+            let end = self.block_at(place.end).unwrap_or(0).min(self.length());
+            match found.last_mut() {
+                _ if first >= end => {}
+                Some((_, last)) if *last + 1 == first => *last = end - 1,
+                _ => found.push((first, end - 1)),
+            }
+        }
+        found
+    }
+
+    /// The block at a place in the joined stretches; none for the index block.
+    pub fn block_at(&self, position: usize) -> Option<usize> {
+        position.checked_sub(self.kind.ahead())
+    }
+}
+
+/// A name in letters and digits, with all else as `%` and two digits of base 16; the zeros at its end
+/// are left out.
+pub fn shown(name: Name) -> String {
+    let characters: Vec<u8> = name.iter().flat_map(|word| word.to_be_bytes()).collect();
+    let used = characters.iter().rposition(|&character| character != 0);
+    let characters = &characters[..used.map_or(1, |last| last + 1)];
+    let escaped = |&character: &u8| match character.is_ascii_alphanumeric() {
+        true => (character as char).to_string(),
+        false => format!("%{character:02X}"),
+    };
+    characters.iter().map(escaped).collect()
+}
+
+/// Whether a name is legal, its sixth character 0.
+pub(super) fn is_legal(name: Name) -> bool {
+    legal(name) == Some(name)
+}

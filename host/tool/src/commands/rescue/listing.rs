@@ -1,0 +1,160 @@
+//! `ls` and `show` with `--unsound`.
+
+use reference::layout::key;
+use reference::rescue::{File, Kind, Layout, Pair, Rescue};
+use ruzkemp::Entry;
+
+use super::{heading, named, not_with, numbers};
+use crate::arguments::Given;
+use crate::console::print;
+use crate::failure::Outcome;
+use crate::host::{ImageFile, SECTOR_BYTES};
+use crate::values::count;
+
+/// `ls --unsound`.
+pub fn ls(given: &Given) -> Outcome {
+    not_with(given, &["--json"])?;
+    let image = ImageFile::read(given.path(0), given.form()?)?.words;
+    let rescue = Rescue::read(&image, &numbers(given)?);
+    print(&format!("{}{}", heading(given, &rescue), table(&rescue)))
+}
+
+/// The files by name, each with its doubts below it.
+fn table(rescue: &Rescue) -> String {
+    let mut files: Vec<File> = rescue.files().collect();
+    files.sort_by_key(|file| (file.name(), file.sector, file.place));
+    let mut text = String::from("NAME   LENGTH RESERVED  INDEX STRETCHES    ENTRY ATTRIBUTES\n");
+    for file in &files {
+        text += &line(file);
+        for doubt in &file.doubts {
+            text += &format!("  doubtful: {doubt}\n");
+        }
+    }
+    let doubtful = files.iter().filter(|file| !file.doubts.is_empty());
+    text += &format!("{} entries, {} doubtful", files.len(), doubtful.count());
+    text + &free(rescue) + "\n"
+}
+
+fn line(file: &File) -> String {
+    let entry = Entry::from_words(file.words);
+    let stretches = match file.kind {
+        Kind::Map => 0,
+        _ => file.pairs.len(),
+    };
+    format!(
+        "{:<6} {:>6} {:>8} {:>6} {stretches:>9} {:>8} {}\n",
+        file.shown(),
+        entry.length(),
+        entry.reserved(),
+        entry.index(),
+        place(file),
+        entry.attributes()
+    )
+}
+
+/// Where an entry stands, as an operand says it.
+fn place(file: &File) -> String {
+    format!("{}:{}", file.sector, file.place)
+}
+
+/// How many slices the map marks free, if they are known.
+fn free(rescue: &Rescue) -> String {
+    let Some(slices) = rescue.layout().slices() else {
+        return String::new();
+    };
+    let marked = (1..=slices).filter_map(|slice| rescue.slice(slice));
+    let free = marked.filter(|slice| slice.marked_free == Some(true));
+    format!("; {} of {slices} slices marked free", free.count())
+}
+
+/// `show --unsound`.
+pub fn show(given: &Given) -> Outcome {
+    not_with(given, &["--json"])?;
+    let image = ImageFile::read(given.path(0), given.form()?)?.words;
+    let rescue = Rescue::read(&image, &numbers(given)?);
+    let files = named(given, &rescue, &given.text(1))?;
+    let layout = rescue.layout();
+    let shown: Vec<String> = files.iter().map(|file| shown(file, &layout)).collect();
+    print(&format!("{}{}", heading(given, &rescue), shown.join("\n")))
+}
+
+fn shown(file: &File, layout: &Layout) -> String {
+    let entry = Entry::from_words(file.words);
+    let from = file.sector * SECTOR_BYTES + 2 * file.words.len() * file.place;
+    let to = from + 2 * file.words.len() - 1;
+    let mut text = format!("name        {}\n", file.shown());
+    text += &format!(
+        "entry       sector {}, place {}, bytes {from} to {to}\n",
+        file.sector, file.place
+    );
+    text += &format!("words       {}\n", hex(&file.words[..8]));
+    text += &format!("            {}\n", hex(&file.words[8..]));
+    let attributes = entry.attributes();
+    text += &format!("attributes  {:04X}h: {attributes}\n", attributes.bits());
+    let bytes = file.length() * SECTOR_BYTES;
+    let length = count(entry.length(), "sector");
+    text += &format!("length      {length} ({bytes} bytes)\n");
+    text += &format!("reserved    {}\n", count(entry.reserved(), "sector"));
+    text += &format!("index       sector {}\n", entry.index());
+    if let Some(h) = layout.h {
+        text += &format!("key         {}\n", key(file.name(), h));
+    }
+    text += &format!("optional    {}\n", hex(&entry.optional()));
+    text += &format!("tail        {}\n", hex(&entry.tail()));
+    text + &pairs(file, layout) + &doubts(file)
+}
+
+fn hex(words: &[u16]) -> String {
+    let words: Vec<String> = words.iter().map(|word| format!("{word:04X}")).collect();
+    words.join(" ")
+}
+
+/// The pairs that are followed, and the blocks in them.
+fn pairs(file: &File, layout: &Layout) -> String {
+    let mut text = String::new();
+    let mut position = 0;
+    for (number, pair) in file.pairs.iter().enumerate() {
+        let what = match pair.length {
+            0 => format!("length 0 at sector {}", pair.start),
+            _ => format!(
+                "{}, {}",
+                sectors(pair, layout),
+                blocks(file, position, pair)
+            ),
+        };
+        text += &format!("pair {:<6} {what}\n", number + 1);
+        position += pair.length;
+    }
+    text
+}
+
+/// The slices of a pair, if they are known, and its sectors.
+fn sectors(pair: &Pair, layout: &Layout) -> String {
+    let (first, last) = (pair.start, pair.sectors().end - 1);
+    let sectors = format!("sectors {first} to {last}");
+    match (layout.slice_of(first), layout.slice_of(last)) {
+        (Some(first), Some(last)) => format!("slices {first} to {last}, {sectors}"),
+        _ => sectors,
+    }
+}
+
+/// The blocks in a pair that begins at a place in the joined stretches.
+fn blocks(file: &File, position: usize, pair: &Pair) -> String {
+    let first = file.block_at(position).unwrap_or(0);
+    let end = file.block_at(position + pair.length).unwrap_or(0);
+    let end = end.min(file.length());
+    match first < end {
+        true => format!("blocks {first} to {}", end - 1),
+        false => "no block".into(),
+    }
+}
+
+fn doubts(file: &File) -> String {
+    if file.doubts.is_empty() {
+        return "doubtful    nothing\n".into();
+    }
+    let lines = file.doubts.iter();
+    lines
+        .map(|doubt| format!("doubtful    {doubt}\n"))
+        .collect()
+}

@@ -1,0 +1,146 @@
+//! `map` with `--unsound`: each slice by who claims it.
+
+use reference::rescue::{Claimer, File, Kind, Rescue, Slice};
+
+use super::{fitting, heading, not_with, numbers};
+use crate::arguments::Given;
+use crate::console::print;
+use crate::failure::{Failure, Outcome};
+use crate::host::{shown, ImageFile};
+use crate::palette;
+
+/// Slices in a row.
+const ROW: usize = 64;
+/// So many slices are listed at most behind a symbol.
+const MOST: usize = 8;
+
+/// What is drawn for a slice.
+#[derive(Clone, Copy, PartialEq, Eq)]
+enum Drawn {
+    /// Claimed by one, marked used.
+    Owner(Claimer),
+    /// Marked free and claimed by none.
+    Free,
+    /// Claimed by several.
+    Several,
+    /// Marked used and claimed by none.
+    Lost,
+    /// Marked free and claimed by one.
+    Unmarked,
+}
+
+impl Drawn {
+    fn of(slice: &Slice) -> Drawn {
+        match (&slice.claimers[..], slice.marked_free == Some(true)) {
+            ([], true) => Drawn::Free,
+            ([], false) => Drawn::Lost,
+            ([_], true) => Drawn::Unmarked,
+            ([one], false) => Drawn::Owner(*one),
+            _ => Drawn::Several,
+        }
+    }
+}
+
+/// `map --unsound`.
+pub fn map(given: &Given) -> Outcome {
+    not_with(given, &["--svg", "--json", "--force"])?;
+    let image = ImageFile::read(given.path(0), given.form()?)?.words;
+    let rescue = Rescue::read(&image, &numbers(given)?);
+    let Some(slices) = rescue.layout().slices() else {
+        let fit = fitting(&rescue).unwrap_or("--slice and --first give them".into());
+        return Err(Failure::NotUnit(format!(
+            "{}: s and F are not known, the kit is damaged: {fit}",
+            shown(given.path(0))
+        )));
+    };
+    let drawn = (1..=slices).filter_map(|slice| rescue.slice(slice));
+    let drawn: Vec<Drawn> = drawn.map(|slice| Drawn::of(&slice)).collect();
+    let symbols = Symbols::of(&rescue);
+    let text = heading(given, &rescue) + &rows(&drawn, &symbols) + &legend(&drawn, &symbols);
+    print(&text)
+}
+
+/// The files with pairs, by name, and their symbols.
+struct Symbols {
+    files: Vec<(Claimer, String, char)>,
+}
+
+impl Symbols {
+    fn of(rescue: &Rescue) -> Symbols {
+        let all = rescue.files().enumerate();
+        let holders = all.filter(|(_, file)| file.kind == Kind::Ordinary && file.total() > 0);
+        let mut holders: Vec<(usize, File)> = holders.collect();
+        holders.sort_by_key(|(_, file)| (file.name(), file.sector, file.place));
+        let mut files = vec![(Claimer::Catalog, "SYS".to_string(), '#')];
+        for (place, (number, file)) in holders.iter().enumerate() {
+            let symbol = palette::symbol(place);
+            files.push((Claimer::Entry(*number), file.shown(), symbol));
+        }
+        Symbols { files }
+    }
+
+    fn symbol(&self, drawn: Drawn) -> char {
+        match drawn {
+            Drawn::Owner(owner) => {
+                let found = self.files.iter().find(|(claimer, _, _)| *claimer == owner);
+                found.map_or('!', |(_, _, symbol)| *symbol)
+            }
+            Drawn::Free => '.',
+            Drawn::Several => '!',
+            Drawn::Lost => '?',
+            Drawn::Unmarked => '*',
+        }
+    }
+}
+
+fn rows(drawn: &[Drawn], symbols: &Symbols) -> String {
+    let mut text = String::from("\n");
+    for (row, slices) in drawn.chunks(ROW).enumerate() {
+        let symbols = slices.iter().map(|slice| symbols.symbol(*slice));
+        let symbols: String = symbols.collect();
+        text += &format!("{:>5} {symbols}\n", row * ROW + 1);
+    }
+    text + "\n"
+}
+
+/// Each symbol with the number of slices that have it.
+fn legend(drawn: &[Drawn], symbols: &Symbols) -> String {
+    let mut text = String::new();
+    for (claimer, name, symbol) in &symbols.files {
+        let slices = slices(drawn, Drawn::Owner(*claimer)).len();
+        text += &format!("{symbol} {name:<5} {slices:>5}\n");
+    }
+    for (what, said) in [
+        (Drawn::Free, "marked free, claimed by none"),
+        (Drawn::Several, "claimed by several"),
+        (Drawn::Lost, "marked used, claimed by none"),
+        (Drawn::Unmarked, "marked free, yet claimed"),
+    ] {
+        let slices = slices(drawn, what);
+        let symbol = symbols.symbol(what);
+        text += &format!("{symbol}       {:>5} {said}", slices.len());
+        text += &match what {
+            Drawn::Free => String::new(),
+            _ => listed(&slices),
+        };
+        text.push('\n');
+    }
+    text
+}
+
+/// The slices that are drawn so.
+fn slices(drawn: &[Drawn], wanted: Drawn) -> Vec<usize> {
+    let all = drawn.iter().enumerate();
+    let found = all.filter(|(_, drawn)| **drawn == wanted);
+    found.map(|(place, _)| place + 1).collect()
+}
+
+/// Slices one by one; of many only the first.
+fn listed(slices: &[usize]) -> String {
+    if slices.is_empty() {
+        return String::new();
+    }
+    let some = slices.iter().take(MOST).map(|slice| format!(" {slice}"));
+    let more = if slices.len() > MOST { " .." } else { "" };
+    format!(":{}{more}", some.collect::<String>())
+}

@@ -1,0 +1,100 @@
+//! Completions for zsh.
+
+use super::{operands, value, Kind, Operand, SHELLS};
+use crate::arguments::{Choice, Command};
+use crate::commands::COMMANDS;
+
+const SCRIPT: &str = include_str!("ruzkemp.zsh");
+
+/// The script, with each command's summary and its arguments.
+pub fn script() -> String {
+    let summary = |command: &&Command| {
+        let line = format!("{}:{}", command.name, plain(command.summary));
+        format!("        {}\n", quoted(&line))
+    };
+    let summaries: String = COMMANDS.iter().map(summary).collect();
+    let arguments: String = COMMANDS.iter().map(|command| arguments(command)).collect();
+    SCRIPT
+        .replace("@SUMMARIES@\n", &summaries)
+        .replace("@SHELLS@", &SHELLS.join(" "))
+        .replace("@ARGUMENTS@\n", &arguments)
+}
+
+/// A branch of the script: the arguments of one command.
+fn arguments(command: &Command) -> String {
+    let mut words = vec![quoted("(- *)--help[print this command's page]")];
+    words.extend(command.choices.iter().map(option));
+    let operands = operands(command);
+    let places = operands.iter().enumerate();
+    words.extend(places.map(|(place, operand)| argument(place + 1, operand)));
+    format!(
+        "    {})\n        _arguments {}\n        ;;\n",
+        command.name,
+        words.join(" \\\n            ")
+    )
+}
+
+fn option(choice: &Choice) -> String {
+    let help = bracketed(choice.help);
+    quoted(&match (value(choice), choice.value) {
+        (Some(kind), Some(called)) => {
+            format!(
+                "{}=[{help}]:{}:{}",
+                choice.name,
+                plain(called),
+                action(kind)
+            )
+        }
+        _ => format!("{}[{help}]", choice.name),
+    })
+}
+
+fn argument(place: usize, operand: &Operand) -> String {
+    let place = match operand.many {
+        true => "*".into(),
+        false => place.to_string(),
+    };
+    quoted(&format!(
+        "{place}:{}:{}",
+        plain(operand.called),
+        action(operand.kind)
+    ))
+}
+
+fn action(kind: Kind) -> &'static str {
+    match kind {
+        Kind::File => "_files",
+        Kind::Folder => "_files -/",
+        Kind::Name => "_ruzkemp_names",
+        Kind::Other => " ",
+    }
+}
+
+/// A word in single quotes.
+fn quoted(text: &str) -> String {
+    format!("'{}'", text.replace('\'', "'\\''"))
+}
+
+/// A text in which a colon ends nothing.
+fn plain(text: &str) -> String {
+    text.replace('\\', "\\\\").replace(':', "\\:")
+}
+
+/// A text that stands in brackets.
+fn bracketed(text: &str) -> String {
+    plain(text).replace('[', "\\[").replace(']', "\\]")
+}
+
+#[cfg(test)]
+mod tests {
+    use super::*;
+    use crate::arguments::{flag, valued};
+
+    #[test]
+    fn signs_of_zsh_in_a_text_stand_for_themselves() {
+        let choice = flag("--odd", "it's [so]: odd");
+        assert_eq!(option(&choice), r"'--odd[it'\''s \[so\]\: odd]'");
+        let choice = valued("--svg", "FILE", "draw");
+        assert_eq!(option(&choice), "'--svg=[draw]:FILE:_files'");
+    }
+}

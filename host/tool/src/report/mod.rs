@@ -1,0 +1,53 @@
+//! The report: a page of HTML about an image, complete in itself.
+//!
+//! It has no link to anything outside, and its policy allows none. The picture and the tables are
+//! there without the script, which adds the sorting, the filter and what is said of a slice
+//! under the pointer; all it knows it reads from the picture and the tables.
+
+mod map;
+mod subject;
+mod summary;
+mod tables;
+mod text;
+
+pub use subject::{Content, Subject};
+
+use text::{escaped, filled};
+
+const PAGE: &str = include_str!("page.html");
+const STYLE: &str = include_str!("page.css");
+const SCRIPT: &str = include_str!("page.js");
+/// The sums of the style and of the script, by which the policy allows these two alone.
+const STYLE_SUM: &str = "sha256-fv1xhUM1sDGuciZL9qXVdbgGtpsIrsBUtyz5iwF0pHw=";
+const SCRIPT_SUM: &str = "sha256-85Hyf8lsj6yk3G4Yv/PBk3cjoAd1FXwbpbBbIpaqVDw=";
+
+/// The page.
+pub fn page(subject: &Subject) -> String {
+    let main = match &subject.content {
+        Content::Sound(view) => [
+            summary::of_unit(view),
+            map::section(view),
+            tables::files(view),
+            tables::free(view),
+        ]
+        .concat(),
+        Content::Unsound(kit, findings) => {
+            summary::of_unsound(subject.sectors, kit.as_ref(), findings)
+        }
+    };
+    filled(
+        PAGE,
+        &[
+            ("name", escaped(&subject.name)),
+            ("kind", summary::kind(&subject.content)),
+            ("verdict", summary::verdict(&subject.content)),
+            ("main", main),
+            ("source", summary::source(&subject.content).into()),
+            ("style", STYLE.into()),
+            ("script", SCRIPT.into()),
+            ("style-sum", STYLE_SUM.into()),
+            ("script-sum", SCRIPT_SUM.into()),
+            ("version", env!("CARGO_PKG_VERSION").into()),
+        ],
+    )
+}

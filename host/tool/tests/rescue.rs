@@ -1,0 +1,895 @@
+//! `--unsound`: what can be read of damaged discs, with what is doubtful about it. The damage is done
+//! by hand to the sample disc (H 3, s 4, N 250, F 10), and the lines that are expected are worked out
+//! from where its files lie:
+//!
+//! PASS 12:0, 48 blocks, slices 2-6 20-25 29 41; TILL2 12:1, 7, 10-11; GATE1 12:2, 15, 12-15;
+//! PRICE 12:4, 3, 28; TILL1 11:0, 31, 7-9 30-34; LOG 11:1, 7, 26 19; NOTE 11:2; RENT 11:3, 11, 27
+//! 35-36; SKI 10:2, 11, 16-18; SYS 10:0, slice 1; MAP 10:1.
+
+mod common;
+
+use std::fs;
+use std::os::unix::fs::symlink;
+use std::time::{Duration, Instant};
+
+use common::{Done, Folder};
+use reference::generate::{aged, damage};
+use reference::random::Random;
+
+/// The sector in which slice `k` begins.
+fn slice(k: usize) -> usize {
+    10 + 4 * (k - 1)
+}
+
+/// The word of an entry in the catalog.
+fn entry(sector: usize, place: usize, word: usize) -> (usize, usize) {
+    (sector, 16 * place + word)
+}
+
+/// The sample disc as `good.img`, and with words changed as `a.img`.
+fn damaged(changes: &[((usize, usize), u16)]) -> Folder {
+    let folder = Folder::new();
+    folder.good(&["sample", "good.img"]);
+    let mut bytes = folder.read("good.img");
+    for ((sector, word), value) in changes {
+        let at = 512 * sector + 2 * word;
+        bytes[at..at + 2].copy_from_slice(&value.to_be_bytes());
+    }
+    folder.write("a.img", &bytes);
+    folder
+}
+
+/// Runs a command that only reads: it succeeds, and `a.img` is as it was.
+fn read(folder: &Folder, arguments: &[&str]) -> String {
+    let before = folder.read("a.img");
+    let out = folder.good(arguments);
+    assert!(folder.read("a.img") == before, "{arguments:?}");
+    out
+}
+
+/// The doubts that `ls --unsound` tells, those of a file with its name before them.
+fn doubts(listing: &str) -> Vec<String> {
+    let mut name = String::new();
+    let mut found = Vec::new();
+    let mut inside = false;
+    for line in listing.lines() {
+        match (line.strip_prefix("  doubtful: "), inside) {
+            (Some(doubt), true) => found.push(format!("{name}: {doubt}")),
+            (Some(doubt), false) => found.push(doubt.to_string()),
+            (None, _) if line.starts_with("NAME ") => inside = true,
+            (None, _) => name = line.split(' ').next().expect("a name").to_string(),
+        }
+    }
+    found
+}
+
+/// Damages the sample disc; `ls --unsound` tells exactly these doubts.
+fn told(changes: &[((usize, usize), u16)], wanted: &[&str]) -> Folder {
+    let folder = damaged(changes);
+    let out = read(&folder, &["ls", "a.img", "--unsound"]);
+    let first = "a.img: read without guarantee: not a sound unit\n";
+    assert!(out.starts_with(first), "{out}");
+    assert_eq!(doubts(&out), wanted);
+    folder
+}
+
+/// Runs a `get` that has doubts: status 4, and `a.img` is as it was.
+fn doubtful(folder: &Folder, arguments: &[&str]) -> Done {
+    let before = folder.read("a.img");
+    let done = folder.run(arguments);
+    assert_eq!(done.status, 4, "{done:?}");
+    let told = done.err.lines().all(|line| line.starts_with("ruzkemp: "));
+    assert!(told, "{done:?}");
+    assert!(folder.read("a.img") == before, "{arguments:?}");
+    done
+}
+
+const FILES: [&str; 9] = [
+    "GATE1", "LOG", "NOTE", "PASS", "PRICE", "RENT", "SKI", "TILL1", "TILL2",
+];
+
+/// The bytes of a file of the disc that is not damaged.
+fn original(folder: &Folder, name: &str) -> Vec<u8> {
+    folder.good(&["get", "good.img", name, "original", "--force"]);
+    folder.read("original")
+}
+
+#[test]
+fn a_sound_disc_is_read_without_a_doubt() {
+    let folder = damaged(&[]);
+    let out = read(&folder, &["ls", "a.img", "--unsound"]);
+    let mut lines = out.lines();
+    let heading = "a.img: read without guarantee: the unit is sound, nothing is doubtful";
+    assert_eq!(lines.next(), Some(heading));
+    let last = "11 entries, 0 doubtful; 23 of 60 slices marked free";
+    assert_eq!(lines.next_back(), Some(last));
+    // The same files as ls has, in the same order, with the place of the entry besides.
+    let sound = folder.good(&["ls", "a.img"]);
+    let without = |line: &str| {
+        let words: Vec<&str> = line.split_whitespace().collect();
+        [&words[..5], &words[6..]].concat().join(" ")
+    };
+    let shown: Vec<String> = lines.map(without).collect();
+    let wanted = sound.lines().map(|line| {
+        let words: Vec<&str> = line.split_whitespace().collect();
+        words.join(" ")
+    });
+    let wanted: Vec<String> = wanted.take(12).collect();
+    assert_eq!(shown, wanted);
+    assert!(out.contains(" 12:0 extendable\n"), "{out}");
+    let given = ["--keys", "3", "--slice", "4", "--first", "10"];
+    let line = [&["ls", "a.img", "--unsound"][..], &given].concat();
+    assert_eq!(read(&folder, &line), out);
+    for name in FILES {
+        let line = ["get", "a.img", name, "out", "--force", "--unsound"];
+        read(&folder, &line);
+        assert!(folder.read("out") == original(&folder, name), "{name}");
+    }
+}
+
+/// What `show` prints of PASS. Entry 0 of sector 12 is at byte 12 * 512. PASS has 48 blocks; its first
+/// sector is the index block, so that pair 1 of 20 sectors has the blocks 0 to 18.
+const PASS: &str = "\
+a.img: read without guarantee: the unit is sound, nothing is doubtful
+name        PASS
+entry       sector 12, place 0, bytes 6144 to 6175
+words       5041 5353 0000 0000 0000 0000 0001 0030
+            000E 0034 0000 0000 0000 0000 0000 0000
+attributes  0001h: extendable
+length      48 sectors (24576 bytes)
+reserved    52 sectors
+index       sector 14
+key         2
+optional    0000 0000 0000
+tail        0000 0000 0000 0000 0000 0000
+pair 1      slices 2 to 6, sectors 14 to 33, blocks 0 to 18
+pair 2      slices 20 to 25, sectors 86 to 109, blocks 19 to 42
+pair 3      slices 29 to 29, sectors 122 to 125, blocks 43 to 46
+pair 4      slices 41 to 41, sectors 170 to 173, blocks 47 to 47
+doubtful    nothing
+";
+
+#[test]
+fn an_entry_is_shown_with_its_place_and_pairs() {
+    let folder = damaged(&[]);
+    assert_eq!(read(&folder, &["show", "a.img", "PASS", "--unsound"]), PASS);
+    assert_eq!(read(&folder, &["show", "a.img", "12:0", "--unsound"]), PASS);
+    // A place of no sector of SYS is shown all the same.
+    let out = read(&folder, &["show", "a.img", "119:0", "--unsound"]);
+    assert!(out.contains("name        DAY%20PA\n"), "{out}");
+    let doubt = "doubtful    sector 119 is not read as one of SYS's\n";
+    assert!(out.contains(doubt), "{out}");
+    folder.bad(
+        &["show", "a.img", "NONE", "--unsound"],
+        1,
+        "no entry NONE is found",
+    );
+    folder.bad(
+        &["show", "a.img", "250:0", "--unsound"],
+        1,
+        "no entry 250:0 is found",
+    );
+    folder.bad(
+        &["show", "a.img", "12:16", "--unsound"],
+        1,
+        "no entry 12:16 is found",
+    );
+    folder.bad(
+        &["show", "a.img", "12:x", "--unsound"],
+        2,
+        "'x' is no number",
+    );
+}
+
+#[test]
+fn a_damaged_kit_is_told_and_given_numbers_are_used() {
+    let kit = |word| (8, word);
+    told(&[(kit(0), 0)], &["the kit's H is 0, not 1 to 64"]);
+    told(&[(kit(1), 65)], &["the kit's s is 65, not 2 to 64"]);
+    told(&[(kit(5), 249)], &["the kit's top is 249, N is 250"]);
+    told(
+        &[(kit(3), 96)],
+        &["the kit's free sectors are 96, the map's 92"],
+    );
+    let folder = told(
+        &[(kit(0), 0), (kit(1), 0), (kit(4), 3)],
+        &[
+            "the kit's H is 0, not 1 to 64",
+            "the kit's s is 0, not 2 to 64",
+            "the kit's F is 3, not 10 to 32766",
+        ],
+    );
+    let fit = "s and F are not known, the kit is damaged: these numbers fit: --keys 3 --slice 4";
+    folder.bad(&["map", "a.img", "--unsound"], 4, fit);
+    let given = ["--keys", "3", "--slice", "4", "--first", "10"];
+    let line = [&["ls", "a.img", "--unsound"][..], &given].concat();
+    let out = read(&folder, &line);
+    let wanted = [
+        "the kit's H is 0, 3 is given",
+        "the kit's s is 0, 4 is given",
+        "the kit's F is 3, 10 is given",
+    ];
+    assert_eq!(doubts(&out), wanted);
+    let line = [&["map", "a.img", "--unsound"][..], &given].concat();
+    let drawn = "#CCCCCGGGHHAAAAFFFBCCCCCCBEDCGGGGGEE....C...................";
+    assert!(read(&folder, &line).contains(drawn));
+    // Wrong numbers make files doubtful: no slice of 5 begins where PASS's pairs do, from 10 on.
+    let wrong = ["--keys", "3", "--slice", "5", "--first", "10"];
+    let line = [&["show", "a.img", "PASS", "--unsound"][..], &wrong].concat();
+    let out = read(&folder, &line);
+    let doubt = "block 0 on: pair 1 begins at sector 14, where no slice begins\n";
+    assert!(out.contains(doubt), "{out}");
+}
+
+#[test]
+fn a_wrong_first_sector_hides_no_file() {
+    let folder = damaged(&[((8, 4), 202)]);
+    let out = read(&folder, &["ls", "a.img", "--unsound"]);
+    assert!(
+        out.contains("  these numbers fit: --keys 3 --slice 4 --first 10\n"),
+        "{out}"
+    );
+    let doubt = "SKI: the index sector 70 is outside: the first slice begins at 202";
+    assert!(doubts(&out).contains(&doubt.to_string()), "{out}");
+    doubtful(&folder, &["get", "a.img", "SKI", "out", "--unsound"]);
+    assert!(folder.read("out") == original(&folder, "SKI"));
+}
+
+#[test]
+fn without_its_index_sys_is_found_by_its_looks() {
+    let folder = told(
+        &[((6, 0), 0)],
+        &[
+            "SYS: the index block in sector 6 has the count 0, not 1 to 127",
+            "SYS: its sectors are told by their looks, from sector 10 on",
+        ],
+    );
+    // SYS's first sector by its index is not F's: slice 2, in which PASS lies.
+    told(
+        &[((6, 2), 14)],
+        &[
+            "SYS: it begins at sector 14, not at F, 10",
+            "SYS: its sectors are told by their looks, from sector 10 on",
+        ],
+    );
+    read(&folder, &["get", "a.img", "--all", "out", "--unsound"]);
+    for name in FILES {
+        let got = folder.read(&format!("out/{name}"));
+        assert!(got == original(&folder, name), "{name}");
+    }
+}
+
+#[test]
+fn a_sector_that_sys_has_twice_is_listed_once() {
+    // A second pair like the first: 4 sectors from 10 on. SYS is entered with 3 and 4 sectors.
+    let folder = told(
+        &[((6, 0), 2), ((6, 3), 4), ((6, 4), 10)],
+        &[
+            "SYS: its length is 3, and its index gives 8 sectors in slices of 4; its sectors are \
+             told by their looks",
+            "SYS: beyond the length: slice 1 comes twice in it",
+            "SYS: word 9 is 0004h, not 0008h",
+        ],
+    );
+    let out = read(&folder, &["ls", "a.img", "--unsound"]);
+    let last = "\n11 entries, 1 doubtful; 23 of 60 slices marked free\n";
+    assert!(out.ends_with(last), "{out}");
+}
+
+#[test]
+fn an_illegal_name_is_told_and_found_by_its_place() {
+    // PA, 0, S: 5041h + 0053h is 20628, which 3 divides.
+    let folder = told(
+        &[(entry(12, 0, 1), 0x0053)],
+        &[
+            "PA%00S: the name 5041h 0053h 0000h is not legal",
+            "PA%00S: it stands in a sector of key 2, its name has key 0",
+        ],
+    );
+    folder.bad(
+        &["get", "a.img", "PASS", "out", "--unsound"],
+        1,
+        "no entry PASS",
+    );
+    let done = doubtful(&folder, &["get", "a.img", "12:0", "out", "--unsound"]);
+    let lines: Vec<&str> = done.err.lines().collect();
+    assert_eq!(lines.len(), 3, "{done:?}");
+    assert_eq!(
+        lines[0],
+        "ruzkemp: PA%00S: the name 5041h 0053h 0000h is not legal"
+    );
+    assert_eq!(
+        lines[2],
+        "ruzkemp: PA%00S: 2 doubts: what could be read is written"
+    );
+    let wanted = "PA%00S: 24576 bytes written to out, read without guarantee\n";
+    assert_eq!(done.out, wanted);
+    assert!(folder.read("out") == original(&folder, "PASS"));
+}
+
+/// The map when slice 20 is of PASS and LOG, and slice 19, which LOG had, of none.
+const SHARED: &str = "\
+a.img: read without guarantee: not a sound unit
+  doubtful: slice 19 is marked used, and no file has it
+
+    1 #CCCCCGGGHHAAAAFFF?!CCCCCBEDCGGGGGEE....C...................
+
+# SYS       1
+A GATE1     4
+B LOG       1
+C PASS     12
+D PRICE     1
+E RENT      3
+F SKI       3
+G TILL1     8
+H TILL2     2
+.          23 marked free, claimed by none
+!           1 claimed by several: 20
+?           1 marked used, claimed by none: 19
+*           0 marked free, yet claimed
+";
+
+#[test]
+fn a_slice_of_two_files_is_told_of_both() {
+    // LOG's second pair moves from slice 19 to slice 20, where PASS's second pair begins: LOG's pair
+    // begins at place 4 of its sectors, block 3; PASS's at place 20, block 19.
+    let folder = told(
+        &[((slice(26), 4), slice(20) as u16)],
+        &[
+            "slice 19 is marked used, and no file has it",
+            "LOG: block 3 on: slice 20 is claimed by PASS too",
+            "PASS: block 19 on: slice 20 is claimed by LOG too",
+        ],
+    );
+    let out = read(&folder, &["map", "a.img", "--unsound"]);
+    assert_eq!(out, SHARED);
+    // The other files are got without a doubt; the two are written, with status 4.
+    read(&folder, &["get", "a.img", "SKI", "ski", "--unsound"]);
+    assert!(folder.read("ski") == original(&folder, "SKI"));
+    let done = doubtful(&folder, &["get", "a.img", "LOG", "log", "--unsound"]);
+    let first = "ruzkemp: LOG: block 3 on: slice 20 is claimed by PASS too\n";
+    assert!(done.err.starts_with(first), "{done:?}");
+    let got = folder.read("log");
+    let good = original(&folder, "LOG");
+    assert!(got.len() == 7 * 512 && got[..3 * 512] == good[..3 * 512]);
+    let pass = original(&folder, "PASS");
+    assert!(got[3 * 512..] == pass[19 * 512..23 * 512]);
+}
+
+#[test]
+fn an_index_sector_outside_is_told() {
+    let folder = told(
+        &[(entry(12, 1, 8), 300)],
+        &[
+            "slices 10 to 11 are marked used, and no file has them",
+            "@46 is an index block of 8 sectors that no entry names",
+            "TILL2: the index sector 300 is outside: there are 250 sectors",
+            "TILL2: length 7, but slices for 0 only",
+            "TILL2: reserved 8, but slices of 0 sectors in all",
+            "TILL2: blocks 0 to 6 cannot be read",
+            "TILL2: @46 may be its index block: it has 8 sectors too",
+        ],
+    );
+    doubtful(&folder, &["get", "a.img", "TILL2", "out", "--unsound"]);
+    assert!(folder.read("out") == [0; 7 * 512]);
+    let done = doubtful(&folder, &["get", "a.img", "--all", "all", "--unsound"]);
+    assert!(done
+        .out
+        .contains("\nTILL2: not written, no block can be read; doubtful: the index"));
+    assert_eq!(
+        done.err,
+        "ruzkemp: 2 of 10 files are doubtful: what could be read is written\n"
+    );
+    assert!(!folder.file("all/TILL2").exists());
+    // In front of the first slice, and where no slice begins.
+    told(
+        &[(entry(12, 4, 8), 9)],
+        &[
+            "slice 28 is marked used, and no file has it",
+            "@118 is an index block of 4 sectors that no entry names",
+            "PRICE: the index sector 9 is outside: the first slice begins at 10",
+            "PRICE: length 3, but slices for 0 only",
+            "PRICE: reserved 4, but slices of 0 sectors in all",
+            "PRICE: blocks 0 to 2 cannot be read",
+            "PRICE: @118 may be its index block: it has 4 sectors too",
+        ],
+    );
+}
+
+#[test]
+fn a_length_that_is_too_long_is_told() {
+    // GATE1 has 16 sectors, the first of them its index block.
+    let folder = told(
+        &[(entry(12, 2, 7), 40)],
+        &[
+            "GATE1: length 40, but slices for 15 only",
+            "GATE1: blocks 15 to 39 cannot be read",
+        ],
+    );
+    doubtful(&folder, &["get", "a.img", "GATE1", "out", "--unsound"]);
+    let mut wanted = original(&folder, "GATE1");
+    wanted.resize(40 * 512, 0);
+    assert!(folder.read("out") == wanted);
+    // More than the image has: the host file ends with the last block that can be read.
+    let folder = told(
+        &[(entry(12, 2, 7), 0xFFFF)],
+        &[
+            "GATE1: the length 65535 is past 32767",
+            "GATE1: length 65535, but slices for 15 only",
+            "GATE1: blocks 15 to 65534 cannot be read",
+        ],
+    );
+    doubtful(&folder, &["get", "a.img", "GATE1", "out", "--unsound"]);
+    assert!(folder.read("out") == original(&folder, "GATE1"));
+}
+
+#[test]
+fn blocks_in_the_middle_that_cannot_be_read_are_zeros() {
+    // PASS's second pair, blocks 19 to 42, begins past the image.
+    let folder = told(
+        &[((slice(2), 4), 400)],
+        &[
+            "slices 20 to 25 are marked used, and no file has them",
+            "PASS: block 19 on: pair 2 begins at sector 400, where no slice begins",
+            "PASS: blocks 19 to 42 cannot be read",
+        ],
+    );
+    doubtful(&folder, &["get", "a.img", "PASS", "out", "--unsound"]);
+    let mut wanted = original(&folder, "PASS");
+    wanted[19 * 512..43 * 512].fill(0);
+    assert!(folder.read("out") == wanted);
+    let line = ["get", "a.img", "PASS", "-", "--unsound", "--bytes", "0x16"];
+    let done = doubtful(&folder, &line);
+    assert_eq!(done.out, "0001 SEASON ANNA HOLM\n");
+}
+
+#[test]
+fn damaged_pairs_are_told() {
+    // Pair 1 of SKI, which has one: its length, its start, the count.
+    told(
+        &[((slice(16), 1), 7)],
+        &[
+            "slice 18 is marked used, and no file has it",
+            "SKI: block 0 on: pair 1 has length 7, no multiple of 4",
+            "SKI: length 11, but slices for 6 only",
+            "SKI: reserved 12, but slices of 7 sectors in all",
+            "SKI: blocks 6 to 10 cannot be read",
+        ],
+    );
+    let folder = told(
+        &[((slice(16), 2), 14)],
+        &["SKI: block 0 on: pair 1 begins at sector 14, not at the index sector, from which it is read"],
+    );
+    doubtful(&folder, &["get", "a.img", "SKI", "out", "--unsound"]);
+    assert!(folder.read("out") == original(&folder, "SKI"));
+    told(
+        &[((slice(16), 1), 60_000)],
+        &[
+            "slices 16 to 18 are marked used, and no file has them",
+            "SKI: block 0 on: pair 1 has 60000 sectors, more than there are: it and those behind it \
+             are not followed",
+            "SKI: length 11, but slices for 0 only",
+            "SKI: reserved 12, but slices of 0 sectors in all",
+            "SKI: blocks 0 to 10 cannot be read",
+        ],
+    );
+    // LOG's second pair is its first again: slice 26, at place 4 of its sectors.
+    told(
+        &[((slice(26), 4), slice(26) as u16)],
+        &[
+            "slice 19 is marked used, and no file has it",
+            "LOG: block 3 on: slice 26 comes twice in it",
+        ],
+    );
+}
+
+#[test]
+fn a_damaged_map_is_told() {
+    // Slices 12 and 60: bit 11 of word 0 and bit 11 of word 3 (slice 60 is 48 + 11 + 1).
+    let folder = told(
+        &[((9, 0), 0x0010), ((9, 3), 0xFFE0)],
+        &[
+            "slice 60 is marked used, and no file has it",
+            "GATE1: block 0 on: slice 12 is marked free",
+        ],
+    );
+    let out = read(&folder, &["map", "a.img", "--unsound"]);
+    assert!(out.contains("    1 #CCCCCGGGHH*AAAFFFBCC"), "{out}");
+    assert!(
+        out.contains("\n*           1 marked free, yet claimed: 12\n"),
+        "{out}"
+    );
+    assert!(
+        out.contains("\n?           1 marked used, claimed by none: 60\n"),
+        "{out}"
+    );
+}
+
+/// PASS's entry once more in place 3 of its sector, which is unused.
+fn with_two_of_a_name() -> Folder {
+    let words = [0x5041, 0x5353, 0, 0, 0, 0, 1, 48, 14, 52];
+    let changes = words.iter().enumerate();
+    let changes: Vec<((usize, usize), u16)> = changes
+        .map(|(word, &value)| (entry(12, 3, word), value))
+        .collect();
+    damaged(&changes)
+}
+
+#[test]
+fn two_entries_of_a_name_are_told_apart() {
+    let folder = with_two_of_a_name();
+    let out = read(&folder, &["ls", "a.img", "--unsound"]);
+    let said = doubts(&out);
+    assert_eq!(said.len(), 10, "{out}");
+    assert_eq!(said[0], "PASS: the name stands in 12:3 too");
+    assert_eq!(
+        said[1],
+        "PASS: block 0 on: slices 2 to 6 are claimed by PASS in 12:3 too"
+    );
+    assert_eq!(said[5], "PASS: the name stands in 12:0 too");
+    let shown = read(&folder, &["show", "a.img", "PASS", "--unsound"]);
+    assert!(
+        shown.contains("\nentry       sector 12, place 0, "),
+        "{shown}"
+    );
+    assert!(
+        shown.contains("\nentry       sector 12, place 3, "),
+        "{shown}"
+    );
+    doubtful(&folder, &["get", "a.img", "--all", "out", "--unsound"]);
+    let pass = original(&folder, "PASS");
+    assert!(folder.read("out/PASS") == pass && folder.read("out/PASS.2") == pass);
+}
+
+#[test]
+fn all_files_go_into_the_folder_and_nowhere_else() {
+    // A name ../X and one of zeros: the words 2E2Eh 2F58h 0, and none at all.
+    let folder = damaged(&[
+        (entry(12, 0, 0), 0x2E2E),
+        (entry(12, 0, 1), 0x2F58),
+        (entry(11, 1, 0), 0),
+        (entry(11, 1, 1), 0),
+    ]);
+    let before = folder.snapshot();
+    doubtful(&folder, &["get", "a.img", "--all", "new/out", "--unsound"]);
+    let mut names: Vec<String> = fs::read_dir(folder.file("new/out"))
+        .expect("the folder is made")
+        .map(|file| {
+            file.expect("a file")
+                .file_name()
+                .into_string()
+                .expect("UTF-8")
+        })
+        .collect();
+    names.sort();
+    let wanted = [
+        "%00",
+        "%2E%2E%2FX",
+        "GATE1",
+        "NOTE",
+        "PRICE",
+        "RENT",
+        "SKI",
+        "TILL1",
+        "TILL2",
+    ];
+    assert_eq!(names, wanted);
+    fs::rename(folder.file("new/out"), folder.file("new/before")).expect("renamed");
+    fs::remove_dir_all(folder.file("new")).expect("removed");
+    assert!(folder.snapshot() == before);
+}
+
+#[test]
+fn files_of_the_host_are_kept() {
+    let folder = damaged(&[(entry(12, 2, 7), 40)]);
+    fs::create_dir(folder.file("out")).expect("a folder");
+    folder.write("out/SKI", b"older");
+    let line = ["get", "a.img", "--all", "out", "--unsound"];
+    folder.bad(
+        &line,
+        3,
+        "out/SKI: the file exists already (--force replaces it)",
+    );
+    assert_eq!(
+        fs::read_dir(folder.file("out")).expect("a folder").count(),
+        1
+    );
+    let forced = [&line[..], &["--force"]].concat();
+    doubtful(&folder, &forced);
+    assert!(folder.read("out/SKI") == original(&folder, "SKI"));
+    // A link is not followed, though it is to be replaced by force.
+    fs::remove_file(folder.file("out/SKI")).expect("removed");
+    folder.write("elsewhere", b"kept");
+    symlink(folder.file("elsewhere"), folder.file("out/SKI")).expect("a link");
+    folder.bad(&forced, 3, "out/SKI: this is a link, which is not followed");
+    // The image is not written over, under whatever name.
+    fs::remove_dir_all(folder.file("out")).expect("removed");
+    fs::create_dir(folder.file("out")).expect("a folder");
+    fs::hard_link(folder.file("a.img"), folder.file("out/SKI")).expect("linked");
+    folder.bad(&forced, 2, "out/SKI is the image itself");
+    folder.bad(
+        &["get", "a.img", "SKI", "a.img", "--unsound", "--force"],
+        2,
+        "is the image itself",
+    );
+    folder.bad(
+        &["get", "a.img", "SKI", "elsewhere", "--unsound"],
+        3,
+        "exists already",
+    );
+    folder.write("file", b"no folder");
+    folder.bad(&["get", "a.img", "--all", "file", "--unsound"], 3, "file: ");
+}
+
+/// Options that do not go together, or without `--unsound`.
+const OPTIONS: [(&str, &str); 6] = [
+    ("ls a.img --unsound --json", "--json is not for --unsound"),
+    ("map a.img --unsound --svg x", "--svg is not for --unsound"),
+    ("ls a.img --keys 3", "--keys is for --unsound only"),
+    ("get a.img SKI x --slice 4", "--slice is for --unsound only"),
+    ("ls a.img --unsound --keys 65", "--keys: 65 is not 1 to 64"),
+    (
+        "ls a.img --unsound --first 9",
+        "--first: 9 is not 10 to 32766",
+    ),
+];
+
+/// Operands of `get` that are wrong.
+const OPERANDS: [(&str, &str); 6] = [
+    (
+        "get a.img SKI --unsound",
+        "it takes the operands IMAGE NAME HOSTFILE",
+    ),
+    ("get a.img", "it takes NAME HOSTFILE, or NAME... --into DIR"),
+    (
+        "get a.img SKI x --into y --unsound",
+        "--into is not for --unsound",
+    ),
+    (
+        "get a.img SKI --all x --unsound",
+        "with --all it takes the operand IMAGE",
+    ),
+    (
+        "get a.img --all x --unsound --bytes 3",
+        "--bytes is not for --unsound",
+    ),
+    (
+        "get a.img SKI x --unsound --bytes 6000",
+        "SKI has only 5632",
+    ),
+];
+
+#[test]
+fn what_does_not_go_together_is_refused() {
+    let folder = damaged(&[]);
+    for (line, words) in OPTIONS.iter().chain(&OPERANDS) {
+        let arguments: Vec<&str> = line.split(' ').collect();
+        folder.bad(&arguments, 2, words);
+    }
+}
+
+#[test]
+fn a_disc_that_is_cut_gives_what_is_left() {
+    let folder = damaged(&[]);
+    // Sectors 0 to 99: of PASS's second pair, blocks 19 on from sector 86, 14 are left.
+    let bytes = folder.read("good.img");
+    folder.write("a.img", &bytes[..100 * 512]);
+    let out = read(&folder, &["show", "a.img", "PASS", "--unsound"]);
+    let unit = "  doubtful: the kit's N is 250, the image has 100 sectors\n";
+    assert!(out.contains(unit), "{out}");
+    let wanted = "\
+doubtful    block 19 on: pair 2 goes on to sector 109, the last one is 99
+doubtful    block 43 on: pair 3 begins at sector 122, where no slice begins
+doubtful    block 47 on: pair 4 begins at sector 170, where no slice begins
+doubtful    blocks 33 to 47 cannot be read
+";
+    assert!(out.ends_with(wanted), "{out}");
+    doubtful(&folder, &["get", "a.img", "PASS", "out", "--unsound"]);
+    let mut wanted = original(&folder, "PASS");
+    wanted[33 * 512..].fill(0);
+    assert!(folder.read("out") == wanted);
+    // One sector, and nine: no catalog.
+    for sectors in [1, 9] {
+        folder.write("a.img", &bytes[..sectors * 512]);
+        let out = read(&folder, &["ls", "a.img", "--unsound"]);
+        assert!(out.contains("and so no map, which is sector 9\n"), "{out}");
+        assert!(out.ends_with("\n0 entries, 0 doubtful\n"), "{out}");
+    }
+}
+
+#[test]
+fn far_more_than_the_image_is_not_written() {
+    // Each of the 16 places of sector 11 and of sector 12 has an entry A00 to A31 that claims PASS's
+    // index block, with as many blocks as the image has sectors less one.
+    let mut changes = Vec::new();
+    for number in 0..32 {
+        let (sector, place) = (11 + number / 16, number % 16);
+        let digits = 0x3030 + (number / 10 * 256 + number % 10) as u16;
+        let (first, second) = (0x4100 + (digits >> 8), digits << 8);
+        let words = [first, second, 0, 0, 0, 0, 1, 249, 14, 52];
+        let words = words.into_iter().enumerate();
+        changes.extend(words.map(|(word, value)| (entry(sector, place, word), value)));
+    }
+    let folder = damaged(&changes);
+    let line = ["get", "a.img", "--all", "out", "--unsound"];
+    // 32 files of 249 blocks, SKI's 11, and those of the files that lost their entries: TILL1's 31,
+    // LOG's 7, RENT's 11, TILL2's 7, GATE1's 15 and PRICE's 3.
+    let words = "the files have 8053 blocks in all, and the image 250 sectors: get them one by one";
+    folder.bad(&line, 4, words);
+    assert!(!folder.file("out").exists());
+    doubtful(&folder, &["get", "a.img", "A07", "out", "--unsound"]);
+    assert_eq!(folder.read("out").len(), 249 * 512);
+}
+
+/// Damages a disc: some words anywhere or in the catalog, or whole sectors.
+fn hurt(random: &mut Random, words: &mut [u16]) {
+    let sectors = words.len() / 256;
+    for _ in 0..random.between(1, 12) {
+        let first = random
+            .pick(&[0, 6, 6, 8, 8, 10, 10, 14, 54])
+            .min(sectors - 1);
+        let last = (first + random.pick(&[1, 3, 40])).min(sectors) - 1;
+        let at = 256 * random.between(first, last.max(first)) + random.below(256);
+        words[at] = match random.below(5) {
+            0 => random.word(),
+            1 => random.below(260) as u16,
+            2 => words[at].wrapping_add(random.between(1, 4) as u16),
+            3 => 0xFFFF,
+            _ => 0,
+        };
+    }
+    if random.chance(15) {
+        let sector = random.below(sectors);
+        random.fill(&mut words[256 * sector..256 * (sector + 1)]);
+    }
+}
+
+/// Runs the commands of rescue on `a.img`: each ends soon with a status of the table, and leaves the
+/// image as it was.
+fn survives(folder: &Folder, random: &mut Random) {
+    let before = folder.read("a.img");
+    let last = (before.len() / 512 - 1).to_string();
+    let whole = format!("0-{last}");
+    let place = format!("{}:{}", random.between(5, 20), random.below(16));
+    let mut numbers = Vec::new();
+    if random.chance(30) {
+        numbers = vec!["--keys", "3", "--slice", "4", "--first", "10"];
+    }
+    for line in [
+        &["ls", "a.img", "--unsound"][..],
+        &["map", "a.img", "--unsound"],
+        &["show", "a.img", "PASS", "--unsound"],
+        &["show", "a.img", &place, "--unsound"],
+        &["get", "a.img", &place, "one", "--unsound", "--force"],
+        &["get", "a.img", "--all", "out", "--unsound"],
+        &["dump", "a.img", &whole],
+    ] {
+        let line = [line, &numbers].concat();
+        let begun = Instant::now();
+        let done = folder.run(&line);
+        assert!([0, 1, 4].contains(&done.status), "{line:?}: {done:?}");
+        assert!(begun.elapsed() < Duration::from_secs(20), "{line:?}");
+        assert!(folder.read("a.img") == before, "{line:?}");
+    }
+    let _ = fs::remove_dir_all(folder.file("out"));
+}
+
+#[test]
+fn random_damage_is_survived() {
+    let folder = damaged(&[]);
+    let random = &mut Random::new(805);
+    let sample = folder.words("good.img");
+    for round in 0..60 {
+        let mut words = match round % 3 {
+            0 => {
+                let mut unit = aged(random);
+                damage(random, &mut unit);
+                unit.image
+            }
+            _ => sample.clone(),
+        };
+        words.truncate(words.len() / 256 * 256);
+        if random.chance(15) {
+            words.truncate(256 * random.between(1, words.len() / 256));
+        }
+        if words.is_empty() {
+            continue;
+        }
+        hurt(random, &mut words);
+        let bytes: Vec<u8> = words.iter().flat_map(|word| word.to_be_bytes()).collect();
+        folder.write("a.img", &bytes);
+        survives(&folder, random);
+    }
+}
+
+#[test]
+fn a_lost_file_is_found_by_its_index_block() {
+    // The sector of SYS with the entries of key 2 is lost: PASS, TILL2, GATE1, PRICE.
+    let folder = damaged(&[]);
+    let mut bytes = folder.read("good.img");
+    bytes[12 * 512..13 * 512].fill(0);
+    folder.write("a.img", &bytes);
+    let out = read(&folder, &["ls", "a.img", "--unsound"]);
+    // Their slices and, sector by sector, their index blocks.
+    let wanted = [
+        "slices 2 to 6 are marked used, and no file has them",
+        "slices 10 to 15 are marked used, and no file has them",
+        "slices 20 to 25 are marked used, and no file has them",
+        "slices 28 to 29 are marked used, and no file has them",
+        "slice 41 is marked used, and no file has it",
+        "@14 is an index block of 52 sectors that no entry names",
+        "@46 is an index block of 8 sectors that no entry names",
+        "@54 is an index block of 16 sectors that no entry names",
+        "@118 is an index block of 4 sectors that no entry names",
+    ];
+    assert_eq!(doubts(&out), wanted);
+    // PASS has 48 blocks in 52 sectors: without its entry it has 51.
+    let done = doubtful(&folder, &["get", "a.img", "@14", "out", "--unsound"]);
+    let line = "@14: 26112 bytes written to out, read without guarantee\n";
+    assert_eq!(done.out, line);
+    let pass = original(&folder, "PASS");
+    assert!(folder.read("out")[..48 * 512] == pass);
+    doubtful(&folder, &["get", "a.img", "--all", "all", "--unsound"]);
+    for (name, index) in [("TILL2", "@46"), ("GATE1", "@54"), ("PRICE", "@118")] {
+        let got = folder.read(&format!("all/{index}"));
+        assert!(got == original(&folder, name), "{name}");
+    }
+    let words = "no index block can be followed in sector 13";
+    folder.bad(&["get", "a.img", "@13", "x", "--unsound"], 1, words);
+    folder.bad(
+        &["get", "a.img", "@400", "x", "--unsound"],
+        1,
+        "in sector 400",
+    );
+    folder.bad(
+        &["get", "a.img", "@", "x", "--unsound"],
+        2,
+        "'' is no number",
+    );
+}
+
+#[test]
+fn numbers_that_fit_are_named_where_the_kit_is_lost() {
+    let changes: Vec<((usize, usize), u16)> = (0..6).map(|word| ((8, word), 0)).collect();
+    let folder = damaged(&changes);
+    let fit = "\n  these numbers fit: --keys 3 --slice 4 --first 10\n";
+    for command in ["ls", "show"] {
+        let line = [
+            &[command, "a.img"][..],
+            &["PASS"][..usize::from(command == "show")],
+        ]
+        .concat();
+        let out = read(&folder, &[&line[..], &["--unsound"]].concat());
+        assert!(out.contains(fit), "{out}");
+    }
+    // With one of them the others are named still; with all there is nothing to name.
+    let out = read(&folder, &["ls", "a.img", "--unsound", "--slice", "4"]);
+    assert!(out.contains(fit), "{out}");
+    let given = ["--keys", "3", "--slice", "4", "--first", "10"];
+    let out = read(
+        &folder,
+        &[&["ls", "a.img", "--unsound"][..], &given].concat(),
+    );
+    assert!(!out.contains("fit"), "{out}");
+}
+
+/// Runs the tool with a standard output that takes nothing.
+fn into_full(folder: &Folder, arguments: &[&str]) -> Done {
+    let full = fs::OpenOptions::new().write(true).open("/dev/full");
+    let mut command = folder.command(arguments);
+    command.stdout(full.expect("/dev/full is there"));
+    command.output().expect("the tool runs").into()
+}
+
+#[test]
+fn what_cannot_be_printed_does_not_change_the_status_of_a_file_that_is_written() {
+    let folder = damaged(&[]);
+    let done = into_full(&folder, &["get", "a.img", "SKI", "out", "--unsound"]);
+    assert_eq!(done.status, 0, "{done:?}");
+    assert!(done.err.starts_with("ruzkemp: "), "{done:?}");
+    assert!(folder.read("out") == original(&folder, "SKI"));
+    // The heading comes before the first file.
+    let done = into_full(&folder, &["get", "a.img", "--all", "all", "--unsound"]);
+    assert_eq!(done.status, 3, "{done:?}");
+    assert!(!folder.file("all").exists());
+}
