@@ -300,7 +300,8 @@ static inline ruzkemp_unit ruzkemp_fresh_unit(uint16_t unit, uint16_t *image, si
 }
 
 /* The name of a text of one to five characters on a unit, each as given: 'pass' and 'PASS' are two names. A legal one has a letter (A to Z or a to
-   z) and then letters or digits. A longer or empty text gives a name that no file can have; in an entry lent to Change it keeps the file's name. */
+   z) and then letters or digits. A longer or empty text gives a name that no file can have; in an entry lent to Change it keeps the file's name.
+   The sixth character has eight bits: any unit above 254 is 255 there, which no unit is. */
 static inline ruzkemp_name ruzkemp_name_of(const char *text, uint16_t unit)
 {
     unsigned char characters[6] = {0, 0, 0, 0, 0, 0};
@@ -309,7 +310,7 @@ static inline ruzkemp_name ruzkemp_name_of(const char *text, uint16_t unit)
     ruzkemp_name name;
     if (length <= 5)
         memcpy(characters, text, length);
-    characters[5] = (unsigned char)unit;
+    characters[5] = (unsigned char)(unit > 255 ? 255 : unit);
     for (i = 0; i < 3; i++)
         name.words[i] = (uint16_t)(characters[2 * i] * 256u + characters[2 * i + 1]);
     return name;
@@ -427,7 +428,7 @@ static inline ruzkemp_answer ruzkemp_change(ruzkemp_unit *unit, ruzkemp_name nam
     return ruzkemp_send(unit, ruzkemp_named_message(RUZKEMP_CALL_CHANGE, name), entry, RUZKEMP_ENTRY_WORDS);
 }
 
-/* Another name, all else kept: a Look-up, then a Change. A name that Change would read as 'keep', such as that of a text of no or of more than
+/* Another name, all else kept: a Look-up, then a Change. The unit is that of the old name; that of the other is not looked at. A name that Change would read as 'keep', such as that of a text of no or of more than
    five characters, is refused with RUZKEMP_CATALOG_PARAMETER, as any other illegal name is. */
 static inline ruzkemp_answer ruzkemp_rename(ruzkemp_unit *unit, ruzkemp_name name, ruzkemp_name other)
 {

@@ -2,7 +2,7 @@
 
 use lists::{Both, Step};
 use reference::generate::{self, Call, Caller, Unit};
-use reference::layout::{legal, Kit, ENTRY, MAP, SECTOR, SYS, SYS_INDEX};
+use reference::layout::{is_legal, Kit, ENTRY, MAP, SECTOR, SYS, SYS_INDEX};
 use reference::random::Random;
 use reference::Message;
 
@@ -92,7 +92,7 @@ fn entries(image: &[u16]) -> Vec<usize> {
     });
     let file = |at: &usize| {
         let name = [image[*at], image[at + 1], image[at + 2]];
-        legal(name) == Some(name) && ![SYS, MAP].contains(&name)
+        is_legal(name) && ![SYS, MAP].contains(&name)
     };
     places.filter(file).collect()
 }

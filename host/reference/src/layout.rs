@@ -188,6 +188,11 @@ pub fn legal(name: Name) -> Option<Name> {
     Some([name[0], name[1], name[2] & 0xFF00])
 }
 
+/// Whether a name is legal with the sixth character 0, as a used entry has it.
+pub fn is_legal(name: Name) -> bool {
+    legal(name) == Some(name)
+}
+
 /// The sum of a name's words, carry dropped.
 pub fn sum(name: Name) -> u16 {
     name[0].wrapping_add(name[1]).wrapping_add(name[2])

@@ -350,7 +350,7 @@ fn used_entries(
                 continue;
             }
             let name = [words[0], words[1], words[2]];
-            if legal(name) != Some(name) {
+            if !is_legal(name) {
                 return Err(Unsound::EntryName(name));
             }
             if key(name, kit.h) != block % kit.h {

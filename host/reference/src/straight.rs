@@ -26,7 +26,7 @@ pub fn is_sound(image: &[u16], state: &State) -> bool {
                 continue;
             }
             let name = [entry[0], entry[1], entry[2]];
-            if legal(name) != Some(name) || key(name, kit.h) != block % kit.h {
+            if !is_legal(name) || key(name, kit.h) != block % kit.h {
                 return false;
             }
             if !names.insert(name) {

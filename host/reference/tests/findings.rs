@@ -1,7 +1,7 @@
 //! Findings: there are some exactly if an image is not sound, and each rule broken by itself is
 //! found with its numbers and its place.
 
-use std::collections::BTreeMap;
+use std::collections::{BTreeMap, HashSet};
 use std::time::{Duration, Instant};
 
 use reference::generate::{damage, unit};
@@ -68,6 +68,8 @@ fn judge(image: &[u16], counts: &mut BTreeMap<u8, (u64, u64)>) -> bool {
         }
         counts.entry(finding.rule.number()).or_default().1 += 1;
     }
+    let different: HashSet<String> = found.iter().map(|it| format!("{it:?}")).collect();
+    assert_eq!(different.len(), found.len(), "{found:?}");
     if let (Err(unsound), Some(first)) = (&verdict, found.first()) {
         let number = first.rule.number();
         let wanted = numbers(unsound);
@@ -274,8 +276,21 @@ fn rules_2_to_9_have_the_limit_and_the_number() {
     );
     let mut image = hurt(&[(8, 2, 10), (8, 5, 10)]);
     image.truncate(2_560);
-    let text = format!("N is 10, and at least 11 {legal}");
-    alone(&image, (5, Some((8, 2)), Some((11, 10)), &[], &text));
+    let text = "N is 10 and has to be above F, 10";
+    alone(&image, (5, Some((8, 2)), Some((11, 10)), &[], text));
+    // F is the wrong one.
+    let text = "N is 20 and has to be above F, 20";
+    alone(
+        &hurt(&[(8, 4, 20)]),
+        (5, Some((8, 2)), Some((21, 20)), &[], text),
+    );
+    let mut image = hurt(&[(8, 2, 32_768), (8, 5, 32_768)]);
+    image.resize(256 * 32_768, 0);
+    let text = format!("N is 32768, and at most 32767 {legal}");
+    alone(
+        &image,
+        (5, Some((8, 2)), Some((32_767, 32_768)), &[], &text),
+    );
     let mut image = hurt(&[(8, 2, 21), (8, 5, 21)]);
     image.extend([0; 256]);
     let text = "N - F is 21 - 10 = 11: divided by s = 2 it leaves 1";
@@ -307,11 +322,11 @@ fn rules_10_and_11_are_about_the_map() {
     let text = "the bit of slice 32 is 1, and the last slice is 5";
     alone(
         &hurt(&[(9, 1, 1), (8, 3, 6)]),
-        (11, Some((9, 1)), None, &[], text),
+        (11, Some((9, 1)), Some((5, 32)), &[], text),
     );
     let text = "the bits of slices 47 to 49 are 1, and the last slice is 5";
     let image = hurt(&[(9, 2, 3), (9, 3, 0x8000), (8, 3, 10)]);
-    alone(&image, (11, Some((9, 2)), None, &[], text));
+    alone(&image, (11, Some((9, 2)), Some((5, 49)), &[], text));
 }
 
 #[test]
@@ -327,14 +342,15 @@ fn rules_12_to_16_are_about_index_blocks() {
     let text = "PASS: stretch 1 has 3 sectors, and s is 2";
     alone(
         &hurt(&[(12, 1, 3)]),
-        (13, Some((12, 1)), None, &["PASS"], text),
+        (13, Some((12, 1)), Some((2, 3)), &["PASS"], text),
     );
     let text = "SYS: stretch 1 has 0 sectors, and s is 2";
     alone(
         &hurt(&[(6, 1, 0)]),
-        (13, Some((6, 1)), None, &["SYS"], text),
+        (13, Some((6, 1)), Some((2, 0)), &["SYS"], text),
     );
-    let text = "PASS: stretch 1 begins at sector 13, where no slice begins";
+    let text =
+        "PASS: stretch 1 begins at sector 13, where no slice begins (F is 10, s is 2, N is 20)";
     alone(
         &hurt(&[(12, 2, 13)]),
         (14, Some((12, 2)), None, &["PASS"], text),
@@ -357,7 +373,7 @@ fn rules_17_to_20_are_about_sys() {
     alone(&image, (17, Some((6, 2)), Some((1, 2)), &[], text));
     let mut image = small();
     image[2_560..2_576].fill(0);
-    let text = "no entry of SYS is in the sectors of its key, 0";
+    let text = "no entry of SYS is in a sector of its key, 0";
     alone(&image, (18, Some((10, 0)), None, &[], text));
     // SYS is entered in block 1, and has one block.
     let mut image = small();
@@ -366,12 +382,69 @@ fn rules_17_to_20_are_about_sys() {
     let text = "SYS is entered in block 1 of SYS, which has 1 block";
     alone(&image, (18, Some((11, 0)), None, &[], text));
     let text = "the length of SYS is 0, and H is 1";
-    alone(&hurt(&[(10, 7, 0)]), (19, Some((10, 7)), None, &[], text));
+    alone(
+        &hurt(&[(10, 7, 0)]),
+        (19, Some((10, 7)), Some((1, 0)), &[], text),
+    );
     let text = "SYS has 1 slice, and its length 3 needs 2";
     alone(
         &hurt(&[(10, 7, 3)]),
         (20, Some((10, 7)), Some((2, 1)), &[], text),
     );
+}
+
+/// The rules of all findings, in their order.
+fn rules(image: &[u16]) -> Vec<u8> {
+    let found = findings(image);
+    found.iter().map(|finding| finding.rule.number()).collect()
+}
+
+/// SYS's index has slice 4 too (sectors 16 and 17, full of words that are no entries).
+fn grown(changes: &[(usize, usize, u16)]) -> Vec<u16> {
+    let index = [(6, 0, 2), (6, 3, 2), (6, 4, 16), (9, 0, 0x0800), (8, 3, 2)];
+    let mut image = hurt(&[&index[..], changes].concat());
+    image[256 * 16..256 * 18].fill(0x3132);
+    image
+}
+
+/// What lies past SYS's length is no entry, whatever SYS's index says.
+#[test]
+fn no_place_past_the_length_of_sys_is_judged() {
+    let text = "SYS has 2 slices, and its length 1 needs 1";
+    let wanted = (20, Some((10, 7)), Some((1, 2)), &[][..], text);
+    alone(&grown(&[(10, 9, 4)]), wanted);
+    // The entry reserves what it did.
+    assert_eq!(rules(&grown(&[])), [20, 21]);
+    // The length has grown and the index has not; what the slack holds is no entry.
+    let image = hurt(&[(10, 7, 3), (11, 0, 0x3132)]);
+    let text = "SYS has 1 slice, and its length 3 needs 2";
+    alone(&image, (20, Some((10, 7)), Some((2, 1)), &[], text));
+}
+
+/// A slice that SYS's index has twice holds its entries once.
+#[test]
+fn a_slice_that_sys_has_twice_is_one_fault() {
+    let twice = [(6, 0, 2), (6, 3, 2), (6, 4, 10)];
+    assert_eq!(rules(&hurt(&twice)), [35, 20, 21]);
+    let text = "slice 1 (sectors 10 to 11) is in SYS twice";
+    // Length and reserved length are those of two slices.
+    let image = hurt(&[&twice[..], &[(10, 7, 4), (10, 9, 4)]].concat());
+    alone(&image, (35, Some((10, 0)), Some((1, 2)), &["SYS"], text));
+}
+
+/// Where it is not known which sectors are SYS's, no word is taken for an entry.
+#[test]
+fn without_sys_nothing_is_an_entry() {
+    // SYS's index names PASS's first slice.
+    let text = "SYS begins in slice 2 (sector 12)";
+    alone(
+        &hurt(&[(6, 2, 12)]),
+        (17, Some((6, 2)), Some((1, 2)), &[], text),
+    );
+    // The name of SYS is gone, and with it the length.
+    let text = "no entry of SYS is in a sector of its key, 0";
+    let image = hurt(&[(10, 0, 0), (10, 1, 0), (11, 0, 0x3132)]);
+    alone(&image, (18, Some((10, 0)), None, &[], text));
 }
 
 #[test]
@@ -389,7 +462,12 @@ fn rules_21_to_24_are_about_the_words_of_sys_and_map() {
     );
     let mut image = small();
     image[2_576..2_592].fill(0);
-    let text = "no entry of MAP is in the sectors of its key, 0";
+    let text = "no entry of MAP is in a sector of its key, 0, before the end of SYS";
+    alone(&image, (22, Some((10, 0)), None, &[], text));
+    // MAP is entered in block 1, and SYS has one block.
+    let mut image = small();
+    image.copy_within(2_576..2_592, 256 * 11);
+    image[2_576..2_592].fill(0);
     alone(&image, (22, Some((10, 0)), None, &[], text));
     let text = "word 15 of MAP's entry is 0001h in place of 0000h";
     alone(
@@ -405,57 +483,58 @@ fn rules_21_to_24_are_about_the_words_of_sys_and_map() {
 
 #[test]
 fn rules_25_to_27_are_about_entries() {
-    let text = "the words 5061h 2000h 0000h are no name";
-    let files = ["5061h 2000h 0000h"];
+    let text = "Pa%20 (10:2) is not a legal name";
+    let files = ["Pa%20"];
     alone(
         &hurt(&[(10, 32, 0x5061), (10, 33, 0x2000)]),
         (25, Some((10, 32)), None, &files, text),
     );
     // The sixth character.
-    let text = "the words 5041h 5353h 0001h are no name";
-    let files = ["5041h 5353h 0001h"];
+    let text = "PASS%00%01 (10:2) is not a legal name";
+    let files = ["PASS%00%01"];
     alone(
         &hurt(&[(10, 34, 1)]),
         (25, Some((10, 32)), None, &files, text),
     );
     let mut image = small();
     image[256 * 10 + 64..][..2].copy_from_slice(&[0x5041, 0x5353]);
-    let text = "PASS is entered in sector 10, place 2, and again in sector 10, place 4";
+    let text = "PASS is entered at 10:2 and again at 10:4";
     alone(&image, (26, Some((10, 64)), None, &["PASS"], text));
     // H = 2: SYS (53 59h + 53 00h) has key 1, MAP (4D 41h + 50 00h) key 1, PASS (A3 94h) key 0.
     let mut image = vec![0; 256 * 20];
     let record = [0, 2, 2, 20, 10, 10, 20, 0, 0];
     assert_eq!(format(&mut image, &mut State::new(0), 18, &record), 0);
     image[256 * 11 + 32..][..2].copy_from_slice(&[0x5041, 0x5353]);
-    let text = "PASS is entered in sector 11, which is of key 1, and its key is 0";
+    let text = "PASS (11:2) is entered in a sector of key 1, and its key is 0";
     alone(&image, (27, Some((11, 32)), Some((0, 1)), &["PASS"], text));
 }
 
 #[test]
 fn rules_28_to_34_are_about_files() {
     let files = &["PASS"];
-    let text = "PASS: the attributes are 0003h: no file has bits 0002h";
+    let text = "PASS (10:2): the attributes are 0003h: no file has bits 0002h";
     alone(
         &hurt(&[(10, 38, 3)]),
         (28, Some((10, 38)), None, files, text),
     );
-    let text = "PASS: the attributes are 0005h: bit 13 and bit 15 are both set";
+    let text = "PASS (10:2): the attributes are 0005h: bit 13 and bit 15 are both set";
     alone(
         &hurt(&[(10, 38, 5)]),
         (28, Some((10, 38)), None, files, text),
     );
-    let text = "PASS: it is entry only and has 2 slices";
+    let text = "PASS (10:2): it is entry only and has 2 slices";
     alone(
         &hurt(&[(10, 38, 4)]),
         (29, Some((10, 38)), Some((0, 2)), files, text),
     );
-    let text = "PASS: the length is 32768 sectors";
+    let text = "PASS (10:2): the length is 32768 sectors";
     let numbers = Some((32_767, 32_768));
     alone(
         &hurt(&[(10, 39, 0x8000)]),
         (30, Some((10, 39)), numbers, files, text),
     );
-    let text = "PASS: the index sector is 13, where no slice begins";
+    let text =
+        "PASS (10:2): the index sector is 13, where no slice begins (F is 10, s is 2, N is 20)";
     alone(
         &hurt(&[(10, 40, 13)]),
         (31, Some((10, 40)), None, files, text),
@@ -464,12 +543,12 @@ fn rules_28_to_34_are_about_files() {
     let image = hurt(&[(12, 0, 2), (12, 1, 2), (12, 2, 14), (12, 3, 2), (12, 4, 12)]);
     let text = "PASS: the index sector is 12, the first stretch begins at 14";
     alone(&image, (32, Some((12, 2)), Some((12, 14)), files, text));
-    let text = "PASS: length 4 needs 3 slices, and it has 2";
+    let text = "PASS (10:2): length 4 needs 3 slices, and it has 2";
     alone(
         &hurt(&[(10, 39, 4)]),
         (33, Some((10, 39)), Some((3, 2)), files, text),
     );
-    let text = "PASS: the reserved length is 6, and it has 2 slices of 2: 4";
+    let text = "PASS (10:2): the reserved length is 6, and it has 2 slices of 2: 4";
     alone(
         &hurt(&[(10, 41, 6)]),
         (34, Some((10, 41)), Some((4, 6)), files, text),
@@ -515,15 +594,11 @@ fn every_fault_is_named() {
         (10, 48, 0x31), // rule 25
         (9, 0, 0x3000), // rule 36 for slice 3, rule 37 for slice 5
     ]);
-    let rules: Vec<u8> = findings(&image)
-        .iter()
-        .map(|finding| finding.rule.number())
-        .collect();
-    assert_eq!(rules, [10, 24, 25, 28, 34, 36, 37]);
+    assert_eq!(rules(&image), [10, 24, 25, 28, 34, 36, 37]);
 }
 
-/// The most that an image can ask for: SYS's index lists the whole disc 127 times over, its length is
-/// the largest word, and every entry names an index block that lists the whole disc too.
+/// The most that an image can ask for: SYS's index lists the whole disc 127 times over, its length
+/// is the largest word, and every entry names an index block that lists the whole disc too.
 #[test]
 fn a_hostile_image_is_judged_quickly() {
     let mut image = vec![0; 256 * 8_202];

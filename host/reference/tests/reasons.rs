@@ -284,7 +284,8 @@ fn what_a_change_may_not_do_is_told() {
     );
     let text = "the attributes are illegal: no file has bits 0002h";
     bad(&unit, pass, &with(6, 2), 0x1200, text);
-    let text = "the attributes that SYS would keep, 8010h, are not those of a file";
+    let text = "SYS and MAP are never changed (the attributes that SYS would keep, 8010h, are not \
+                those of a file)";
     bad(&unit, change("SYS"), &with(9, 2), 0x1200, text);
     let text = "the file is SYS or MAP, which are never changed or removed";
     bad(&unit, change("MAP"), &with(6, 0), 0x1200, text);
@@ -336,6 +337,7 @@ fn slices_are_counted() {
     let mut lent = kept();
     // need(8) is 5: three more than it has.
     lent[9] = 8;
+    let text = "there are not enough free slices: 3 more are needed and 2 are free";
     bad(&unit, change, &lent, 0x1100, text);
     // SYS has 16 places: SYS, MAP, PASS and 13 more; its second sector is slack, 16 places more.
     for number in 0..29 {
@@ -343,6 +345,11 @@ fn slices_are_counted() {
     }
     let text = "there are not enough free slices: 3 are needed (1 of them for SYS) and 2 are free";
     bad(&unit, create("GATE", 3, 0), &[], 0x1100, text);
+    // Slices 4 and 5 are taken, and an entry more needs a slice of SYS.
+    lent[9] = 6;
+    good(&mut unit, change, &lent);
+    let text = "there are not enough free slices: 1 is needed for SYS and 0 are free";
+    bad(&unit, create("GATE", 0, 0), &[], 0x1100, text);
 }
 
 #[test]

@@ -61,10 +61,12 @@ impl Name {
         self.on_unit(0)
     }
 
-    /// The name in three words, with the unit as sixth character.
+    /// The name in three words, with the unit as sixth character. That has eight bits: any unit above
+    /// 254 is 255 there, which no unit is.
     pub fn on_unit(self, unit: u16) -> NameWords {
         let [a, b, c, d, e] = self.0;
-        [[a, b], [c, d], [e, unit as u8]].map(u16::from_be_bytes)
+        let unit = u8::try_from(unit).unwrap_or(u8::MAX);
+        [[a, b], [c, d], [e, unit]].map(u16::from_be_bytes)
     }
 
     /// Whether a file may have the name: a letter, then letters or digits, then zeros.

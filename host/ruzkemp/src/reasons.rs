@@ -1,4 +1,4 @@
-//! The reasons for which a call is refused: those of document 01 as 02 has changed them, and a
+//! The reasons for which a call is refused: those of the specification, and a
 //! number that no call has.
 
 use crate::error::Error::{self, *};
@@ -33,7 +33,7 @@ const WITH_SIZE: &[Call] = &[Set, Create, Change];
 /// A refusal, the calls at which a reason for it is possible, and the reason.
 pub type Reason = (Error, &'static [&'static [Call]], &'static str);
 
-/// All reasons, those of one call in the order of document 01's questions.
+/// All reasons, those of one call in the order of the specification's questions.
 pub const REASONS: &[Reason] = &[
     (CatalogParameter, &[&[Init]], "the unit is not known"),
     (CatalogParameter, &[&[Init]], "an area process is open"),

@@ -304,7 +304,8 @@ look-up 0000
 4E4F 5445 0000 0007 0002 0003 0010 0000 0000 0000 0008 0005 0006 0007 0008 0009
 ";
     let without_a_file = "rename 5000\nresize 5000\nrename 9000\nresize 9000\n";
-    let names_and_lengths = "create 0000 changed
+    let names_and_lengths = "create 1200
+create 0000 changed
 rename 1200
 rename 1200
 rename 1200

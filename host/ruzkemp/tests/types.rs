@@ -30,6 +30,7 @@ fn a_name_is_three_words_high_half_first_with_the_unit_as_sixth_character() {
     assert_eq!(pass.words(), [0x5041, 0x5353, 0]);
     assert_eq!(pass.on_unit(2), [0x5041, 0x5353, 2]);
     assert_eq!(name("ZZZZZ").on_unit(3), [0x5A5A, 0x5A5A, 0x5A03]);
+    assert_eq!(pass.on_unit(256), [0x5041, 0x5353, 0x00FF]);
     assert_eq!(Name::from_words([0x5041, 0x5353, 3]), pass);
     assert_eq!(Name::from_words(Name::SYS.words()), name("SYS"));
     assert_eq!(Name::from_words(Name::MAP.words()), name("MAP"));

@@ -6,23 +6,41 @@ use std::path::Path;
 use ruzkemp::{Attributes, ByteOrder, Name};
 
 use crate::failure::{Failure, Outcome};
-use crate::host::{is_same, shown, Form};
+use crate::host::{is_same, is_standard_input, shown, Form};
 use crate::values::{self, ATTRIBUTES};
 
 /// An option of a command.
 pub struct Choice {
     /// Its name, with the two dashes.
     pub name: &'static str,
+    /// Its short name, with the dash, if it has one.
+    pub short: Option<&'static str>,
     /// What its value stands for, if it has one.
     pub value: Option<&'static str>,
     /// What it does.
     pub help: &'static str,
 }
 
+impl Choice {
+    /// The option with a short name too.
+    pub const fn or(self, short: &'static str) -> Choice {
+        Choice {
+            short: Some(short),
+            ..self
+        }
+    }
+
+    /// Its names, the short one first.
+    pub fn names(&self) -> impl Iterator<Item = &'static str> {
+        self.short.into_iter().chain([self.name])
+    }
+}
+
 /// An option with a value.
 pub const fn valued(name: &'static str, value: &'static str, help: &'static str) -> Choice {
     Choice {
         name,
+        short: None,
         value: Some(value),
         help,
     }
@@ -32,6 +50,7 @@ pub const fn valued(name: &'static str, value: &'static str, help: &'static str)
 pub const fn flag(name: &'static str, help: &'static str) -> Choice {
     Choice {
         name,
+        short: None,
         value: None,
         help,
     }
@@ -97,7 +116,8 @@ impl Command {
             let value = choice
                 .value
                 .map_or(String::new(), |value| format!(" {value}"));
-            let left = format!("{}{value}", choice.name);
+            let names: Vec<&str> = choice.names().collect();
+            let left = format!("{}{value}", names.join(", "));
             page.push_str(&format!("  {left:<20} {}\n", choice.help));
         }
         page.push_str(&format!("  {:<20} print this page\n", "--help"));
@@ -165,7 +185,7 @@ impl Given {
             .command
             .choices
             .iter()
-            .find(|choice| choice.name == name || (choice.name, name) == ("--output", "-o"));
+            .find(|choice| choice.names().any(|known| known == name));
         let choice = choice.ok_or_else(|| misused(format!("there is no option {name}")))?;
         if self.flag(choice.name) {
             return Err(misused(format!("{name} is given twice")));
@@ -236,9 +256,15 @@ impl Given {
         Path::new(&self.operands[place])
     }
 
-    /// Refuses to write over the image, which the first operand is.
+    /// Refuses to write over the image, which the first operand is: a file, or what standard input
+    /// is read from.
     pub fn not_the_image(&self, path: &Path) -> Outcome {
-        match is_same(path, self.path(0)) {
+        let image = self.path(0);
+        let same = match image == Path::new("-") {
+            true => is_standard_input(path),
+            false => is_same(path, image),
+        };
+        match same {
             true => Err(self.misused(format!("{} is the image itself", shown(path)))),
             false => Ok(()),
         }
@@ -266,11 +292,16 @@ impl Given {
 
     /// How the image lies in its file.
     pub fn form(&self) -> Outcome<Form> {
-        let order = match self.flag(LOW.name) {
+        self.form_by(&LOW, &OFFSET)
+    }
+
+    /// How an image lies in its file, as two options say.
+    pub fn form_by(&self, low: &Choice, offset: &Choice) -> Outcome<Form> {
+        let order = match self.flag(low.name) {
             true => ByteOrder::LowFirst,
             false => ByteOrder::HighFirst,
         };
-        let offset = self.value(OFFSET.name, values::sector)?;
+        let offset = self.value(offset.name, values::sector)?;
         Ok(Form { order, offset })
     }
 

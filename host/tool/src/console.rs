@@ -4,6 +4,7 @@ use std::io::{self, IsTerminal, Write};
 use std::sync::atomic::{AtomicBool, Ordering};
 
 use crate::failure::{Failure, Outcome};
+use crate::host::streams;
 
 /// Prints to standard output, at once. This is for what is printed before anything is committed:
 /// if it cannot be printed, the command fails and nothing is changed.
@@ -19,8 +20,11 @@ pub fn in_dry_run() {
     DRY_RUN.store(true, Ordering::Relaxed);
 }
 
+/// Whether a warning has told that reports cannot be printed.
+static NOT_REPORTED: AtomicBool = AtomicBool::new(false);
+
 /// Prints what has been done, after it was committed. That it cannot be printed is no failure
-/// any more: a warning tells it.
+/// any more: a warning tells it, once.
 pub fn report(text: &str) {
     let mut text = visible(text);
     let mut done = "it is done";
@@ -32,7 +36,9 @@ pub fn report(text: &str) {
             .collect();
     }
     if let Err(failure) = print(&text) {
-        warn(&format!("{done}, and not reported: {failure}"));
+        if !NOT_REPORTED.swap(true, Ordering::Relaxed) {
+            warn(&format!("{done}, and not reported: {failure}"));
+        }
     }
 }
 
@@ -55,6 +61,10 @@ pub fn visible(text: &str) -> String {
 
 /// Writes bytes to standard output, at once.
 pub fn print_bytes(bytes: &[u8]) -> Outcome {
+    if streams::is_output_closed() {
+        let what = "standard output: it is not open for writing";
+        return Err(Failure::Host(what.into()));
+    }
     let mut out = io::stdout().lock();
     let written = out.write_all(bytes).and_then(|()| out.flush());
     written.map_err(|error| Failure::Host(format!("standard output: {error}")))

@@ -18,7 +18,8 @@ use crate::failure::{Failure, Outcome};
 pub struct Explained {
     unit: Unit<Vec<u16>>,
     state: reference::State,
-    asked: Asked,
+    /// The last call; none if there was no call yet.
+    asked: Option<Asked>,
 }
 
 /// A call.
@@ -41,7 +42,7 @@ impl Explained {
         Explained {
             unit: Unit::new(image, number),
             state: reference::State::new(number),
-            asked: Asked::Format(0, Vec::new()),
+            asked: None,
         }
     }
 
@@ -57,17 +58,17 @@ impl Explained {
     /// Why the last call was refused.
     pub fn reason(&self, error: Error) -> Outcome<String> {
         let (image, state) = (self.unit.image(), &self.state);
-        let reason = match &self.asked {
+        let reason = |asked: &Asked| match asked {
             Asked::Format(bytes, record) => reference::format_reason(image, state, *bytes, record),
             Asked::Message(message, lent) => reference::reason(image, state, message, lent),
         };
-        agreed(error.word(), reason)
+        agreed(error.word(), self.asked.as_ref().and_then(reason))
     }
 
     /// Keeps a call that is going to be made.
     fn ask(&mut self, message: Message, lent: &[u16]) -> &mut Unit<Vec<u16>> {
         self.state = state_of(self.unit.state().raw());
-        self.asked = Asked::Message(message_of(&message), lent.to_vec());
+        self.asked = Some(Asked::Message(message_of(&message), lent.to_vec()));
         &mut self.unit
     }
 
@@ -96,7 +97,7 @@ impl Explained {
     /// Format with any record and any byte count; answers the result word.
     pub fn format_words(&mut self, record: &[u16], bytes: u16) -> u16 {
         self.state = state_of(self.unit.state().raw());
-        self.asked = Asked::Format(bytes, record.to_vec());
+        self.asked = Some(Asked::Format(bytes, record.to_vec()));
         self.unit.format_words(record, bytes)
     }
 
@@ -337,49 +338,69 @@ mod tests {
         }
     }
 
-    #[test]
-    fn the_state_before_the_call_is_asked() {
+    fn formatted() -> Explained {
         let record = Record::new(0, 1, 2, 20, 10);
         let mut unit = Explained::new(vec![0; record.image_words()], 0);
-        let name = Name::new("PASS").expect("a name");
         unit.format(&record).expect("formatted");
-        let error = unit
-            .create(name, 1, Attributes::NONE)
-            .expect_err("too early");
-        assert_eq!(
-            unit.reason(error).expect("both refuse"),
-            "the unit is not initialized"
-        );
+        unit
+    }
+
+    fn pass() -> Name {
+        Name::new("PASS").expect("a name")
+    }
+
+    /// A unit with PASS, of one sector, whose area process user 7 has alone.
+    fn reserved() -> Explained {
+        let mut unit = formatted();
+        let name = pass();
         unit.init().expect("sound");
         unit.create(name, 1, Attributes::NONE).expect("created");
         unit.create_area(name).expect("opened");
-        let error = unit.remove(name).expect_err("it is open");
-        assert_eq!(
-            unit.reason(error).expect("both refuse"),
-            "the file has an area process"
-        );
-        unit.reserve(name, 7, Role::ExclusiveUser)
-            .expect("reserved");
-        let error = unit
-            .reserve(name, 8, Role::Sharing)
-            .expect_err("it is reserved");
-        let text = "another user is exclusive user: 7";
+        let role = Role::ExclusiveUser;
+        unit.reserve(name, 7, role).expect("reserved");
+        unit
+    }
+
+    fn is_refused<T>(unit: &Explained, result: Result<T>, text: &str) {
+        let error = result.err().expect("refused");
         assert_eq!(unit.reason(error).expect("both refuse"), text);
+    }
+
+    #[test]
+    fn before_the_first_call_there_is_no_reason() {
+        let unit = Explained::new(vec![0; 256 * 20], 0);
+        let failure = unit.reason(Error::NoEntry).expect_err("nothing was asked");
+        assert_eq!(failure.status(), 5);
+    }
+
+    #[test]
+    fn the_state_before_the_call_is_asked() {
+        let name = pass();
+        let mut unit = formatted();
+        let early = unit.create(name, 1, Attributes::NONE);
+        is_refused(&unit, early, "the unit is not initialized");
+        let mut unit = reserved();
+        let removed = unit.remove(name);
+        is_refused(&unit, removed, "the file has an area process");
+        let shared = unit.reserve(name, 8, Role::Sharing);
+        is_refused(&unit, shared, "another user is exclusive user: 7");
+    }
+
+    #[test]
+    fn the_position_before_the_call_is_asked() {
+        let name = pass();
+        let mut unit = reserved();
         unit.write_block(name, 7, &[1; 256]).expect("written");
-        let error = unit
-            .read_block(name, 7, &mut [0; 256])
-            .expect_err("the end");
-        let text = "the position is at the end of a fixed file";
-        assert_eq!(unit.reason(error).expect("both refuse"), text);
+        let read = unit.read_block(name, 7, &mut [0; 256]);
+        is_refused(&unit, read, "the position is at the end of a fixed file");
         // A refused position moves: the one before it counts.
         let message = Message::AreaMessage {
             name: name.on_unit(0),
             sender: 7,
             operation: Operation::Position(5),
         };
-        let answer = unit.perform(&message, &mut []);
-        let error = Error::from_word(answer.result).expect("refused");
+        let answered = Error::check(unit.perform(&message, &mut []).result);
         let text = "the position is past the length: 5 is above 1";
-        assert_eq!(unit.reason(error).expect("both refuse"), text);
+        is_refused(&unit, answered, text);
     }
 }

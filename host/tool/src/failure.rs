@@ -36,8 +36,10 @@ impl Failure {
     /// The exit status.
     pub fn status(&self) -> u8 {
         match self {
-            Failure::Refused(..) | Failure::Unexpected(_) | Failure::NotFound(_) => 1,
-            Failure::Differ(_) => 1,
+            Failure::Refused(..)
+            | Failure::Unexpected(_)
+            | Failure::Differ(_)
+            | Failure::NotFound(_) => 1,
             Failure::Usage(_) => 2,
             Failure::Host(_) => 3,
             Failure::NotUnit(_) => 4,
@@ -58,8 +60,8 @@ impl fmt::Display for Failure {
                 let word = error.word();
                 write!(to, "{what}: refused with {word:04X}h: {reason}")
             }
-            Failure::Differ(text) => to.write_str(text),
             Failure::Unexpected(text)
+            | Failure::Differ(text)
             | Failure::NotFound(text)
             | Failure::Usage(text)
             | Failure::Host(text)

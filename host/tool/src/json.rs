@@ -44,8 +44,8 @@ pub fn file(view: &View, file: &Holder) -> String {
     )
 }
 
-/// The unit and all its stretches in the order of the slices, one to a line; the name of a free
-/// one is null.
+/// The unit and all its stretches in the order of the slices, one to a line; name and number of a
+/// free one are null.
 pub fn map(view: &View) -> String {
     let mut stretches: Vec<(&Stretch, String)> = Vec::new();
     for file in &view.files {
@@ -56,7 +56,8 @@ pub fn map(view: &View) -> String {
         }));
     }
     let free = view.free.iter();
-    stretches.extend(free.map(|stretch| (stretch, "\"name\": null".into())));
+    let nobody = "\"name\": null, \"stretch\": null";
+    stretches.extend(free.map(|stretch| (stretch, nobody.into())));
     stretches.sort_by_key(|(stretch, _)| stretch.first);
     let lines = stretches.iter();
     let lines: Vec<String> = lines

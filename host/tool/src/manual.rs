@@ -47,8 +47,11 @@ fn option(choice: &Choice) -> String {
     let value = choice.value.map_or(String::new(), |value| {
         format!(" \\fI{}\\fR", escaped(value))
     });
-    let name = escaped(choice.name);
-    format!(".TP\n\\fB{name}\\fR{value}\n{}", lines(choice.help))
+    let names = choice
+        .names()
+        .map(|name| format!("\\fB{}\\fR", escaped(name)));
+    let names: Vec<String> = names.collect();
+    format!(".TP\n{}{value}\n{}", names.join(", "), lines(choice.help))
 }
 
 /// Text as input lines of roff: none begins as a request does.
@@ -73,6 +76,8 @@ fn escaped(text: &str) -> String {
             '^' => out.push_str("\\(ha"),
             '~' => out.push_str("\\(ti"),
             '"' => out.push_str("\\(dq"),
+            // So that the page does not depend on an encoding.
+            other if !other.is_ascii() => out.push_str(&format!("\\[u{:04X}]", u32::from(other))),
             other => out.push(other),
         }
     }
@@ -89,6 +94,7 @@ mod tests {
             escaped(r#"a\n --x 'y' "z" `~^"#),
             r"a\en \-\-x \(aqy\(aq \(dqz\(dq \(ga\(ti\(ha"
         );
+        assert_eq!(escaped("Ø å"), r"\[u00D8] \[u00E5]");
     }
 
     #[test]
@@ -104,5 +110,7 @@ mod tests {
         let choice = crate::arguments::valued("--svg", "FILE", ".svg is drawn");
         let roff = ".TP\n\\fB\\-\\-svg\\fR \\fIFILE\\fR\n\\&.svg is drawn\n";
         assert_eq!(option(&choice), roff);
+        let roff = ".TP\n\\fB\\-s\\fR, \\fB\\-\\-svg\\fR \\fIFILE\\fR\n\\&.svg is drawn\n";
+        assert_eq!(option(&choice.or("-s")), roff);
     }
 }

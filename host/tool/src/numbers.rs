@@ -5,12 +5,18 @@
 
 use reference::layout::{Kit, KitFault};
 
+use crate::meaning;
+
 /// The data sectors of a unit whose length is not given: 256 slices of 4.
 const DATA: u16 = 1_024;
 /// The first data sector, where it may be any.
 const FIRST: u16 = 10;
 /// The most sectors of a unit.
 const MOST_SECTORS: u16 = 32_767;
+/// The least and the most sectors of a slice.
+const SLICE: [u16; 2] = [2, 64];
+/// The most slices of a unit.
+const MOST_SLICES: u16 = 4_096;
 /// Below so many data sectors slices of 2 are better than slices of 4.
 const SMALL: u16 = 64;
 /// For so many slices there is a key.
@@ -18,6 +24,14 @@ const SLICES_A_KEY: u16 = 32;
 
 /// The options that give the numbers, in the order of [`Wanted::given`].
 pub const OPTIONS: [&str; 4] = ["--sectors", "--first", "--slice", "--keys"];
+
+/// The limits that numbers past 16 bits break, whatever the others are, in the same order.
+pub const PASSED: [KitFault; 4] = [
+    KitFault::Sectors,
+    KitFault::Sectors,
+    KitFault::SliceSize,
+    KitFault::SysSize,
+];
 
 /// The numbers that are given.
 #[derive(Clone, Copy, PartialEq, Eq, Debug, Default)]
@@ -43,7 +57,7 @@ pub struct Numbers {
 
 impl Numbers {
     /// The limit that the numbers break, if they break one.
-    pub fn broken(&self) -> Option<KitFault> {
+    fn broken(&self) -> Option<KitFault> {
         let Numbers {
             sectors,
             first,
@@ -54,38 +68,47 @@ impl Numbers {
         let kit = Kit::from_words(&[keys, slice, sectors, free, first, sectors]);
         kit.limits().err()
     }
-
-    fn by_option(&self) -> [u16; 4] {
-        [self.sectors, self.first, self.slice, self.keys]
-    }
 }
 
 impl Wanted {
-    /// The given numbers and legal ones beside them; with these only if there are such.
+    /// The numbers given, and beside them those that are taken. If they are not legal, none that
+    /// would be taken are, and the limit that they break is one that the numbers given break: where
+    /// slices can be had, that there are too many or too few of them.
     pub fn chosen(&self) -> Numbers {
-        self.legal().unwrap_or_else(|| {
-            let [_, first, slice, keys] = self.given;
-            Numbers {
-                sectors: self.sectors().unwrap_or(FIRST + DATA),
-                first: first.unwrap_or(FIRST),
-                slice: slice.unwrap_or(4),
-                keys: keys.unwrap_or(1),
+        let slice = self.given[2];
+        let (best, others) = by_preference(self.data());
+        let mut chosen = self.around(slice.unwrap_or(best));
+        let others = others.take_while(|_| slice.is_none());
+        for numbers in others.map(|slice| self.around(slice)) {
+            // Another slice size does not mend any other fault.
+            let whole = match chosen.broken() {
+                Some(KitFault::Remainder) => false,
+                Some(KitFault::TooManySlices | KitFault::TooFewSlices) => true,
+                _ => break,
+            };
+            let fault = numbers.broken();
+            if fault.is_none() || !whole && fault != Some(KitFault::Remainder) {
+                chosen = numbers;
             }
-        })
+        }
+        chosen
     }
 
-    /// Legal numbers with those given, if there are any.
+    /// The data sectors; where N may be any, as many as are wanted and fit.
+    fn data(&self) -> u16 {
+        let first = self.given[1].unwrap_or(FIRST);
+        let most = MOST_SECTORS.saturating_sub(first).min(DATA);
+        let sectors = self.sectors();
+        sectors.map_or(most, |sectors| sectors.saturating_sub(first))
+    }
+
+    /// The chosen numbers, if they are legal and the file has so many sectors. All slice sizes are
+    /// tried, but of F only the one of [`Wanted::around`]: with N 32767 and s 4 a legal F is to be
+    /// had, 16383, but half of the unit would be lost by it unasked.
     fn legal(&self) -> Option<Numbers> {
-        let [sectors, first, slice, _] = self.given;
-        if sectors.is_some_and(|sectors| self.file.is_some_and(|file| file != sectors)) {
-            return None;
-        }
-        let data = self.sectors().map_or(DATA, |sectors| {
-            sectors.saturating_sub(first.unwrap_or(FIRST))
-        });
-        let slices = slice.map_or_else(|| by_preference(data), |slice| vec![slice]);
-        let mut found = slices.into_iter().filter_map(|slice| self.around(slice));
-        found.find(|numbers| numbers.broken().is_none())
+        let fits = |numbers: &Numbers| self.file.is_none_or(|file| file == numbers.sectors);
+        let chosen = Some(self.chosen()).filter(fits);
+        chosen.filter(|numbers| numbers.broken().is_none())
     }
 
     /// N, where it is given or that of the file.
@@ -95,27 +118,54 @@ impl Wanted {
 
     /// Numbers with a slice size: F is the first sector from which on whole slices fill the
     /// unit, N has about as many as a unit of 1,034 sectors, and there is a key for 32 slices.
-    fn around(&self, slice: u16) -> Option<Numbers> {
+    /// A slice size past its limits is taken as the limit in this.
+    fn around(&self, slice: u16) -> Numbers {
         let [_, first, _, keys] = self.given;
+        let size = slice.clamp(SLICE[0], SLICE[1]);
+        // Where there is no room for a slice, all that there is.
+        let unfilled = |room: u16| if room < size { 0 } else { room % size };
         let (sectors, first) = match (self.sectors(), first) {
             (Some(sectors), Some(first)) => (sectors, first),
-            (Some(sectors), None) => {
-                let rest = sectors.checked_sub(FIRST)?.checked_rem(slice)?;
-                (sectors, FIRST + rest)
-            }
+            (Some(sectors), None) => (sectors, FIRST + unfilled(sectors.saturating_sub(FIRST))),
             (None, first) => {
-                let first = first.unwrap_or(FIRST);
-                let room = MOST_SECTORS.checked_sub(first)?.min(DATA);
-                (first + room - room.checked_rem(slice)?, first)
+                let (first, room) = (first.unwrap_or(FIRST), self.data());
+                let sectors = first + room - unfilled(room);
+                (sectors.min(MOST_SECTORS), first)
             }
         };
-        let slices = sectors.checked_sub(first)?.checked_div(slice)?;
+        let slices = sectors.saturating_sub(first) / size;
         let keys = keys.unwrap_or(slices.div_ceil(SLICES_A_KEY).clamp(1, 64));
-        Some(Numbers {
+        Numbers {
             sectors,
             first,
             slice,
             keys,
+        }
+    }
+
+    /// The limit that the chosen numbers break, in words. A number that is not given is no reason,
+    /// because another would have been chosen.
+    pub fn broken(&self) -> Option<String> {
+        use KitFault::{Remainder, Sectors};
+        let numbers = self.chosen();
+        let fault = numbers.broken()?;
+        let [_, first, slice, _] = self.given;
+        let least = if slice.is_none() { "at least " } else { "" };
+        let no_room = format!("no room for a slice of {least}{} sectors", numbers.slice);
+        Some(match (fault, self.sectors(), first) {
+            (Sectors | Remainder, Some(..=MOST_SECTORS), None) => format!(
+                "N (--sectors) is too small: {no_room} from F on, which is at least {FIRST}"
+            ),
+            (Sectors | Remainder, None, Some(_)) => format!(
+                "F (--first) is too large: {no_room} before N, which is at most {MOST_SECTORS}"
+            ),
+            (Remainder, ..) if slice.is_none() => {
+                let [least, most] = SLICE;
+                format!(
+                    "no s (--slice) of {least} to {most} divides N - F (--sectors less --first)"
+                )
+            }
+            _ => meaning::of_limit(fault).into(),
         })
     }
 
@@ -139,19 +189,39 @@ impl Wanted {
         }
     }
 
-    /// As few numbers as possible that have to be others, with legal ones.
+    /// As few of the numbers given as possible that have to be others, with legal ones: one after
+    /// the other the nearest with which there are legal ones for the rest.
     fn together(&self) -> Option<String> {
-        let mut sets: Vec<u8> = (1..16).collect();
-        sets.sort_by_key(|set| set.count_ones());
-        let (set, numbers) = sets.into_iter().find_map(|set| {
-            let others = (0..OPTIONS.len()).filter(|number| set & 1 << number != 0);
-            let freed = others.fold(*self, |wanted, number| wanted.with(number, None));
-            freed.legal().map(|numbers| (set, numbers))
-        })?;
-        let changed = (0..OPTIONS.len()).filter(|number| set & 1 << number != 0);
-        let options =
-            changed.map(|number| format!("{} {}", OPTIONS[number], numbers.by_option()[number]));
-        Some(options.collect::<Vec<_>>().join(" with "))
+        let given = |number: &usize| self.given[*number].is_some();
+        let mut sets: Vec<Vec<usize>> = (1..16).map(numbers_of).collect();
+        sets.retain(|set| set.iter().all(given));
+        sets.sort_by_key(Vec::len);
+        let set = sets.into_iter().find(|set| self.can_be_legal(set))?;
+        let mut wanted = *self;
+        let mut options = Vec::new();
+        for (place, number) in set.iter().enumerate() {
+            let is_possible = |value: &u16| {
+                let others = wanted.with(*number, Some(*value));
+                others.can_be_legal(&set[place + 1..])
+            };
+            let value = by_distance(self.given[*number]?).find(is_possible)?;
+            wanted = wanted.with(*number, Some(value));
+            options.push(format!("{} {value}", OPTIONS[*number]));
+        }
+        Some(options.join(" with "))
+    }
+
+    /// Whether there are legal numbers if these may be any. An F that may be any may also leave
+    /// sectors unused, so that there are no more than 4,096 slices.
+    fn can_be_legal(&self, any: &[usize]) -> bool {
+        let freed = any
+            .iter()
+            .fold(*self, |wanted, number| wanted.with(*number, None));
+        let chosen = freed.chosen();
+        let slices = chosen.slice.saturating_mul(MOST_SLICES);
+        let last = any.contains(&1).then(|| chosen.sectors.checked_sub(slices));
+        let with_last = last.flatten().map(|first| freed.with(1, Some(first)));
+        freed.legal().is_some() || with_last.is_some_and(|wanted| wanted.legal().is_some())
     }
 
     fn with(mut self, number: usize, value: Option<u16>) -> Wanted {
@@ -160,14 +230,26 @@ impl Wanted {
     }
 }
 
+/// The numbers of a set, which has a bit for each.
+fn numbers_of(set: u8) -> Vec<usize> {
+    let all = 0..OPTIONS.len();
+    all.filter(|number| set & 1 << number != 0).collect()
+}
+
+/// All words, the nearest to one first; of two as near, the lower.
+fn by_distance(word: u16) -> impl Iterator<Item = u16> {
+    let pairs = (0..=u16::MAX).map(move |by| [word.checked_sub(by), word.checked_add(by)]);
+    pairs.flatten().flatten()
+}
+
 /// The slice sizes, the better ones first: 4, or 2 on a small unit, then the powers of 2.
-fn by_preference(data: u16) -> Vec<u16> {
-    let first: &[u16] = match data < SMALL {
-        true => &[2, 4, 8, 16, 32, 64],
-        false => &[4, 8, 2, 16, 32, 64],
+fn by_preference(data: u16) -> (u16, impl Iterator<Item = u16>) {
+    let (best, powers) = match data < SMALL {
+        true => (2, [4, 8, 16, 32, 64]),
+        false => (4, [8, 2, 16, 32, 64]),
     };
-    let others = (3..64).filter(|slice| !first.contains(slice));
-    first.iter().copied().chain(others).collect()
+    let others = (3..64).filter(|slice: &u16| !slice.is_power_of_two());
+    (best, powers.into_iter().chain(others))
 }
 
 #[cfg(test)]
@@ -176,7 +258,13 @@ mod tests {
 
     fn chosen(given: [Option<u16>; 4]) -> [u16; 4] {
         let wanted = Wanted { given, file: None };
-        wanted.chosen().by_option()
+        let Numbers {
+            sectors,
+            first,
+            slice,
+            keys,
+        } = wanted.chosen();
+        [sectors, first, slice, keys]
     }
 
     #[test]
@@ -197,6 +285,9 @@ mod tests {
         assert_eq!(chosen([None, None, Some(3), None]), [1_033, 10, 3, 11]);
         let last = [32_767, 32_765, 2, 1];
         assert_eq!(chosen([None, Some(32_765), None, None]), last);
+        // There is room for 47 data sectors.
+        let late = [32_766, 32_720, 2, 1];
+        assert_eq!(chosen([None, Some(32_720), None, None]), late);
         assert_eq!(chosen([None, None, None, Some(64)]), [1_034, 10, 4, 64]);
     }
 
@@ -211,10 +302,34 @@ mod tests {
         }
     }
 
+    /// Of F the least from which on there are whole slices is enough for that.
+    #[test]
+    fn on_a_small_unit_legal_numbers_are_found_if_there_are_any() {
+        for sectors in 0..60 {
+            for keys in [0, 1, 2, 3, 10, 31, 32, 33, 48, 64, 65] {
+                let given = [Some(sectors), None, None, Some(keys)];
+                let mut all = (10..sectors).flat_map(|first| (2..=64).map(move |s| (first, s)));
+                let any = all.any(|(first, slice)| {
+                    let numbers = Numbers {
+                        sectors,
+                        first,
+                        slice,
+                        keys,
+                    };
+                    numbers.broken().is_none()
+                });
+                let wanted = Wanted { given, file: None };
+                assert_eq!(wanted.legal().is_some(), any, "{given:?}");
+                assert_eq!(wanted.broken().is_none(), any, "{given:?}");
+            }
+        }
+    }
+
     #[test]
     fn two_wrong_numbers_are_told_together() {
+        // 10 sectors are 5 slices of 2, which are enough for 10 keys.
         let given = [Some(20), Some(10), Some(1), Some(65)];
         let nearest = Wanted { given, file: None }.nearest();
-        assert_eq!(nearest, ["--slice 2 with --keys 1"]);
+        assert_eq!(nearest, ["--slice 2 with --keys 10"]);
     }
 }

@@ -1,6 +1,7 @@
 //! The map of a unit's slices as an SVG picture.
 
 use crate::palette::{code, colour, is_light, Colour, SYS};
+use crate::values::range;
 use crate::view::{Holder, Stretch, View};
 
 const WIDTH: f64 = 1080.0;
@@ -186,8 +187,8 @@ fn free(view: &View, grid: &Grid, stretch: &Stretch) -> String {
 
 fn title(what: &str, view: &View, stretch: &Stretch) -> String {
     let (first, last) = view.sectors(stretch);
-    let (from, to) = (stretch.first, stretch.last());
-    format!("{what}: slices {from} to {to}, sectors {first} to {last}")
+    let slices = range("slice", stretch.first, stretch.last());
+    format!("{what}: {slices}, sectors {first} to {last}")
 }
 
 /// A file's stretches, each one joined bar.

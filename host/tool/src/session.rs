@@ -1,7 +1,7 @@
 //! A unit on an image file, for the length of one command.
 
 use std::fs;
-use std::path::{Path, PathBuf};
+use std::path::Path;
 
 use ruzkemp::{is_sound, Call, Error, Name, State, SECTOR};
 
@@ -14,8 +14,6 @@ use crate::host::{shown, Form, ImageFile, Replacement};
 /// An image file's unit, initialized.
 pub struct Session {
     file: ImageFile,
-    path: PathBuf,
-    form: Form,
     dry_run: bool,
     /// The unit: every change of the image is one of its calls.
     pub unit: Explained,
@@ -24,15 +22,17 @@ pub struct Session {
 impl Session {
     /// Opens the command's image to read it only.
     pub fn to_read(given: &Given) -> Outcome<Session> {
-        Session::of(given, ImageFile::read(given.path(0), given.form()?)?)?.initialized()
+        Session::to_read_at(given, 0, given.form()?)
+    }
+
+    /// Opens the command's image, which has been read already, to read it only.
+    pub fn to_read_file(given: &Given, file: ImageFile) -> Outcome<Session> {
+        Session::of(given, file)?.initialized()
     }
 
     /// Opens another image of the command, an operand, to read it only.
-    pub fn to_read_at(given: &Given, place: usize) -> Outcome<Session> {
-        let path = given.path(place);
-        let mut session = Session::of(given, ImageFile::read(path, given.form()?)?)?;
-        session.path = path.into();
-        session.initialized()
+    pub fn to_read_at(given: &Given, place: usize, form: Form) -> Outcome<Session> {
+        Session::to_read_file(given, ImageFile::read(given.path(place), form)?)
     }
 
     /// Opens the command's image to change it.
@@ -56,8 +56,6 @@ impl Session {
         let unit = Explained::new(file.words.clone(), given.unit()?);
         Ok(Session {
             file,
-            path: given.path(0).into(),
-            form: given.form()?,
             dry_run: given.is_dry_run(),
             unit,
         })
@@ -66,7 +64,7 @@ impl Session {
     fn initialized(mut self) -> Outcome<Session> {
         match self.unit.init() {
             Ok(()) => Ok(self),
-            Err(Error::CatalogUnsound) => Err(unsound(&self.path, self.unit.image(), self.form)),
+            Err(Error::CatalogUnsound) => Err(unsound(&self.file, self.unit.image())),
             Err(error) => {
                 let what = format!("init of unit {}", self.unit.number());
                 Err(self.unit.refused(what, error))
@@ -88,9 +86,9 @@ impl Session {
     /// A failure, and behind it what is to be known if the image's length or kit is the reason.
     pub fn hinted(&self, failure: Failure) -> Failure {
         match failure {
-            Failure::Refused(_, Error::CatalogUnsound, ..) => {
-                let hint = hint::of(self.unit.image(), self.form);
-                Failure::Unexpected(format!("{failure}{hint}"))
+            Failure::Refused(what, error @ Error::CatalogUnsound, reason) => {
+                let hint = hint::of(self.unit.image(), self.file.form);
+                Failure::Refused(what, error, format!("{reason}{hint}"))
             }
             other => other,
         }
@@ -104,7 +102,7 @@ impl Session {
             return Ok(());
         }
         if !is_sound(image, &State::new(self.unit.number())) {
-            let path = shown(&self.path);
+            let path = shown(&self.file.shown);
             return Err(Failure::NotUnit(format!(
                 "{path}: not written: with no area process open it would not be a sound unit"
             )));
@@ -145,7 +143,8 @@ fn make_in_pack(given: &Given, made: impl FnOnce() -> Outcome<Explained>) -> Out
         return Err(given.misused(what));
     }
     if !given.flag("--force") {
-        return Err(Replacement::exists(path));
+        let what = "the file exists already (--force formats the unit's part of it)";
+        return Err(Failure::host(path, what));
     }
     let unit = made()?;
     // A unit has at most 32,767 sectors.
@@ -156,15 +155,15 @@ fn make_in_pack(given: &Given, made: impl FnOnce() -> Outcome<Explained>) -> Out
 }
 
 /// The failure that an image which Init does not accept is.
-fn unsound(path: &Path, image: &[u16], form: Form) -> Failure {
-    let path = shown(path);
+fn unsound(file: &ImageFile, image: &[u16]) -> Failure {
+    let path = shown(&file.shown);
     match reference::findings(image).first() {
         Some(first) => {
             let number = first.rule.number();
             Failure::NotUnit(format!(
                 "{path}: not a sound unit: rule {number} (docs/RULES.md): {first}{} \
                  (ruzkemp check --all says more)",
-                hint::of(image, form)
+                hint::of(image, file.form)
             ))
         }
         None => Failure::Disagreement(format!(
@@ -205,7 +204,7 @@ mod tests {
     use ruzkemp::{Attributes, Record, Role, Unit};
 
     use super::*;
-    use crate::host::bytes_of;
+    use crate::host::{bytes_of, Form};
 
     #[test]
     fn an_image_that_needs_its_state_is_not_written() {
@@ -217,8 +216,6 @@ mod tests {
         let unit = Explained::new(file.words.clone(), 0);
         let session = Session {
             file,
-            path: path.clone(),
-            form: Form::default(),
             dry_run: false,
             unit,
         };

@@ -1,12 +1,14 @@
 //! The map of a unit's slices, drawn in text.
 
+use std::fmt::Display;
+
 use ruzkemp::Name;
 
 use crate::palette;
-use crate::view::{Holder, Stretch, View};
+use crate::view::{Holder, View};
 
 /// Slices in a row.
-const ROW: usize = 64;
+pub const ROW: usize = 64;
 
 /// A file as it is drawn.
 struct Mark {
@@ -99,7 +101,7 @@ fn legend(view: &View, holders: &[&Holder], marks: &[Mark], colours: bool) -> St
     let mut text = String::from("\n");
     for (holder, mark) in holders.iter().zip(marks) {
         let symbol = painted(mark.symbol, mark, colours);
-        let listed = listed(&holder.stretches);
+        let listed = some(&holder.stretches);
         text += &format!(
             "{symbol} {:<5} {:>5} in {:>3}: {listed}\n",
             holder.name,
@@ -111,22 +113,16 @@ fn legend(view: &View, holders: &[&Holder], marks: &[Mark], colours: bool) -> St
         ". free  {:>5} in {:>3}: {}\n",
         view.free_slices(),
         view.free.len(),
-        listed(&view.free)
+        some(&view.free)
     );
     text + &format!("\n{}\n", view.fragmentation())
 }
 
-/// Stretches as first-last; of many only the first eight.
-fn listed(stretches: &[Stretch]) -> String {
+/// Things one behind the other; of many only the first eight.
+pub fn some(all: &[impl Display]) -> String {
     const MOST: usize = 8;
-    let some = stretches.iter().take(MOST);
-    let mut parts: Vec<String> = some
-        .map(|stretch| match stretch.slices {
-            1 => stretch.first.to_string(),
-            _ => format!("{}-{}", stretch.first, stretch.last()),
-        })
-        .collect();
-    if stretches.len() > MOST {
+    let mut parts: Vec<String> = all.iter().take(MOST).map(ToString::to_string).collect();
+    if all.len() > MOST {
         parts.push("..".into());
     }
     parts.join(" ")

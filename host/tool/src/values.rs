@@ -15,6 +15,15 @@ pub fn number(text: &str) -> Result<u16, String> {
     u16::try_from(number).map_err(|_| Wrong::TooLarge.text(text, 16))
 }
 
+/// The same, but for a number past 16 bits the largest word.
+pub fn nearest_word(text: &str) -> Result<u16, String> {
+    match long(text) {
+        Ok(number) => Ok(u16::try_from(number).unwrap_or(u16::MAX)),
+        Err(Wrong::TooLarge) => Ok(u16::MAX),
+        Err(wrong) => Err(wrong.text(text, 16)),
+    }
+}
+
 /// A number of bytes of a file, in the same two bases.
 pub fn bytes(text: &str) -> Result<u64, String> {
     long(text).map_err(|wrong| wrong.text(text, 64))
@@ -114,7 +123,8 @@ pub fn attributes(text: &str) -> Result<Attributes, String> {
     if text == "none" {
         return Ok(Attributes::NONE);
     }
-    if text.starts_with(|first: char| first.is_ascii_digit()) {
+    let has_digit = text.starts_with(|first: char| first.is_ascii_digit());
+    if has_digit || !matches!(long(text), Err(Wrong::Form)) {
         return number(text).map(Attributes::from_bits);
     }
     let mut word = Attributes::NONE;
@@ -135,6 +145,20 @@ pub fn count(number: impl Into<u64>, thing: &str) -> String {
         1 => format!("1 {thing}"),
         many => format!("{many} {thing}s"),
     }
+}
+
+/// Neighbouring things from a first to a last, in words.
+pub fn range(thing: &str, first: usize, last: usize) -> String {
+    match first == last {
+        true => format!("{thing} {first}"),
+        false => format!("{thing}s {first} to {last}"),
+    }
+}
+
+/// Words in base 16.
+pub fn hex(words: &[u16]) -> String {
+    let words: Vec<String> = words.iter().map(|word| format!("{word:04X}")).collect();
+    words.join(" ")
 }
 
 #[cfg(test)]
@@ -164,6 +188,15 @@ mod tests {
         ] {
             assert!(number(text).is_err(), "{text}");
         }
+    }
+
+    #[test]
+    fn numbers_past_16_bits_have_a_nearest_word() {
+        for text in ["65535", "65536", "0x10000", "18446744073709551616"] {
+            assert_eq!(nearest_word(text), Ok(u16::MAX), "{text}");
+        }
+        assert_eq!(nearest_word("1Fh"), Ok(31));
+        assert!(nearest_word("-1").is_err());
     }
 
     #[test]
@@ -206,6 +239,9 @@ mod tests {
         assert_eq!(bits("permanent+entry-only"), Err(withdrawn.into()));
         assert_eq!(bits("none"), Ok(0));
         assert_eq!(bits("4001h"), Ok(0x4001));
+        assert_eq!(bits("A000h"), Ok(0xA000));
+        assert_eq!(bits("ffffH"), Ok(0xFFFF));
+        assert_eq!(bits("FFFFFh"), Err("FFFFFh does not fit in 16 bits".into()));
         assert!(attributes("extendible").is_err());
     }
 

@@ -1,5 +1,7 @@
 //! Which slices the files of a sound unit have.
 
+use std::fmt;
+
 use reference::layout::{stretches, Kit};
 use reference::plain::Plain;
 use ruzkemp::{Entry, Name};
@@ -20,6 +22,16 @@ impl Stretch {
     /// Its last slice.
     pub fn last(&self) -> usize {
         self.first + self.slices - 1
+    }
+}
+
+/// Its slices as first-last, or the only one.
+impl fmt::Display for Stretch {
+    fn fmt(&self, to: &mut fmt::Formatter) -> fmt::Result {
+        match self.slices {
+            1 => write!(to, "{}", self.first),
+            _ => write!(to, "{}-{}", self.first, self.last()),
+        }
     }
 }
 

@@ -61,7 +61,11 @@ fn an_image_of_odd_length_is_no_unit() {
     for bytes in [1, 511, 513, whole.len() - 1] {
         folder.write("a.img", &whole[..bytes]);
         for arguments in ON_IMAGE {
-            let words = format!("a.img: not a unit image: {bytes} bytes");
+            // What is whole words and no whole sectors is judged by check.
+            let words = match (arguments[0], bytes) {
+                ("check", 511 | 514..) => "a.img: not a sound unit".to_string(),
+                _ => format!("a.img: not a unit image: {bytes} bytes"),
+            };
             folder.bad(arguments, 4, &words);
         }
     }

@@ -65,7 +65,7 @@ fn each_kind_of_rule_is_named_with_its_place() {
         (
             &[(10, 41, 6)],
             "34: the reserved length of a file is s times its slices",
-            "PASS: the reserved length is 6, and it has 2 slices of 2: 4",
+            "PASS (10:2): the reserved length is 6, and it has 2 slices of 2: 4",
             "sector 10, byte 5202",
         ),
         (
@@ -126,7 +126,7 @@ b.img: not sound
     found: the kit says 7 free sectors, the map has 2 free slices of 2 sectors: 4
     at: sector 8, byte 4102
   rule 28: a file has no attribute bits but 1, 11, 12, 13 and 15, and not 13 with 15
-    found: GATE: the attributes are 0002h: no file has bits 0002h
+    found: GATE (10:3): the attributes are 0002h: no file has bits 0002h
     at: sector 10, byte 5228
   rule 35: no slice is in two files or twice in one
     found: slices 2 to 3 (sectors 12 to 15) are in PASS, GATE
@@ -156,7 +156,7 @@ fn several_images_come_in_turn_and_the_worst_counts() {
     assert!(done.out.ends_with(sound), "{done:?}");
     for line in [
         "ruzkemp: b.img: not a sound unit\n",
-        "ruzkemp: odd.img: not a unit image: 700 bytes",
+        "ruzkemp: odd.img: not a sound unit\n",
     ] {
         assert!(done.err.contains(line), "{done:?}");
     }
@@ -177,15 +177,92 @@ fn json_has_every_finding() {
     let wanted = r#"[
   {"path": "a.img", "sound": true, "second_implementation": true, "proved_library": true, "findings": []},
   {"path": "b.img", "sound": false, "second_implementation": false, "proved_library": false, "findings": [
-    {"rule": 9, "text": "the top in the kit is N", "found": "the top is 19, and N is 20", "expected": 20, "actual": 19, "sector": 8, "byte": 4106, "files": []},
-    {"rule": 10, "text": "the free sectors in the kit are s times the ones in the map", "found": "the kit says 7 free sectors, the map has 2 free slices of 2 sectors: 4", "expected": 4, "actual": 7, "sector": 8, "byte": 4102, "files": []},
-    {"rule": 28, "text": "a file has no attribute bits but 1, 11, 12, 13 and 15, and not 13 with 15", "found": "GATE: the attributes are 0002h: no file has bits 0002h", "expected": null, "actual": null, "sector": 10, "byte": 5228, "files": ["GATE"]},
-    {"rule": 35, "text": "no slice is in two files or twice in one", "found": "slices 2 to 3 (sectors 12 to 15) are in PASS, GATE", "expected": 1, "actual": 2, "sector": 12, "byte": 6144, "files": ["PASS", "GATE"]}
+    {"rule": 9, "text": "the top in the kit is N", "found": "the top is 19, and N is 20", "expected": 20, "actual": 19, "sector": 8, "byte": 4106, "files": [], "file_count": 0, "first_slice": null, "slices": null},
+    {"rule": 10, "text": "the free sectors in the kit are s times the ones in the map", "found": "the kit says 7 free sectors, the map has 2 free slices of 2 sectors: 4", "expected": 4, "actual": 7, "sector": 8, "byte": 4102, "files": [], "file_count": 0, "first_slice": null, "slices": null},
+    {"rule": 28, "text": "a file has no attribute bits but 1, 11, 12, 13 and 15, and not 13 with 15", "found": "GATE (10:3): the attributes are 0002h: no file has bits 0002h", "expected": null, "actual": null, "sector": 10, "byte": 5228, "files": ["GATE"], "file_count": 1, "first_slice": null, "slices": null},
+    {"rule": 35, "text": "no slice is in two files or twice in one", "found": "slices 2 to 3 (sectors 12 to 15) are in PASS, GATE", "expected": 1, "actual": 2, "sector": 12, "byte": 6144, "files": ["PASS", "GATE"], "file_count": 2, "first_slice": 2, "slices": 2}
   ]},
   {"path": "none.img", "error": "none.img: No such file or directory (os error 2)"}
 ]
 "#;
     assert_eq!(done.out, wanted);
+}
+
+/// Sixteen files are named, and all are counted.
+#[test]
+fn json_counts_the_files_that_it_does_not_name() {
+    let folder = small();
+    // SYS has two blocks, and AA to AQ have PASS's index: 13 are behind PASS, four in sector 11.
+    let mut changes = vec![(10, 7, 2)];
+    for number in 0..17 {
+        let (sector, place) = (10 + (number + 3) / 16, (number + 3) % 16);
+        let entry = [0x4141 + number as u16, 0, 0, 0, 0, 0, 0, 2, 12, 4];
+        for (word, value) in entry.into_iter().enumerate() {
+            changes.push((sector, 16 * place + word, value));
+        }
+    }
+    hurt(&folder, "b.img", &changes);
+    let done = folder.bad(&["check", "b.img", "--json"], 4, "b.img: not");
+    let wanted = "\"AO\"], \"file_count\": 18, \"first_slice\": 2, \"slices\": 2}\n";
+    assert!(done.out.contains(wanted), "{done:?}");
+    // Slices 4 and 5 are marked used.
+    hurt(&folder, "b.img", &[(9, 0, 0), (8, 3, 0)]);
+    let done = folder.bad(&["check", "b.img", "--json"], 4, "b.img: not");
+    let wanted = "\"files\": [], \"file_count\": 0, \"first_slice\": 4, \"slices\": 2}\n";
+    assert!(done.out.contains(wanted), "{done:?}");
+    // Stretch 1 of PASS has three sectors.
+    hurt(&folder, "b.img", &[(12, 1, 3)]);
+    let done = folder.bad(&["check", "b.img", "--json"], 4, "b.img: not");
+    let wanted = "and s is 2\", \"expected\": 2, \"actual\": 3, ";
+    assert!(done.out.contains(wanted), "{done:?}");
+}
+
+/// An illegal name is shown as `ls --unsound` shows it, and its place is one that `show` takes.
+#[test]
+fn a_finding_about_an_entry_has_its_name_and_its_place() {
+    let folder = small();
+    hurt(&folder, "b.img", &[(10, 32, 1), (10, 33, 0x5000)]);
+    let done = folder.bad(&["check", "b.img"], 4, "b.img: not");
+    let found = "    found: %00%01P (10:2) is not a legal name\n";
+    assert!(done.out.contains(found), "{done:?}");
+    let listed = folder.run(&["ls", "b.img", "--unsound"]);
+    assert!(listed.out.contains("%00%01P"), "{listed:?}");
+    let shown = folder.run(&["show", "b.img", "10:2", "--unsound"]);
+    assert!(shown.out.contains("name        %00%01P\n"), "{shown:?}");
+}
+
+/// Where SYS's index and length disagree, and where SYS is not found, nothing is invented.
+#[test]
+fn all_invents_no_entries() {
+    let folder = Folder::new();
+    folder.good(&["sample", "a.img"]);
+    // Words of sector 6, and the rules that they break: slice 1 again, which is sectors 10 to 13;
+    // and slice 2, in which PASS begins, alone.
+    for (changes, wanted) in [
+        (
+            &[(6, 0, 2), (6, 3, 4), (6, 4, 10)][..],
+            &["35", "20", "21"][..],
+        ),
+        (&[(6, 2, 14)], &["17"]),
+    ] {
+        hurt(&folder, "b.img", changes);
+        let done = folder.bad(&["check", "b.img", "--all"], 4, "b.img: not");
+        let rules = done.out.lines().filter_map(|line| {
+            let rule = line.strip_prefix("  rule ")?;
+            Some(rule.split_once(':')?.0)
+        });
+        assert_eq!(rules.collect::<Vec<&str>>(), wanted, "{done:?}");
+    }
+}
+
+/// N is right, and F is not.
+#[test]
+fn rule_5_does_not_say_which_of_the_two_is_wrong() {
+    let folder = small();
+    hurt(&folder, "b.img", &[(8, 4, 20)]);
+    let done = folder.bad(&["check", "b.img"], 4, "b.img: not");
+    let found = "    found: N is 20 and has to be above F, 20\n";
+    assert!(done.out.contains(found), "{done:?}");
 }
 
 #[test]

@@ -196,6 +196,79 @@ PASS: only in a.img
     );
 }
 
+/// Each image has options of its own that say how it lies in its file.
+#[test]
+fn images_of_either_byte_order_and_units_in_packs_are_compared() {
+    let folder = folder();
+    let turned = |bytes: Vec<u8>| -> Vec<u8> {
+        let pairs = bytes.chunks_exact(2);
+        pairs.flat_map(|pair| [pair[1], pair[0]]).collect()
+    };
+    let (a, b) = (folder.read("a.img"), folder.read("b.img"));
+    folder.write("low.img", &turned(a.clone()));
+    folder.write(
+        "pack",
+        &[&[7; 512 * 3][..], &a, &turned(b), &[7; 512]].concat(),
+    );
+    let (low, other_low) = ("--low-byte-first", "--other-low-byte-first");
+    for (arguments, title) in [
+        (&["low.img", "a.img", low][..], "low.img and a.img"),
+        (&["a.img", "low.img", other_low], "a.img and low.img"),
+        (
+            &["low.img", "low.img", low, other_low],
+            "low.img and low.img",
+        ),
+        (
+            &["pack", "low.img", "--offset", "3", other_low],
+            "pack at sector 3 and low.img",
+        ),
+        (
+            &["b.img", "pack", other_low, "--other-offset", "23"],
+            "b.img and pack at sector 23",
+        ),
+    ] {
+        let arguments = [&["diff"][..], arguments].concat();
+        let said = folder.good(&arguments);
+        assert_eq!(said, format!("{title}: no difference\n"), "{arguments:?}");
+    }
+    folder.good(&["rm", "pack", "GATE", "--offset", "23", low]);
+    let both = "diff pack pack --offset 3 --other-offset 23 --other-low-byte-first";
+    let both: Vec<&str> = both.split(' ').collect();
+    let done = folder.bad(&both, 1, "pack at sector 3 and pack at sector 23 differ in");
+    assert_eq!(done.out, "GATE: only in pack at sector 3\n");
+}
+
+#[test]
+fn how_the_second_image_lies_is_hinted_by_its_own_options() {
+    let folder = Folder::new();
+    folder.good(&["sample", "a.img"]);
+    folder.good(&["sample", "low.img", "--low-byte-first"]);
+    let within = "with --low-byte-first its kit is within limits: N = 250";
+    let here = "; here the options are --other-low-byte-first and --other-offset\n";
+    for (arguments, hinted) in [
+        (&["diff", "low.img", "a.img"][..], false),
+        (&["diff", "a.img", "low.img"], true),
+        (&["diff", "low.img", "low.img", "--low-byte-first"], true),
+    ] {
+        let done = folder.bad(arguments, 4, within);
+        assert_eq!(done.err.ends_with(here), hinted, "{done:?}");
+    }
+    let wrong = ["diff", "a.img", "low.img", "--other-offset", "x"];
+    folder.bad(&wrong, 2, "diff: --other-offset: 'x' is no number");
+}
+
+#[test]
+fn standard_input_is_one_of_the_two_at_most() {
+    let folder = folder();
+    let image = folder.read("a.img");
+    for arguments in [["diff", "-", "b.img"], ["diff", "b.img", "-"]] {
+        let done = folder.run_with(&arguments, &image);
+        assert_eq!((done.status, done.err.as_str()), (0, ""), "{arguments:?}");
+    }
+    let twice = "diff: standard input can be one of the two only";
+    folder.bad(&["diff", "-", "-"], 2, twice);
+}
+
 #[test]
 fn trouble_has_a_status_above_1() {
     let folder = folder();

@@ -131,8 +131,17 @@ fn wrong_sectors_are_refused() {
     folder.bad(&["dump", "a.img", "-"], 2, "'' is no number");
     folder.bad(&["dump", "a.img"], 2, "it takes the operands IMAGE SECTOR");
     folder.bad(&["dump", "none", "1"], 3, "none: ");
+    // Of 700 bytes the whole sector is dumped, of 100 nothing.
     folder.write("odd", &[0; 700]);
-    folder.bad(&["dump", "odd", "0"], 4, "no whole number of sectors");
+    let out = folder.good(&["dump", "odd", "0"]);
+    assert!(out.starts_with("sector 0, bytes 0 to 511: "), "{out}");
+    folder.bad(
+        &["dump", "odd", "1"],
+        2,
+        "sector 1 is outside: the image has the sector 0 only",
+    );
+    folder.write("odd", &[0; 100]);
+    folder.bad(&["dump", "odd", "0"], 2, "the image has no whole sector");
 }
 
 #[test]

@@ -3,7 +3,7 @@
 mod common;
 
 use std::ffi::OsStr;
-use std::fs;
+use std::fs::{self, File};
 use std::os::unix::ffi::OsStrExt;
 use std::process::{Command, Stdio};
 
@@ -126,6 +126,58 @@ fn an_image_that_is_changed_has_to_be_a_file() {
     folder.bad(&["sample", "-"], 2, "a new image needs a file with a name");
 }
 
+/// Commands that write host files, over q/PASS if they are let.
+const WRITING: [&[&str]; 7] = [
+    &["get", "IMAGE", "PASS", "q/PASS", "--force"],
+    &["get", "IMAGE", "PASS", "--into", "q", "--force"],
+    &["get", "IMAGE", "--all", "q", "--force"],
+    &["get", "IMAGE", "PASS", "q/PASS", "--force", "--unsound"],
+    &["get", "IMAGE", "--all", "q", "--force", "--unsound"],
+    &["map", "IMAGE", "--svg", "q/PASS", "--force"],
+    &["report", "IMAGE", "-o", "q/PASS", "--force"],
+];
+
+/// Runs the tool with a file as its standard input.
+fn run_from(folder: &Folder, arguments: &[&str], input: &str) -> Done {
+    let input = File::open(folder.file(input)).expect("it is there");
+    let output = folder.command(arguments).stdin(input).output();
+    output.expect("the tool runs").into()
+}
+
+#[test]
+fn an_image_that_is_read_is_not_written_over() {
+    let folder = folder();
+    let image = folder.read("a.img");
+    fs::create_dir(folder.file("q")).expect("a folder");
+    for arguments in WRITING {
+        for name in ["-", "/dev/stdin", "q/PASS"] {
+            folder.write("q/PASS", &image);
+            let arguments = on(name, arguments);
+            let done = run_from(&folder, &arguments, "q/PASS");
+            assert_eq!(done.status, 2, "{arguments:?}: {done:?}");
+            let words = "q/PASS is the image itself\n";
+            assert!(done.err.contains(words), "{arguments:?}: {done:?}");
+            assert!(folder.read("q/PASS") == image, "{arguments:?}");
+        }
+    }
+}
+
+/// The image is what standard input is, and not a file that is called so.
+#[test]
+fn another_file_is_written_over_where_the_image_is_standard_input() {
+    let folder = folder();
+    fs::create_dir(folder.file("q")).expect("a folder");
+    for arguments in WRITING {
+        folder.write("q/PASS", b"old");
+        fs::remove_file(folder.file("-")).ok();
+        fs::hard_link(folder.file("q/PASS"), folder.file("-")).expect("a link");
+        let arguments = on("-", arguments);
+        let done = run_from(&folder, &arguments, "a.img");
+        assert_eq!(done.status, 0, "{arguments:?}: {done:?}");
+        assert!(folder.read("q/PASS") != b"old", "{arguments:?}");
+    }
+}
+
 #[test]
 fn help_and_version_take_no_more_than_they_need() {
     let folder = folder();
@@ -222,6 +274,22 @@ fn paths_are_printed_without_control_characters() {
     }
 }
 
+/// A word in base 16 may begin with a letter.
+#[test]
+fn attributes_are_numbers_like_all_others() {
+    let folder = folder();
+    for word in ["A000h", "C000h", "ffffh", "0xA000"] {
+        let create = ["create", "a.img", "NEW", "--attributes", word];
+        folder.bad(&create, 2, "has bit 0, which is only for SYS and MAP");
+    }
+    let create = ["create", "a.img", "NEW", "--attributes", "FFFFFh"];
+    folder.bad(&create, 2, "FFFFFh does not fit in 16 bits");
+    let create = ["create", "a.img", "NEW", "--attributes", "Fh"];
+    folder.bad(&create, 1, "create NEW: refused with ");
+    let create = ["create", "a.img", "NEW", "--attributes", "path"];
+    folder.bad(&create, 2, "'path' is no attribute");
+}
+
 /// A fixed file of 1 sector has 1 of the 4 slices that SYS leaves, 3 are free. 200 sectors and the
 /// index need 101 slices of 2.
 #[test]
@@ -234,12 +302,12 @@ fn a_host_file_too_large_for_a_fixed_file_is_told_why() {
     folder.bad(
         &put,
         1,
-        "change FIX: refused with 1100h: there are not enough free slices: 100 are needed and 3 \
-         are free\n",
+        "change FIX: refused with 1100h: there are not enough free slices: 100 more are needed and \
+         3 are free\n",
     );
     // 7 sectors and the index need the 4 slices, 8 do not fit in them.
     folder.write("host", &[1; 512 * 7 + 1]);
-    folder.bad(&put, 1, "4 are needed and 3 are free\n");
+    folder.bad(&put, 1, "4 more are needed and 3 are free\n");
     folder.write("host", &[1; 512 * 7]);
     folder.good(&put);
     // A word that is negative would keep the length.
@@ -254,5 +322,27 @@ fn a_host_file_too_large_for_a_fixed_file_is_told_why() {
     }
     let file = fs::File::create(folder.file("host")).expect("created");
     file.set_len(512 * 32_767).expect("a sparse file");
-    folder.bad(&put, 1, "16380 are needed and 0 are free\n");
+    folder.bad(&put, 1, "16380 more are needed and 0 are free\n");
+}
+
+/// A standard input that is not there is no empty one.
+#[test]
+fn a_closed_standard_input_is_a_failure() {
+    let folder = folder();
+    let tool = common::TOOL;
+    for line in [
+        "put a.img PASS - --replace",
+        "put a.img NEW -",
+        "run a.img -",
+        "check -",
+        "ls -",
+    ] {
+        let before = folder.snapshot();
+        let mut shell = std::process::Command::new("sh");
+        shell.args(["-c", &format!("'{tool}' {line} <&-")]);
+        let done = shell.current_dir(folder.path()).output();
+        let done = done.expect("the shell runs").into();
+        let words = "standard input: it is closed";
+        folder.judge(&[line], &before, &done, 3, words);
+    }
 }

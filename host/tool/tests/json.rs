@@ -87,7 +87,7 @@ fn map_has_all_stretches_in_the_order_of_the_slices() {
             {"name": "PASS", "stretch": 1, "slice": 2, "slices": 1, "sector": 12, "sectors": 2},
             {"name": "GATE", "stretch": 1, "slice": 3, "slices": 1, "sector": 14, "sectors": 2},
             {"name": "PASS", "stretch": 2, "slice": 4, "slices": 1, "sector": 16, "sectors": 2},
-            {"name": null, "slice": 5, "slices": 1, "sector": 18, "sectors": 2}
+            {"name": null, "stretch": null, "slice": 5, "slices": 1, "sector": 18, "sectors": 2}
         ]
     }"#;
     assert_eq!(
@@ -106,7 +106,9 @@ fn the_map_has_every_slice_once() {
         assert_eq!(stretch.number("sector"), 10 + 4 * (next - 1));
         assert_eq!(stretch.number("sectors"), 4 * stretch.number("slices"));
         next += stretch.number("slices");
-        if stretch.member("name") == &Json::Null {
+        let nobody = stretch.member("name") == &Json::Null;
+        assert_eq!(stretch.member("stretch") == &Json::Null, nobody);
+        if nobody {
             free += stretch.number("sectors");
         }
     }

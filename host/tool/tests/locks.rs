@@ -4,16 +4,17 @@
 mod common;
 
 use std::ffi::{c_char, c_int, c_void, CString};
-use std::fs::{self, File, TryLockError};
+use std::fs;
 use std::io::{self, Write};
 use std::os::unix::ffi::OsStrExt;
-use std::os::unix::fs::PermissionsExt;
+use std::os::unix::fs::{chown, MetadataExt, PermissionsExt};
+use std::os::unix::process::CommandExt;
 use std::path::Path;
-use std::process::{Child, ChildStdin, Stdio};
+use std::process::{Child, ChildStdin, Command, Stdio};
 use std::thread::sleep;
 use std::time::Duration;
 
-use common::{Done, Folder};
+use common::{wait_for_lock, Done, Folder, TOOL};
 
 extern "C" {
     fn setxattr(
@@ -56,13 +57,7 @@ fn slow_put(folder: &Folder) -> (Child, ChildStdin) {
     let mut child = command.spawn().expect("the tool runs");
     let mut stdin = child.stdin.take().expect("a pipe");
     stdin.write_all(&[5; 700]).expect("the tool reads");
-    let is_locked = || {
-        let file = File::open(folder.file("a.img")).expect("it is there");
-        matches!(file.try_lock(), Err(TryLockError::WouldBlock))
-    };
-    while !is_locked() {
-        sleep(Duration::from_millis(1));
-    }
+    wait_for_lock(&folder.file("a.img"), &mut child);
     (child, stdin)
 }
 
@@ -128,6 +123,113 @@ fn a_change_works_on_what_a_slow_put_wrote() {
     let listed = folder.good(&["ls", "a.img"]);
     assert!(listed.contains("\nNEW "), "{listed}");
     assert!(listed.contains("\nSLOW        2 "), "{listed}");
+}
+
+/// None of those that make a file by force fails because another has made it meanwhile.
+#[test]
+fn a_file_that_appears_is_replaced_by_force() {
+    let folder = folder();
+    folder.good(&["sample", "sample.img"]);
+    for _ in 0..20 {
+        let spawned = || {
+            let mut command = folder.command(&["sample", "new.img", "--force"]);
+            command.stdout(Stdio::null()).stderr(Stdio::piped());
+            command.spawn().expect("the tool runs")
+        };
+        for child in [(); 4].map(|()| spawned()) {
+            let done: Done = child.wait_with_output().expect("it ends").into();
+            assert_eq!((done.status, done.err.as_str()), (0, ""));
+        }
+        assert!(folder.read("new.img") == folder.read("sample.img"));
+        fs::remove_file(folder.file("new.img")).expect("it was there");
+    }
+}
+
+/// A user and a group that are nobody's.
+const STRANGER: u32 = 54_321;
+
+/// Runs `create a.img NEW` as a user without privileges, where a.img has an owner, a group and a
+/// mode; what is warned of, and what it has then. None where users cannot be changed.
+fn by_a_stranger(
+    folder: &Folder,
+    (owner, group, mode): (u32, u32, u32),
+) -> Option<(String, (u32, u32, u32))> {
+    let (image, tool) = (folder.file("a.img"), folder.file("tool"));
+    let open = fs::Permissions::from_mode(0o777);
+    fs::set_permissions(folder.path(), open).expect("it is ours");
+    // The tool's own folder may be closed to others.
+    fs::copy(TOOL, &tool).expect("copied");
+    fs::set_permissions(&image, fs::Permissions::from_mode(mode)).expect("it is ours");
+    let stranger = |arguments: &[&str]| {
+        let mut command = Command::new(&tool);
+        command.args(arguments).current_dir(folder.path());
+        command.uid(STRANGER).gid(STRANGER).output()
+    };
+    let can_run = stranger(&["--version"]).is_ok_and(|output| output.status.success());
+    if chown(&image, Some(owner), Some(group)).is_err() || !can_run {
+        eprintln!("skipped: only a privileged user can try how another's file is replaced");
+        return None;
+    }
+    let done: Done = stranger(&["create", "a.img", "NEW"])
+        .expect("it runs")
+        .into();
+    assert_eq!(done.status, 0, "{done:?}");
+    let now = fs::metadata(&image).expect("it is there");
+    Some((done.err, (now.uid(), now.gid(), now.mode() & 0o7777)))
+}
+
+#[test]
+fn an_owner_who_is_not_kept_is_told() {
+    let Some((told, now)) = by_a_stranger(&folder(), (STRANGER, STRANGER, 0o640)) else {
+        return;
+    };
+    assert_eq!((told.as_str(), now), ("", (STRANGER, STRANGER, 0o640)));
+    let (told, now) = by_a_stranger(&folder(), (0, STRANGER, 0o660)).expect("it is tried");
+    let warning = "ruzkemp: warning: a.img: its owner 0 is not kept: ";
+    assert!(told.starts_with(warning), "{told}");
+    assert!(told.ends_with("; user 54321 is its owner now\n"), "{told}");
+    assert_eq!(
+        (told.lines().count(), now),
+        (1, (STRANGER, STRANGER, 0o660))
+    );
+}
+
+/// What only the old group might, the new one may not.
+#[test]
+fn a_group_that_is_not_kept_is_told_and_the_file_not_opened_to_another() {
+    for (old, new) in [
+        (0o640, 0o600),
+        (0o660, 0o600),
+        (0o664, 0o644),
+        (0o644, 0o644),
+        (0o600, 0o600),
+    ] {
+        let Some((told, now)) = by_a_stranger(&folder(), (STRANGER, 0, old)) else {
+            return;
+        };
+        let warning = "ruzkemp: warning: a.img: its group 0 is not kept: ";
+        assert!(told.starts_with(warning), "{told}");
+        let rest = "; group 54321 may do no more than all others\n";
+        assert!(told.ends_with(rest), "{told}");
+        assert_eq!((told.lines().count(), now), (1, (STRANGER, STRANGER, new)));
+    }
+}
+
+/// The list says what the group may: the new one would get that.
+#[test]
+fn an_access_control_list_does_not_open_a_file_to_another_group() {
+    let folder = folder();
+    let path = folder.file("a.img");
+    if !set(&path, "system.posix_acl_access", &access()) {
+        return;
+    }
+    let Some((told, now)) = by_a_stranger(&folder, (STRANGER, 0, 0o640)) else {
+        return;
+    };
+    let list = "an extended attribute is not kept: system.posix_acl_access: the group is another\n";
+    assert!(told.ends_with(list), "{told}");
+    assert_eq!(now, (STRANGER, STRANGER, 0o600));
+    assert_eq!(get(&path, "system.posix_acl_access"), None);
 }
 
 #[test]

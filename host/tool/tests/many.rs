@@ -145,6 +145,40 @@ fn if_one_host_file_exists_none_is_written() {
     assert!(folder.read("out/B") == wanted);
 }
 
+/// Nothing but a regular file is replaced, and that is found before the first is written.
+#[test]
+fn if_one_path_is_no_regular_file_none_is_written() {
+    let folder = folder(&[("A", 100), ("B", 100), ("C", 100)]);
+    folder.good(&["put", "a.img", "--all", "in"]);
+    let all = ["get", "a.img", "--all", "out"];
+    let some = ["get", "a.img", "A", "B", "--into", "out"];
+    let refused = |words: &str| {
+        for get in [&all[..], &some] {
+            for options in [&[][..], &["--force"]] {
+                let get = [get, options].concat();
+                let before = folder.snapshot();
+                let done = folder.run(&get);
+                folder.judge(&get, &before, &done, 3, words);
+                assert!(!done.err.contains("--force"), "{done:?}");
+                assert_eq!(files(&folder.file("out")).len(), 1, "{get:?}");
+            }
+        }
+    };
+    fs::create_dir_all(folder.file("out/B")).expect("created");
+    refused("out/B: this is no regular file\n");
+    fs::remove_dir(folder.file("out/B")).expect("removed");
+    folder.write("victim", b"old");
+    for to in ["../victim", "nowhere"] {
+        symlink(to, folder.file("out/B")).expect("a link");
+        refused("out/B: this is a link, which is not followed\n");
+        fs::remove_file(folder.file("out/B")).expect("removed");
+    }
+    // The link that is named itself is followed, as ever.
+    symlink("victim", folder.file("link")).expect("a link");
+    folder.good(&["get", "a.img", "B", "link", "--force"]);
+    assert_eq!(folder.read("victim").len(), 512);
+}
+
 #[test]
 fn if_one_file_is_refused_none_is_written() {
     let folder = folder(&[("A", 100)]);
@@ -162,7 +196,8 @@ fn if_one_file_is_refused_none_is_written() {
 fn if_one_file_is_refused_none_is_put() {
     // 62 slices of 8 sectors are free: B has room, and beside it C has none.
     let folder = folder(&[("A", 100), ("B", 512 * 400), ("C", 512 * 100)]);
-    let full = "output C: refused with 0900h";
+    let full = "output C: refused with 0900h: no slice is free: 100 blocks and the index take 13 \
+                slices; free before: 10\n";
     bad(&folder, "in", &["put", "a.img", "--all", "in"], 1, full);
     folder.good(&["put", "a.img", "B", "--from", "in"]);
     let exists = "create B (--replace replaces its words): refused with 1010h";
@@ -173,6 +208,43 @@ fn if_one_file_is_refused_none_is_put() {
     folder.good(&["get", "a.img", "B", "b", "--bytes", "300"]);
     assert!(folder.read("b") == bytes(9, 300));
     folder.good(&["check", "a.img"]);
+}
+
+#[test]
+fn what_cannot_be_replaced_is_told_without_that_advice() {
+    for name in ["SYS", "MAP"] {
+        let folder = folder(&[("A", 100), (name, 100)]);
+        let put = ["put", "a.img", "--all", "in"];
+        bad(
+            &folder,
+            "in",
+            &put,
+            1,
+            &format!("create {name}: refused with 1010h"),
+        );
+        let replace = [&put[..], &["--replace"]].concat();
+        bad(
+            &folder,
+            "in",
+            &replace,
+            1,
+            &format!("change {name}: refused"),
+        );
+    }
+}
+
+/// A file of /proc has length 0 and yet bytes; one that is empty has a known length.
+#[test]
+fn a_host_file_that_says_it_is_empty_is_read_to_its_end() {
+    let folder = folder(&[("EMPTY", 0)]);
+    folder.good(&["put", "a.img", "A", "/proc/version"]);
+    let version = fs::read_to_string("/proc/version").expect("/proc");
+    assert_eq!(folder.good(&["get", "a.img", "A", "-", "--text"]), version);
+    folder.good(&["create", "a.img", "FIX", "--size", "3"]);
+    let unknown = ["put", "a.img", "FIX", "/proc/version", "--replace"];
+    folder.bad(&unknown, 2, "its new length has to be known first");
+    let said = folder.good(&["put", "a.img", "FIX", "in/EMPTY", "--replace"]);
+    assert_eq!(said, "FIX: 0 bytes put into 0 blocks\n");
 }
 
 #[test]

@@ -174,7 +174,9 @@ fn a_pack_is_not_made_and_not_lengthened() {
         folder.bad(&format, 3, room);
     }
     let format = [&["format", "pack", "--offset", "1"], &NUMBERS[..]].concat();
-    folder.bad(&format, 3, "pack: the file exists already (--force");
+    let words = "pack: the file exists already (--force formats the unit's part of it)\n";
+    folder.bad(&format, 3, words);
+    folder.bad(&["sample", "pack", "--offset", "1"], 3, words);
 }
 
 /// A pack may have more sectors than a unit, and what is read of it is the unit only.
@@ -212,6 +214,11 @@ fn places_past_the_end_are_told() {
             4,
             "u.img: not a unit image: it has no sector 70000",
         ),
+        (
+            "99999999999999",
+            4,
+            "u.img: not a unit image: it has no sector 99999999999999",
+        ),
         ("15", 4, "(the kit is read at sector 23 of the file)"),
         ("0x7FFFFFFFFFFFFFFF", 2, "is past the end of any file"),
         ("-1", 2, "--offset: '-1' is no number"),
@@ -221,6 +228,9 @@ fn places_past_the_end_are_told() {
         let create = ["create", "u.img", "NEW", "--offset", offset];
         folder.bad(&create, status, words);
     }
+    let sample = ["sample", "u.img", "--force", "--offset", "99999999999999"];
+    let room = "u.img: no room for 250 sectors from sector 99999999999999 on: the file has 20";
+    folder.bad(&sample, 3, room);
 }
 
 /// The other byte order is told where it makes a kit within limits.

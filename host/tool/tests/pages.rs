@@ -21,11 +21,11 @@ fn commands(folder: &Folder) -> Vec<String> {
     names.filter(|name| name != "help").collect()
 }
 
-/// The options that a command's page lists, without `--help`.
+/// The options that a command's page lists, without `--help`; a short name stands before the long one.
 fn options(folder: &Folder, command: &str) -> Vec<String> {
     let page = folder.good(&[command, "--help"]);
     let lines = page.lines().skip_while(|line| *line != "Options:").skip(1);
-    let words = lines.filter_map(|line| line.split_whitespace().next());
+    let words = lines.filter_map(|line| line.split_whitespace().find(|word| !word.ends_with(',')));
     let names = words.filter(|word| word.starts_with("--") && *word != "--help");
     names.map(String::from).collect()
 }
@@ -65,8 +65,10 @@ fn the_manual_page_has_every_command_with_its_options() {
         let heading = format!(".SS \"\\fB{}\\fR", command.replace('-', "\\-"));
         let section = part(&page, &heading, "\n.S");
         for option in options(&folder, &command) {
-            let entry = format!(".TP\n\\fB{}\\fR", option.replace('-', "\\-"));
-            assert!(section.contains(&entry), "{command} {option}");
+            let name = format!("\\fB{}\\fR", option.replace('-', "\\-"));
+            let entries = section.split(".TP\n").skip(1);
+            let mut heads = entries.filter_map(|entry| entry.lines().next());
+            assert!(heads.any(|head| head.contains(&name)), "{command} {option}");
         }
     }
 }
@@ -154,6 +156,41 @@ fn the_completions_have_every_command_with_its_options() {
                 assert!(section.contains(&wanted), "{shell}: {command} {option}");
             }
         }
+    }
+}
+
+#[test]
+fn a_short_name_stands_beside_the_long_one() {
+    let folder = Folder::new();
+    let page = folder.good(&["help", "--man"]);
+    assert!(page.contains("\n\\fB\\-o\\fR, \\fB\\-\\-output\\fR \\fIFILE\\fR\n"));
+    let script = |shell| folder.good(&["help", "--completions", shell]);
+    assert!(script("zsh").contains("'(-o --output)-o[write the report"));
+    assert!(script("fish").contains("'__ruzkemp_of report' -s o -l output -r -F -d "));
+}
+
+/// Bash completes the value of `-o` to files of the host, as that of `--output`.
+#[test]
+fn bash_completes_the_value_of_a_short_name() {
+    let folder = Folder::new();
+    folder.write(
+        "script",
+        folder.good(&["help", "--completions", "bash"]).as_bytes(),
+    );
+    folder.write("page.html", b"");
+    for option in ["-o", "--output"] {
+        let line = format!(
+            ". ./script; COMP_WORDS=(ruzkemp report d.img {option} pa); COMP_CWORD=4; _ruzkemp; \
+             echo \"${{COMPREPLY[*]}}\""
+        );
+        let mut bash = Command::new("bash");
+        bash.args(["-c", &line]).current_dir(folder.path());
+        let output = bash.stdin(Stdio::null()).output().expect("bash runs");
+        assert_eq!(
+            String::from_utf8_lossy(&output.stdout),
+            "page.html\n",
+            "{option}"
+        );
     }
 }
 

@@ -257,11 +257,15 @@ fn drawn(picture: &str) -> Vec<(String, usize, usize)> {
     let mut found = Vec::new();
     for title in picture.split("<g><title>").skip(1) {
         let title = title.split("</title>").next().expect("a title");
-        let Some((what, place)) = title.split_once(": slices ") else {
+        let Some((what, place)) = title.split_once(": slice") else {
             continue;
         };
         let place = place.split(',').next().expect("slices, sectors");
-        let (from, to) = place.split_once(" to ").expect("from, to");
+        let (from, to) = match place.strip_prefix("s ") {
+            Some(place) => place.split_once(" to ").expect("from, to"),
+            None => (&place[1..], &place[1..]),
+        };
+        assert_eq!(from == to, !place.starts_with('s'), "{title}");
         let number = |text: &str| text.parse::<usize>().expect("a slice");
         let what = what.split(',').next().expect("a name");
         found.push((what.to_string(), number(from), number(to)));

@@ -6,10 +6,10 @@ mod common;
 use std::collections::BTreeMap;
 use std::fs::File;
 use std::io::{self, Read};
-use std::process::Stdio;
+use std::process::{Command, Stdio};
 use std::sync::OnceLock;
 
-use common::{Done, Folder};
+use common::{Done, Folder, TOOL};
 
 /// Commands that write a file and then print what they have done.
 const WRITING: [&[&str]; 24] = [
@@ -135,32 +135,54 @@ struct Ran {
     after: BTreeMap<String, Vec<u8>>,
 }
 
-fn ran(arguments: &[&str], out: Stdio, err: Option<Stdio>) -> Ran {
-    let folder = folder();
-    let before = folder.snapshot();
-    let mut command = folder.command(arguments);
-    command.stdin(Stdio::null()).stdout(out);
-    let err = err.unwrap_or_else(Stdio::piped);
-    let child = command.stderr(err).spawn().expect("the tool runs");
-    let done = child.wait_with_output().expect("the tool ends").into();
-    let after = folder.snapshot();
-    Ran {
-        done,
-        before,
-        after,
+impl Ran {
+    fn of(mut command: Command) -> Ran {
+        let folder = folder();
+        let before = folder.snapshot();
+        command.current_dir(folder.path()).stdin(Stdio::null());
+        let child = command.spawn().expect("the tool runs");
+        let done = child.wait_with_output().expect("the tool ends").into();
+        let after = folder.snapshot();
+        Ran {
+            done,
+            before,
+            after,
+        }
     }
 }
 
-/// Every pair of streams of which standard output cannot be written.
-fn all(arguments: &[&str]) -> [Ran; 5] {
+fn ran(arguments: &[&str], out: Stdio, err: Option<Stdio>) -> Ran {
+    let mut command = Command::new(TOOL);
+    command.args(arguments).stdout(out);
+    command.stderr(err.unwrap_or_else(Stdio::piped));
+    Ran::of(command)
+}
+
+/// The same, with a standard output that is as the shell makes it.
+fn ran_in_shell(arguments: &[&str], redirection: &str) -> Ran {
+    let mut shell = Command::new("sh");
+    let script = format!("exec \"$0\" \"$@\" {redirection}");
+    shell.arg("-c").arg(script).arg(TOOL).args(arguments);
+    shell.stdout(Stdio::null()).stderr(Stdio::piped());
+    Ran::of(shell)
+}
+
+/// Every pair of streams of which standard output cannot be written; those first of which standard
+/// error can.
+fn all(arguments: &[&str]) -> [Ran; 7] {
     [
         ran(arguments, full(), None),
         ran(arguments, closed(), None),
+        ran_in_shell(arguments, ">&-"),
+        ran_in_shell(arguments, "1</dev/null"),
         ran(arguments, full(), Some(full())),
         ran(arguments, closed(), Some(full())),
         ran(arguments, closed(), Some(closed())),
     ]
 }
+
+/// How many of these can tell that nothing is printed.
+const TOLD: usize = 4;
 
 /// What a command leaves that can print.
 fn done_well(arguments: &[&str]) -> BTreeMap<String, Vec<u8>> {
@@ -184,7 +206,7 @@ fn what_was_committed_and_cannot_be_reported_is_done() {
             assert_eq!(done.status, 0, "{arguments:?}: {done:?}");
             assert!(*after == wanted, "{arguments:?}");
             let told = done.err.starts_with("ruzkemp: warning: ");
-            assert_eq!(told, number < 2, "{arguments:?}: {done:?}");
+            assert_eq!(told, number < TOLD, "{arguments:?}: {done:?}");
         }
     }
 }
@@ -198,7 +220,20 @@ fn what_cannot_be_printed_before_a_commit_is_a_failure_that_changes_nothing() {
             assert_eq!(done.status, 3, "{arguments:?}: {done:?}");
             assert!(ran.after == ran.before, "{arguments:?}");
             let told = done.err.starts_with("ruzkemp: standard output: ");
-            assert_eq!(told, number < 2, "{arguments:?}: {done:?}");
+            assert_eq!(told, number < TOLD, "{arguments:?}: {done:?}");
+        }
+    }
+}
+
+/// Where nobody wants to see it, all is printed: what the runtime opens in the place of a closed
+/// standard output is /dev/null for reading and writing, and a user may do so too.
+#[test]
+fn what_is_printed_may_be_thrown_away() {
+    for redirection in [">/dev/null", "1<>/dev/null", ">&- >/dev/null"] {
+        for arguments in PRINTING {
+            let done = ran_in_shell(arguments, redirection).done;
+            let ended = (done.status, done.err.as_str());
+            assert_eq!(ended, (0, ""), "{arguments:?} {redirection}");
         }
     }
 }

@@ -83,6 +83,12 @@ fn a_command_tells_the_one_reason() {
             "output WP: refused with 0C00h: the file is write protected".into(),
         ),
         (
+            &["put", "a.img", "SYS", "host", "--replace"],
+            "change SYS: refused with 1200h: SYS and MAP are never changed (the attributes that SYS \
+             would keep, 8010h, are not those of a file)"
+                .into(),
+        ),
+        (
             &["ls", "a.img", "--unit", "4"],
             "init of unit 4: refused with 1200h: the unit is not known: 4 is not 0 to 3".into(),
         ),
@@ -92,15 +98,16 @@ fn a_command_tells_the_one_reason() {
     }
 }
 
-/// A host file that a fixed file has no room for: its slices are the reason, and not those of others.
+/// A host file that a fixed file has no room for: its slices are the reason, and not those of
+/// others.
 #[test]
 fn put_in_place_of_a_fixed_file_tells_the_slices() {
     let folder = small();
     folder.write("large", &[7; 512 * 9]);
     // need(9) is 5; PASS has 2.
     let wanted =
-        "ruzkemp: change PASS: refused with 1100h: there are not enough free slices: 3 are \
-                  needed and 2 are free\n";
+        "ruzkemp: change PASS: refused with 1100h: there are not enough free slices: 3 more \
+                  are needed and 2 are free\n";
     let done = folder.bad(&["put", "a.img", "PASS", "large", "--replace"], 1, wanted);
     assert_eq!(done.err, wanted);
 }

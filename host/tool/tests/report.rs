@@ -128,7 +128,7 @@ fn sum(text: &str) -> String {
 }
 
 /// The numbers of the sample disc, by its script and by hand: N = 250, F = 10, s = 4, H = 3; 60 slices, of
-/// which 23 are free; 92 sectors are 47,104 bytes.
+/// which 23 are free; 92 sectors are 47104 bytes.
 #[test]
 fn the_top_of_the_page_has_the_units_numbers() {
     let page = page(&sample());
@@ -145,10 +145,10 @@ fn the_top_of_the_page_has_the_units_numbers() {
         "<dt>Layers <i>L</i></dt><dd>1</dd>",
         "<dt>Slices</dt><dd>60</dd>",
         "</b> 23 of 60 slices free</p>",
-        "92 sectors &middot; 47,104 bytes",
+        "92 sectors &middot; 47104 bytes",
         "catalog 1 slice<",
         "files 36 slices<",
-        "<dt>Files in one stretch</dt><dd>5 of 9</dd>",
+        "<dt>Files with slices in one stretch</dt><dd>5 of 9</dd>",
         "<dt>Stretches of all files</dt><dd>15</dd>",
         "<dt>Most stretches of a file</dt><dd>4 (PASS)</dd>",
         "<dt>Longest stretch of a file</dt><dd>6 slices (PASS)</dd>",
@@ -239,7 +239,7 @@ fn row_is_right(row: &str, file: &str) {
     assert!(row.contains(&format!("</svg>{name}</th>")), "{row}");
     let cells: Vec<usize> = between(row, "<td", "</td>")[..7]
         .iter()
-        .map(|cell| cell.split_once('>').expect("a cell").1.replace(',', ""))
+        .map(|cell| cell.split_once('>').expect("a cell").1)
         .map(|text| text.parse().expect("a number"))
         .collect();
     let number = |key: &str| field(file, key, ",").parse::<usize>().expect("a number");
@@ -378,8 +378,6 @@ fn an_image_that_is_not_sound_has_a_report_that_says_so() {
         assert_eq!(page.matches(text).count(), 1, "{text}");
     }
     assert!(!page.contains("id=\"map\"") && !page.contains("<table"));
-    let findings = field(&page, "<ol class=\"findings\">", "</ol>");
-    assert!(findings.contains("free sectors"), "{findings}");
     // Too short for a kit, and no image at all.
     folder.write("cut.img", &image[..5 * 512]);
     let done = folder.run(&["report", "cut.img", "-o", "-"]);
@@ -391,6 +389,146 @@ fn an_image_that_is_not_sound_has_a_report_that_says_so() {
         &["report", "odd.img", "-o", "odd.html"],
         4,
         "not a unit image",
+    );
+}
+
+/// The map's first word of the sample disc is 0 and its last one, of slices 49 to 60, FFF0h. With all 16 bits of
+/// the one and the last 4 of the other turned, 16 slices that files have are marked free (rule 36), and slices 61
+/// to 64, which are not there, are too (rule 11). With the 23 free ones the map has 43 ones: 172 sectors, not 92 (10).
+#[test]
+fn what_is_found_is_told_by_rule_with_its_place() {
+    let folder = sample();
+    let mut image = folder.read("disc.img");
+    assert_eq!(image[4608..4610], [0, 0]);
+    image[4608..4610].fill(0xFF);
+    image[4615] ^= 0x0F;
+    folder.write("hurt.img", &image);
+    let page = folder.run(&["report", "hurt.img", "-o", "-"]).out;
+    let rules: Vec<&str> = between(&page, "<h3>Rule ", ":").into_iter().collect();
+    assert_eq!(rules.iter().collect::<BTreeSet<_>>().len(), rules.len());
+    assert_eq!(
+        BTreeSet::from(["10", "11", "36"]),
+        rules.into_iter().collect()
+    );
+    let ten = field(&page, "<h3>Rule 10: ", "</ul>");
+    let kit = "(sector 8, byte 4102)";
+    assert!(
+        ten.contains("92 ") && ten.contains("172") && ten.contains(kit),
+        "{ten}"
+    );
+    let eleven = field(&page, "<h3>Rule 11: ", "</ul>");
+    assert!(eleven.contains("(sector 9, byte 4614)"), "{eleven}");
+    let found = page.find("What was found").expect("it is there");
+    assert!(page.find("<dt>Keys").expect("the numbers") < found);
+    assert!(page.contains("<code>ruzkemp ls IMAGE --unsound</code>"));
+    assert!(!page.contains("<ol") && !page.contains("rule 10"));
+    // In a pack the byte counts from the beginning of the file.
+    folder.write("pack.img", &[vec![0; 3 * 512], image].concat());
+    let pack = ["report", "pack.img", "--offset", "3", "-o", "-"];
+    let place = "(sector 8 of the unit, byte 5638 of the file)";
+    assert!(folder.run(&pack).out.contains(place));
+}
+
+/// A unit of 59 slices with 29 files of one slice each, in every second one, and all of the map turned: there are
+/// more than twenty findings of a rule, and the rest is counted.
+#[test]
+fn of_a_rule_twenty_findings_are_shown() {
+    let folder = Folder::new();
+    let unit = "--sectors 128 --first 10 --slice 2 --keys 3";
+    let arguments = ["format", "disc.img"].into_iter().chain(unit.split(' '));
+    folder.good(&arguments.collect::<Vec<_>>());
+    let names: Vec<String> = (0..54).map(|number| format!("F{number}")).collect();
+    let create = names.iter().map(|name| format!("create {name} size=1\n"));
+    let remove = names
+        .iter()
+        .step_by(2)
+        .map(|name| format!("remove {name}\n"));
+    let script: String = ["init\n".to_string()]
+        .into_iter()
+        .chain(create)
+        .chain(remove)
+        .collect();
+    let done = folder.run_with(&["run", "disc.img", "-"], script.as_bytes());
+    assert_eq!(done.status, 0, "{done:?}");
+    let mut image = folder.read("disc.img");
+    image[4608..4615].iter_mut().for_each(|byte| *byte ^= 0xFF);
+    folder.write("hurt.img", &image);
+    let page = folder.run(&["report", "hurt.img", "-o", "-"]).out;
+    let listed = folder.run(&["check", "hurt.img", "--all"]).out;
+    let all = listed.matches("  rule 36: ").count();
+    assert!(all > 20, "{listed}");
+    let group = field(&page, "<h3>Rule 36: ", "</p>");
+    assert_eq!(group.matches("<li>").count(), 20);
+    let more = format!(
+        "<p class=\"muted\">{} more (<code>ruzkemp check --all",
+        all - 20
+    );
+    assert!(group.contains(&more), "{group}");
+    check_tags(&markup(&page));
+}
+
+/// Standard input can be read once only.
+#[test]
+fn an_image_from_a_pipe_has_a_report() {
+    let folder = sample();
+    let mut image = folder.read("disc.img");
+    let named = page(&folder).replace("disc.img", "standard input");
+    for path in ["-", "/dev/stdin"] {
+        let done = folder.run_with(&["report", path, "-o", "-"], &image);
+        assert_eq!((done.status, done.err.as_str()), (0, ""), "{path}");
+        assert!(done.out == named, "{path}");
+    }
+    image[4608] ^= 0x7F;
+    folder.write("hurt.img", &image);
+    let file = folder.run(&["report", "hurt.img", "-o", "-"]);
+    let named = file.out.replace("hurt.img", "standard input");
+    for (path, told) in [("-", "standard input"), ("/dev/stdin", "/dev/stdin")] {
+        let done = folder.run_with(&["report", path, "-o", "-"], &image);
+        assert_eq!(done.status, 4, "{path}");
+        assert_eq!(done.err, format!("ruzkemp: {told}: not a sound unit\n"));
+        assert!(done.out == named, "{path}: {}", done.out);
+    }
+    let done = folder.run_with(&["report", "-", "-o", "none.html"], b"");
+    assert_eq!(done.status, 4);
+    assert!(done
+        .err
+        .contains("standard input: not a unit image: the file is empty"));
+}
+
+/// Only a table of many rows is one of which the browser lays out a part.
+#[test]
+fn a_table_of_many_rows_is_a_long_one() {
+    assert!(!page(&sample()).contains("class=\"long\""));
+    let folder = Folder::new();
+    let unit = "--sectors 2010 --first 10 --slice 2 --keys 7";
+    let arguments = ["format", "disc.img"].into_iter().chain(unit.split(' '));
+    folder.good(&arguments.collect::<Vec<_>>());
+    let create = (0..200).map(|number| format!("create F{number} size=0\n"));
+    let script: String = ["init\n".to_string()].into_iter().chain(create).collect();
+    let done = folder.run_with(&["run", "disc.img", "-"], script.as_bytes());
+    assert_eq!(done.status, 0, "{done:?}");
+    let page = page(&folder);
+    assert!(page.contains("<table id=\"files\" class=\"long\">"));
+    assert!(page.contains("<table id=\"free\">"));
+}
+
+/// A browser that ends at once is none that could show the page: the browser test says so in a line.
+#[test]
+fn without_a_browser_that_works_the_browser_test_is_skipped() {
+    let folder = Folder::new();
+    folder.write("chromium", b"#!/bin/sh\nexit 1\n");
+    let mode = fs::Permissions::from_mode(0o755);
+    fs::set_permissions(folder.file("chromium"), mode).expect("a program");
+    let path = std::env::var("PATH").expect("a path");
+    let path = format!("{}:{path}", folder.path().display());
+    let run = concat!(env!("CARGO_MANIFEST_DIR"), "/tests/browser/run");
+    let output = Command::new(run).arg(TOOL).env("PATH", path).output();
+    let output = output.expect("the test's program runs");
+    let out = String::from_utf8(output.stdout).expect("UTF-8");
+    assert!(output.status.success(), "{out}");
+    assert!(
+        out.starts_with("browser test skipped: ") && out.lines().count() == 1,
+        "{out}"
     );
 }
 
@@ -407,6 +545,8 @@ fn the_report_is_written_whole_or_not_at_all() {
         "given twice",
     );
     folder.bad(&["ls", "disc.img", "-o", "a"], 2, "there is no option -o");
+    let help = folder.good(&["report", "--help"]);
+    assert!(help.contains("\n  -o, --output FILE "), "{help}");
     folder.bad(&to("disc.img"), 2, "the image itself");
     symlink("disc.img", folder.file("link")).expect("a link");
     let force = ["report", "disc.img", "-o", "link", "--force"];

@@ -88,6 +88,14 @@ const FILES: [&str; 9] = [
     "GATE1", "LOG", "NOTE", "PASS", "PRICE", "RENT", "SKI", "TILL1", "TILL2",
 ];
 
+/// All files of the sample disc are in a folder as they were.
+fn all_there(folder: &Folder, out: &str) {
+    for name in FILES {
+        let got = folder.read(&format!("{out}/{name}"));
+        assert!(got == original(folder, name), "{name}");
+    }
+}
+
 /// The bytes of a file of the disc that is not damaged.
 fn original(folder: &Folder, name: &str) -> Vec<u8> {
     folder.good(&["get", "good.img", name, "original", "--force"]);
@@ -144,8 +152,8 @@ optional    0000 0000 0000
 tail        0000 0000 0000 0000 0000 0000
 pair 1      slices 2 to 6, sectors 14 to 33, blocks 0 to 18
 pair 2      slices 20 to 25, sectors 86 to 109, blocks 19 to 42
-pair 3      slices 29 to 29, sectors 122 to 125, blocks 43 to 46
-pair 4      slices 41 to 41, sectors 170 to 173, blocks 47 to 47
+pair 3      slice 29, sectors 122 to 125, blocks 43 to 46
+pair 4      slice 41, sectors 170 to 173, block 47
 doubtful    nothing
 ";
 
@@ -185,7 +193,13 @@ fn an_entry_is_shown_with_its_place_and_pairs() {
 fn a_damaged_kit_is_told_and_given_numbers_are_used() {
     let kit = |word| (8, word);
     told(&[(kit(0), 0)], &["the kit's H is 0, not 1 to 64"]);
-    told(&[(kit(1), 65)], &["the kit's s is 65, not 2 to 64"]);
+    told(
+        &[(kit(1), 65)],
+        &[
+            "the kit's s is 65, not 2 to 64",
+            "s is not known: files without an entry are not looked for (--slice)",
+        ],
+    );
     told(&[(kit(5), 249)], &["the kit's top is 249, N is 250"]);
     told(
         &[(kit(3), 96)],
@@ -197,6 +211,7 @@ fn a_damaged_kit_is_told_and_given_numbers_are_used() {
             "the kit's H is 0, not 1 to 64",
             "the kit's s is 0, not 2 to 64",
             "the kit's F is 3, not 10 to 32766",
+            "s and F are not known: files without an entry are not looked for (--slice, --first)",
         ],
     );
     let fit = "s and F are not known, the kit is damaged: these numbers fit: --keys 3 --slice 4";
@@ -252,11 +267,11 @@ fn without_its_index_sys_is_found_by_its_looks() {
             "SYS: its sectors are told by their looks, from sector 10 on",
         ],
     );
-    read(&folder, &["get", "a.img", "--all", "out", "--unsound"]);
-    for name in FILES {
-        let got = folder.read(&format!("out/{name}"));
-        assert!(got == original(&folder, name), "{name}");
-    }
+    // The files are without a doubt, and the unit is not.
+    let done = doubtful(&folder, &["get", "a.img", "--all", "out", "--unsound"]);
+    let last = "the unit is doubtful, though none of 9 files is: what could be read is written\n";
+    assert!(done.err.ends_with(last), "{done:?}");
+    all_there(&folder, "out");
 }
 
 #[test]
@@ -370,8 +385,10 @@ fn an_index_sector_outside_is_told() {
             "TILL2: @46 may be its index block: it has 8 sectors too",
         ],
     );
-    doubtful(&folder, &["get", "a.img", "TILL2", "out", "--unsound"]);
-    assert!(folder.read("out") == [0; 7 * 512]);
+    let done = doubtful(&folder, &["get", "a.img", "TILL2", "out", "--unsound"]);
+    let last = "\nruzkemp: TILL2: no block can be read: nothing is written\n";
+    assert!(done.out.is_empty() && done.err.ends_with(last), "{done:?}");
+    assert!(!folder.file("out").exists());
     let done = doubtful(&folder, &["get", "a.img", "--all", "all", "--unsound"]);
     assert!(done
         .out
@@ -465,12 +482,13 @@ fn damaged_pairs_are_told() {
     told(
         &[((slice(16), 1), 60_000)],
         &[
-            "slices 16 to 18 are marked used, and no file has them",
+            "slices 17 to 18 are marked used, and no file has them",
             "SKI: block 0 on: pair 1 has 60000 sectors, more than there are: it and those behind it \
              are not followed",
-            "SKI: length 11, but slices for 0 only",
-            "SKI: reserved 12, but slices of 0 sectors in all",
-            "SKI: blocks 0 to 10 cannot be read",
+            "SKI: block 0 on: only the slice that begins at the index sector is read",
+            "SKI: length 11, but slices for 3 only",
+            "SKI: reserved 12, but slices of 4 sectors in all",
+            "SKI: blocks 3 to 10 cannot be read",
         ],
     );
     // LOG's second pair is its first again: slice 26, at place 4 of its sectors.
@@ -597,6 +615,14 @@ fn files_of_the_host_are_kept() {
     let forced = [&line[..], &["--force"]].concat();
     doubtful(&folder, &forced);
     assert!(folder.read("out/SKI") == original(&folder, "SKI"));
+    // A folder in the place of a file is refused before the first file is written.
+    fs::create_dir_all(folder.file("dir/TILL2")).expect("a folder");
+    let line = ["get", "a.img", "--all", "dir", "--unsound", "--force"];
+    folder.bad(&line, 3, "dir/TILL2: this is no regular file");
+    assert_eq!(
+        fs::read_dir(folder.file("dir")).expect("a folder").count(),
+        1
+    );
     // A link is not followed, though it is to be replaced by force.
     fs::remove_file(folder.file("out/SKI")).expect("removed");
     folder.write("elsewhere", b"kept");
@@ -678,9 +704,9 @@ fn a_disc_that_is_cut_gives_what_is_left() {
     let unit = "  doubtful: the kit's N is 250, the image has 100 sectors\n";
     assert!(out.contains(unit), "{out}");
     let wanted = "\
-doubtful    block 19 on: pair 2 goes on to sector 109, the last one is 99
-doubtful    block 43 on: pair 3 begins at sector 122, where no slice begins
-doubtful    block 47 on: pair 4 begins at sector 170, where no slice begins
+doubtful    block 19 on: pair 2 is cut: sector 99 is the last one of the file
+doubtful    block 43 on: pair 3, sectors 122 to 125, lies past the end of the file
+doubtful    block 47 on: pair 4, sectors 170 to 173, lies past the end of the file
 doubtful    blocks 33 to 47 cannot be read
 ";
     assert!(out.ends_with(wanted), "{out}");
@@ -688,11 +714,18 @@ doubtful    blocks 33 to 47 cannot be read
     let mut wanted = original(&folder, "PASS");
     wanted[33 * 512..].fill(0);
     assert!(folder.read("out") == wanted);
+    // The slices are still those of the kit: 23 of 60 are free, as on the whole disc.
+    let out = read(&folder, &["ls", "a.img", "--unsound"]);
+    assert!(out.ends_with("; 23 of 60 slices marked free\n"), "{out}");
+    for untrue in ["no slice begins", "past the last slice", "whole number"] {
+        assert!(!out.contains(untrue), "{out}");
+    }
     // One sector, and nine: no catalog.
-    for sectors in [1, 9] {
+    for (sectors, words) in [(1, "1 sector"), (9, "9 sectors")] {
         folder.write("a.img", &bytes[..sectors * 512]);
         let out = read(&folder, &["ls", "a.img", "--unsound"]);
-        assert!(out.contains("and so no map, which is sector 9\n"), "{out}");
+        let no_map = format!("the image has {words} and so no map, which is sector 9\n");
+        assert!(out.contains(&no_map), "{out}");
         assert!(out.ends_with("\n0 entries, 0 doubtful\n"), "{out}");
     }
 }
@@ -892,4 +925,221 @@ fn what_cannot_be_printed_does_not_change_the_status_of_a_file_that_is_written()
     let done = into_full(&folder, &["get", "a.img", "--all", "all", "--unsound"]);
     assert_eq!(done.status, 3, "{done:?}");
     assert!(!folder.file("all").exists());
+}
+
+#[test]
+fn a_wrong_number_of_sectors_hides_no_file() {
+    // N alone: 20 sectors are not whole slices from 10 on. Slices are counted by the image.
+    let folder = told(
+        &[((8, 2), 20)],
+        &[
+            "the kit's N is 20, the image has 250 sectors",
+            "the kit's top is 250, N is 20",
+        ],
+    );
+    doubtful(&folder, &["get", "a.img", "--all", "out", "--unsound"]);
+    all_there(&folder, "out");
+    // N and top: a kit within its limits of 3 slices, 22 sectors. PASS's index sector is 14, GATE1's
+    // 54; both are read, past the unit or not.
+    let folder = damaged(&[((8, 2), 22), ((8, 5), 22)]);
+    let out = read(&folder, &["show", "a.img", "GATE1", "--unsound"]);
+    let doubt = "doubtful    the index sector 54 is outside: the unit has 22 sectors\n";
+    assert!(out.contains(doubt), "{out}");
+    doubtful(&folder, &["get", "a.img", "--all", "out", "--unsound"]);
+    all_there(&folder, "out");
+}
+
+#[test]
+fn sectors_of_sys_that_its_index_has_lost_are_found() {
+    // SYS is entered with 6 sectors in slices 1 and 60, and its index has lost the second: sectors
+    // 246 to 248 would be 3 to 5 of it. LATE is entered in sector 248, of key 2, with no slices.
+    let sys = entry(10, 0, 0);
+    let late = [0x4C41, 0x5445, 0, 0, 0, 0, 0, 0, 0, 0];
+    let mut changes = vec![((10, sys.1 + 7), 6)];
+    changes.extend(
+        (0..)
+            .zip(late)
+            .map(|(word, value)| (entry(248, 0, word), value)),
+    );
+    let folder = damaged(&changes);
+    let out = read(&folder, &["ls", "a.img", "--unsound"]);
+    let doubt =
+        "SYS: its length is 6, its index gives 4 sectors; its sectors are told by their looks";
+    assert!(doubts(&out).contains(&doubt.to_string()), "{out}");
+    assert!(out.contains("\nLATE "), "{out}");
+    assert!(out.contains("   248:0 "), "{out}");
+    // A sector like it that a file has is not SYS's: block 0 of SKI, sector 71.
+    changes.extend(
+        (0..)
+            .zip(late)
+            .map(|(word, value)| (entry(71, 0, word), value)),
+    );
+    changes.extend((16..256).map(|word| ((71, word), 0)));
+    let folder = damaged(&changes);
+    let out = read(&folder, &["ls", "a.img", "--unsound"]);
+    assert!(
+        out.contains("   248:0 ") && !out.contains("   71:0 "),
+        "{out}"
+    );
+}
+
+#[test]
+fn that_lost_files_are_not_looked_for_is_told() {
+    // Sectors 6 to 10: both indexes, kit, map, and the sector of SYS with SYS, MAP and SKI.
+    let changes = (6..11).flat_map(|sector| (0..256).map(move |word| ((sector, word), 0)));
+    let folder = damaged(&changes.collect::<Vec<_>>());
+    let line = ["get", "a.img", "--all", "out", "--unsound"];
+    let done = doubtful(&folder, &line);
+    let doubt = "  doubtful: s and F are not known: files without an entry are not looked for \
+                 (--slice, --first)\n";
+    assert!(done.out.contains(doubt), "{done:?}");
+    assert!(!folder.file("out/SKI").exists());
+}
+
+#[test]
+fn the_bytes_of_an_entry_are_those_of_the_file() {
+    let folder = damaged(&[]);
+    let bytes = [vec![0xAA; 7 * 512], folder.read("good.img")].concat();
+    folder.write("a.img", &bytes);
+    let line = ["show", "a.img", "PASS", "--unsound", "--offset", "7"];
+    // Place 0 of sector 12 of the unit, sector 19 of the file: byte 19 * 512.
+    let wanted = "\nentry       sector 12, place 0, bytes 9728 to 9759\n";
+    let out = read(&folder, &line);
+    assert!(out.contains(wanted), "{out}");
+}
+
+#[test]
+fn a_file_that_is_no_whole_number_of_sectors_is_judged_and_read() {
+    let folder = damaged(&[]);
+    let bytes = folder.read("good.img");
+    // 249 sectors and 50 words, and half a word.
+    folder.write("a.img", &bytes[..249 * 512 + 101]);
+    let half = "ruzkemp: warning: a.img: the last byte is half a word and is not read\n";
+    let done = folder.run(&["check", "a.img"]);
+    let found =
+        "    found: the image has 249 sectors and 50 words (127588 bytes), the kit says 250 \
+                 sectors (128000 bytes)\n";
+    assert!(done.status == 4 && done.out.contains(found), "{done:?}");
+    assert!(
+        done.out.contains("\n  rule 1: ") && done.err.starts_with(half),
+        "{done:?}"
+    );
+    let done = doubtful(&folder, &["get", "a.img", "--all", "out", "--unsound"]);
+    let doubt = "  doubtful: the image has 249 sectors and 50 words: these words are not read\n";
+    assert!(
+        done.out.contains(doubt) && done.err.starts_with(half),
+        "{done:?}"
+    );
+    all_there(&folder, "out");
+    let words = "127589 bytes are no whole number of sectors of 512 (ruzkemp check judges them, \
+                 --unsound reads them)";
+    folder.bad(&["ls", "a.img"], 4, words);
+    // The unit and half a word is not sound, and a byte alone is nothing.
+    folder.write("a.img", &[&bytes[..], &[0]].concat());
+    folder.bad(&["check", "a.img"], 4, "128001 bytes are no whole number");
+    read_with_a_warning(&folder);
+    folder.write("a.img", &[0]);
+    folder.bad(
+        &["ls", "a.img", "--unsound"],
+        4,
+        "1 bytes are no whole number",
+    );
+}
+
+/// The unit and half a word is read as the unit, with a warning.
+fn read_with_a_warning(folder: &Folder) {
+    let done = folder.run(&["get", "a.img", "SKI", "ski", "--unsound"]);
+    assert_eq!(done.status, 0, "{done:?}");
+    assert!(done.err.contains("half a word"), "{done:?}");
+    assert!(folder.read("ski") == original(folder, "SKI"));
+}
+
+#[test]
+fn without_its_index_block_a_file_has_its_first_slice() {
+    // GATE1's slices are 12 to 15, its index sector 54 becomes text.
+    let changes: Vec<((usize, usize), u16)> =
+        (0..256).map(|word| ((slice(12), word), 0x4142)).collect();
+    let folder = told(
+        &changes,
+        &[
+            "slices 13 to 15 are marked used, and no file has them",
+            "GATE1: block 0 on: the index block in sector 54 has the count 16706, not 1 to 127",
+            "GATE1: block 0 on: only the slice that begins at the index sector is read",
+            "GATE1: length 15, but slices for 3 only",
+            "GATE1: reserved 16, but slices of 4 sectors in all",
+            "GATE1: blocks 3 to 14 cannot be read",
+        ],
+    );
+    doubtful(&folder, &["get", "a.img", "GATE1", "out", "--unsound"]);
+    let mut wanted = original(&folder, "GATE1");
+    wanted[3 * 512..].fill(0);
+    assert!(folder.read("out") == wanted);
+    // The lost files' index blocks are no guesses.
+    let words = "no index block can be followed in sector 54";
+    folder.bad(&["get", "a.img", "@54", "x", "--unsound"], 1, words);
+}
+
+/// A disc of 32762 sectors (H 64, s 8, F 10) whose first 1000 slices are SYS's, full of entries that
+/// have no index and 999 sectors by their words; every other slice is one of a lost file.
+fn with_many_entries() -> Vec<u8> {
+    let (n, entries) = (32_762, 8_000);
+    let mut words = vec![0u16; 256 * n];
+    words[8 * 256..][..6].copy_from_slice(&[64, 8, n as u16, 0, 10, n as u16]);
+    words[7 * 256..][..3].copy_from_slice(&[1, 1, 9]);
+    words[6 * 256..][..3].copy_from_slice(&[1, entries, 10]);
+    for number in 0..16 * entries as usize {
+        let letter = |place: u32| 65 + (number / 26usize.pow(place) % 26) as u16;
+        let name = [letter(0) << 8 | letter(1), letter(2) << 8 | letter(3), 0];
+        let at = 10 * 256 + 16 * number;
+        words[at..at + 3].copy_from_slice(&name);
+        words[at + 7..at + 10].copy_from_slice(&[5, 0, 999]);
+    }
+    let sys = [0x5359, 0x5300, 0, 0, 0, 0, 0x8010, entries, 6, entries];
+    words[10 * 256..][..10].copy_from_slice(&sys);
+    for first in (10 + usize::from(entries)..n).step_by(8) {
+        words[256 * first..][..3].copy_from_slice(&[1, 8, first as u16]);
+    }
+    words.iter().flat_map(|word| word.to_be_bytes()).collect()
+}
+
+#[test]
+fn a_disc_full_of_entries_is_read_soon() {
+    let folder = Folder::new();
+    folder.write("a.img", &with_many_entries());
+    for line in [
+        &["map", "a.img", "--unsound"][..],
+        &["show", "a.img", "SYS", "--unsound"],
+    ] {
+        let begun = Instant::now();
+        let out = read(&folder, line);
+        // 3094 slices, from 1001 on, have each a lost file: of the doubts 16 are said.
+        let more = out.lines().find(|line| line.starts_with("  and "));
+        assert!(more.is_some_and(|line| line.ends_with(" more (ls --unsound lists them)")));
+        assert!(
+            out.lines()
+                .filter(|line| line.starts_with("  doubtful: "))
+                .count()
+                == 16
+        );
+        assert!(begun.elapsed() < Duration::from_secs(20), "{line:?}");
+    }
+}
+
+#[test]
+fn that_nothing_can_be_reported_is_told_once() {
+    let folder = damaged(&[]);
+    let mut command = folder.command(&["get", "a.img", "--all", "out", "--unsound"]);
+    command
+        .stdout(std::process::Stdio::piped())
+        .stderr(std::process::Stdio::piped());
+    let mut child = command.spawn().expect("the tool runs");
+    // The heading is read, and then nothing any more.
+    let mut heading = [0; 8];
+    let mut out = child.stdout.take().expect("a pipe");
+    std::io::Read::read_exact(&mut out, &mut heading).expect("a heading");
+    drop(out);
+    let done: Done = child.wait_with_output().expect("it ends").into();
+    let warned = done.err.matches("not reported").count();
+    assert!(done.status == 0 && warned <= 1, "{done:?}");
+    all_there(&folder, "out");
 }

@@ -4,14 +4,14 @@
 mod common;
 
 use std::ffi::c_int;
-use std::fs::{self, File};
+use std::fs;
 use std::io::Write;
 use std::os::unix::process::ExitStatusExt;
 use std::process::{Child, ExitStatus, Stdio};
 use std::thread::sleep;
-use std::time::Duration;
+use std::time::{Duration, Instant};
 
-use common::{Folder, TOOL};
+use common::{wait_for_lock, Folder, TOOL};
 
 extern "C" {
     fn kill(process: c_int, signal: c_int) -> c_int;
@@ -21,6 +21,9 @@ const HANGUP: c_int = 1;
 const INTERRUPT: c_int = 2;
 const TERMINATE: c_int = 15;
 const ENDING: [c_int; 3] = [HANGUP, INTERRUPT, TERMINATE];
+/// Linux's numbers.
+const CONTINUE: c_int = 18;
+const STOP: c_int = 19;
 
 fn send(child: &Child, signal: c_int) {
     // SAFETY: the POSIX function. The child has not been waited for, so that the number is its own.
@@ -37,26 +40,35 @@ fn has_temporary(folder: &Folder) -> bool {
 }
 
 /// Runs a command and sends it a signal when its temporary file is there; how it ended, or none
-/// if it was too quick.
+/// if it was too quick. It runs for a short time and is stopped in turns, so that it cannot come to
+/// its end unseen however many processors there are.
 fn cut_short(folder: &Folder, arguments: &[&str], signal: c_int) -> Option<ExitStatus> {
     let mut command = folder.command(arguments);
     command.stdin(Stdio::null()).stdout(Stdio::null());
     let mut child = command.spawn().expect("the tool runs");
-    while !has_temporary(folder) {
+    loop {
+        sleep(Duration::from_micros(100));
+        send(&child, STOP);
         if child.try_wait().expect("it is a child").is_some() {
             return None;
         }
+        let found = has_temporary(folder);
+        if found {
+            send(&child, signal);
+        }
+        send(&child, CONTINUE);
+        if found {
+            return Some(child.wait().expect("it ends"));
+        }
     }
-    send(&child, signal);
-    Some(child.wait().expect("it ends"))
 }
 
 /// Cuts a command short with each signal, while it writes a file: all files are as they were.
 /// Where the file was in its place before the signal came, `again` judges it and makes all as it
-/// was, and the command is tried once more.
+/// was, and the command is tried once more, for a minute.
 fn is_undone(folder: &Folder, arguments: &[&str], again: impl Fn(&Folder, ExitStatus)) {
     for signal in ENDING {
-        let is_cut = |_: &usize| {
+        let is_cut = || {
             let before = folder.snapshot();
             let ended = cut_short(folder, arguments, signal);
             assert!(!has_temporary(folder), "{arguments:?}, signal {signal}");
@@ -71,8 +83,11 @@ fn is_undone(folder: &Folder, arguments: &[&str], again: impl Fn(&Folder, ExitSt
                 }
             }
         };
-        let tried = (0..50).find(is_cut);
-        assert!(tried.is_some(), "{arguments:?} is too quick for a signal");
+        let began = Instant::now();
+        while !is_cut() {
+            let is_late = began.elapsed() > Duration::from_secs(60);
+            assert!(!is_late, "{arguments:?} is too quick for a signal");
+        }
     }
 }
 
@@ -132,19 +147,11 @@ fn a_put_that_is_cut_short_leaves_the_image() {
         let mut child = command.spawn().expect("the tool runs");
         let mut stdin = child.stdin.take().expect("a pipe");
         stdin.write_all(&[1; 512]).expect("the tool reads");
-        wait_for_lock(&folder);
+        wait_for_lock(&folder.file("a.img"), &mut child);
         send(&child, signal);
         let ended = child.wait().expect("it ends");
         assert_eq!(ended.signal(), Some(signal));
         assert!(folder.snapshot() == before);
-    }
-}
-
-fn wait_for_lock(folder: &Folder) {
-    let file = File::open(folder.file("a.img")).expect("it is there");
-    while file.try_lock().is_ok() {
-        file.unlock().expect("unlocked");
-        sleep(Duration::from_millis(1));
     }
 }
 
@@ -160,7 +167,7 @@ fn a_signal_that_was_ignored_stays_so() {
         shell.current_dir(folder.path()).stdin(Stdio::piped());
         let mut child = shell.stdout(Stdio::null()).spawn().expect("sh runs");
         let mut stdin = child.stdin.take().expect("a pipe");
-        wait_for_lock(&folder);
+        wait_for_lock(&folder.file("a.img"), &mut child);
         send(&child, signal);
         sleep(Duration::from_millis(50));
         stdin.write_all(b"still there").expect("the tool reads");

@@ -18,6 +18,13 @@ pub(super) struct Entry<'a> {
     pub words: &'a [u16],
 }
 
+impl Entry<'_> {
+    /// Sector and place, as `show` and `get` take them.
+    pub fn place(&self) -> String {
+        format!("{}:{}", self.sector, self.word / ENTRY)
+    }
+}
+
 /// The used entries that could be read.
 pub(super) struct Entries<'a> {
     pub entries: Vec<Entry<'a>>,
@@ -34,8 +41,8 @@ pub(super) fn check<'a>(
 ) -> Entries<'a> {
     let mut entries = Vec::new();
     let mut all = catalog.all;
-    for (block, &number) in catalog.blocks.iter().enumerate() {
-        let Some(words) = sector(image, number) else {
+    for block in &catalog.blocks {
+        let Some(words) = sector(image, block.sector) else {
             all = false;
             continue;
         };
@@ -43,11 +50,11 @@ pub(super) fn check<'a>(
         for (place, words) in used.filter(|(_, words)| words.iter().any(|&word| word != 0)) {
             let entry = Entry {
                 name: [words[0], words[1], words[2]],
-                sector: number,
+                sector: block.sector,
                 word: place * ENTRY,
                 words,
             };
-            check_name(&entry, kit.keys, block, found);
+            check_name(&entry, kit.keys, block.number, found);
             entries.push(entry);
         }
     }
@@ -58,9 +65,10 @@ pub(super) fn check<'a>(
 /// A legal name in a sector of its key.
 fn check_name(entry: &Entry, keys: Option<usize>, block: usize, found: &mut Found) {
     let name = entry.name;
-    if legal(name) != Some(name) {
+    if !is_legal(name) {
         found.add(Rule::EntryName, |finding| {
-            let text = format!("the words {} are no name", name_text(name));
+            let (shown, place) = (name_text(name), entry.place());
+            let text = format!("{shown} ({place}) is not a legal name");
             finding.says(text).at(entry.sector, entry.word).of(&[name])
         });
         return;
@@ -72,9 +80,9 @@ fn check_name(entry: &Entry, keys: Option<usize>, block: usize, found: &mut Foun
     if wanted != is {
         found.add(Rule::EntryKey, |finding| {
             let text = format!(
-                "{} is entered in sector {}, which is of key {is}, and its key is {wanted}",
+                "{} ({}) is entered in a sector of key {is}, and its key is {wanted}",
                 name_text(name),
-                entry.sector
+                entry.place()
             );
             let finding = finding.says(text).numbers(wanted, is);
             finding.at(entry.sector, entry.word).of(&[name])
@@ -91,16 +99,10 @@ fn check_alone(entries: &[Entry], found: &mut Found) {
             first.insert(name, entry);
             continue;
         };
-        if legal(name) == Some(name) {
+        if is_legal(name) {
             found.add(Rule::EntryAlone, |finding| {
-                let text = format!(
-                    "{} is entered in sector {}, place {}, and again in sector {}, place {}",
-                    name_text(name),
-                    other.sector,
-                    other.word / ENTRY,
-                    entry.sector,
-                    entry.word / ENTRY
-                );
+                let (shown, first, again) = (name_text(name), other.place(), entry.place());
+                let text = format!("{shown} is entered at {first} and again at {again}");
                 finding.says(text).at(entry.sector, entry.word).of(&[name])
             });
         }

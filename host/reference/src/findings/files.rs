@@ -5,7 +5,7 @@ use std::collections::HashMap;
 
 use super::entries::{Entries, Entry};
 use super::index::{self, Index};
-use super::{count, name_text, names_text, Finding, Found, Rule};
+use super::{count, name_text, names_text, slices_begin, Finding, Found, Rule};
 use crate::layout::*;
 use crate::types::Name;
 
@@ -42,7 +42,7 @@ pub(super) fn check(image: &[u16], kit: &Kit, entries: &Entries, found: &mut Fou
         check_length(entry, found);
         let legal = check_attributes(entry, found);
         if sector != 0 && kit.slice_at(sector).is_none() {
-            index_sector(entry, found);
+            index_sector(kit, entry, found);
             files.all = false;
             continue;
         }
@@ -99,7 +99,8 @@ fn add(
     numbers: Option<(usize, usize)>,
 ) {
     found.add(rule, |finding: Finding| {
-        let text = format!("{}: {}", name_text(entry.name), what());
+        let (name, place) = (name_text(entry.name), entry.place());
+        let text = format!("{name} ({place}): {}", what());
         let finding = finding.says(text).at(entry.sector, entry.word + word);
         let finding = finding.of(&[entry.name]);
         match numbers {
@@ -118,12 +119,10 @@ fn check_length(entry: &Entry, found: &mut Found) {
     }
 }
 
-fn index_sector(entry: &Entry, found: &mut Found) {
+fn index_sector(kit: &Kit, entry: &Entry, found: &mut Found) {
     let what = || {
-        format!(
-            "the index sector is {}, where no slice begins",
-            index_of(entry)
-        )
+        let (sector, by) = (index_of(entry), slices_begin(kit));
+        format!("the index sector is {sector}, where no slice begins ({by})")
     };
     add(found, Rule::IndexSector, entry, 8, what, None);
 }

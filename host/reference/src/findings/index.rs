@@ -1,6 +1,6 @@
 //! Rules 12 to 16: index blocks.
 
-use super::{count, names_text, sector, Finding, Found, Rule};
+use super::{count, names_text, sector, slices_begin, Finding, Found, Rule};
 use crate::layout::*;
 use crate::types::Name;
 
@@ -113,12 +113,16 @@ impl Reading<'_> {
         if length == 0 || !length.is_multiple_of(kit.s) {
             let sectors = count(length, "sector");
             let text = format!("stretch {which} has {sectors}, and s is {}", kit.s);
-            self.add(Rule::StretchLength, word, text, |finding| finding);
+            self.add(Rule::StretchLength, word, text, |finding| {
+                finding.numbers(kit.s, length)
+            });
             legal = false;
         }
         let slice = kit.slice_at(start);
         if slice.is_none() {
-            let text = format!("stretch {which} begins at sector {start}, where no slice begins");
+            let by = slices_begin(kit);
+            let text =
+                format!("stretch {which} begins at sector {start}, where no slice begins ({by})");
             self.add(Rule::StretchStart, word + 1, text, |finding| finding);
         }
         let (last, end) = (kit.n - 1, start + length);

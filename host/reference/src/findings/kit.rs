@@ -61,7 +61,8 @@ fn check_limits(kit: &Kit, found: &mut Found) -> Option<Usable> {
     let keys = limit(found, Rule::Keys, 0, ("H", kit.h), (1, 64));
     let slice = limit(found, Rule::SliceSize, 1, ("s", kit.s), (2, 64));
     let first = limit(found, Rule::FirstSector, 4, ("F", kit.f), (10, usize::MAX));
-    let sectors = limit(found, Rule::Sectors, 2, ("N", kit.n), (kit.f + 1, 32_767));
+    let above = check_above(kit, found);
+    let sectors = above && limit(found, Rule::Sectors, 2, ("N", kit.n), (0, 32_767));
     if !(slice && first && sectors) {
         return None;
     }
@@ -92,6 +93,18 @@ fn check_limits(kit: &Kit, found: &mut Found) -> Option<Usable> {
     }
     let keys = (keys && slices >= needed).then_some(kit.h);
     Some(Usable { kit: *kit, keys })
+}
+
+/// Whether N is above F; either may be the wrong one.
+fn check_above(kit: &Kit, found: &mut Found) -> bool {
+    let (n, f) = (kit.n, kit.f);
+    if n <= f {
+        found.add(Rule::Sectors, |finding| {
+            let text = format!("N is {n} and has to be above F, {f}");
+            finding.says(text).numbers(f + 1, n).at(KIT, 2)
+        });
+    }
+    n > f
 }
 
 /// Whether a number of the kit is within its limits.
@@ -138,14 +151,15 @@ fn check_past(map: &[u16], kit: &Kit, found: &mut Found) {
     let ones: Vec<usize> = (last + 1..=16 * SECTOR).filter(is_one).collect();
     for (first, number) in stretches(&ones) {
         found.add(Rule::MapPast, |finding| {
+            let highest = first + number - 1;
             let text = match number {
                 1 => format!("the bit of slice {first} is 1, and the last slice is {last}"),
                 _ => format!(
-                    "the bits of slices {first} to {} are 1, and the last slice is {last}",
-                    first + number - 1
+                    "the bits of slices {first} to {highest} are 1, and the last slice is {last}"
                 ),
             };
-            finding.says(text).at(MAP_SECTOR, (first - 1) / 16)
+            let finding = finding.says(text).numbers(last, highest);
+            finding.at(MAP_SECTOR, (first - 1) / 16)
         });
     }
 }

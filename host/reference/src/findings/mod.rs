@@ -14,10 +14,11 @@ mod slices;
 
 use std::fmt;
 
-use crate::layout::{legal, SECTOR};
+use crate::layout::{Kit, SECTOR};
 use crate::sound::soundness;
 use crate::types::{Name, State};
 
+pub(crate) use crate::rescue::shown as name_text;
 pub use rule::Rule;
 
 /// The most findings of one rule that are kept; the rest are counted.
@@ -33,7 +34,9 @@ pub struct Finding {
     text: String,
     place: Option<(usize, usize)>,
     numbers: Option<(usize, usize)>,
+    slices: Option<(usize, usize)>,
     files: Vec<Name>,
+    file_count: usize,
 }
 
 impl Finding {
@@ -43,7 +46,9 @@ impl Finding {
             text: String::new(),
             place: None,
             numbers: None,
+            slices: None,
             files: Vec::new(),
+            file_count: 0,
         }
     }
 
@@ -64,6 +69,18 @@ impl Finding {
 
     fn of(mut self, files: &[Name]) -> Finding {
         self.files.extend(files.iter().take(NAMED));
+        self.file_count += files.len();
+        self
+    }
+
+    /// About so many files more, whose names are not kept.
+    fn and_more(mut self, files: usize) -> Finding {
+        self.file_count += files;
+        self
+    }
+
+    fn slices_from(mut self, first: usize, number: usize) -> Finding {
+        self.slices = Some((first, number));
         self
     }
 
@@ -78,9 +95,19 @@ impl Finding {
         self.numbers
     }
 
+    /// The slices that it is about, where it is about slices: the first and their number.
+    pub fn slices(&self) -> Option<(usize, usize)> {
+        self.slices
+    }
+
     /// The files that it is about, at most sixteen of them.
     pub fn files(&self) -> Vec<String> {
         self.files.iter().map(|&name| name_text(name)).collect()
+    }
+
+    /// How many files it is about.
+    pub fn file_count(&self) -> usize {
+        self.file_count
     }
 }
 
@@ -163,16 +190,6 @@ fn sector(image: &[u16], number: usize) -> Option<&[u16]> {
     image.get(number * SECTOR..(number + 1) * SECTOR)
 }
 
-/// A name as it is printed: its characters, or its words where it is not legal.
-pub(crate) fn name_text(name: Name) -> String {
-    if legal(name) != Some(name) {
-        return format!("{:04X}h {:04X}h {:04X}h", name[0], name[1], name[2]);
-    }
-    let characters = name.iter().flat_map(|word| word.to_be_bytes());
-    let used = characters.take_while(|&character| character != 0);
-    used.map(char::from).collect()
-}
-
 /// Names in a line; `more` are counted only.
 pub(crate) fn names_text(names: &[Name], more: usize) -> String {
     let shown = &names[..names.len().min(NAMED)];
@@ -187,6 +204,11 @@ pub(crate) fn names_text(names: &[Name], more: usize) -> String {
     }
 }
 
+/// The numbers that say where slices begin.
+fn slices_begin(kit: &Kit) -> String {
+    format!("F is {}, s is {}, N is {}", kit.f, kit.s, kit.n)
+}
+
 /// A number of things, in words.
 pub(crate) fn count(number: usize, thing: &str) -> String {
     match number {
@@ -196,7 +218,7 @@ pub(crate) fn count(number: usize, thing: &str) -> String {
 }
 
 /// Slices in a line, with their sectors.
-fn slices_text(kit: &crate::layout::Kit, first: usize, last: usize) -> String {
+fn slices_text(kit: &Kit, first: usize, last: usize) -> String {
     let (from, to) = (kit.first_sector(first), kit.first_sector(last) + kit.s - 1);
     match first == last {
         true => format!("slice {first} (sectors {from} to {to})"),

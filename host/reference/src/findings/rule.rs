@@ -174,7 +174,7 @@ const SYSTEM: [&str; 8] = [
     "SYS has as many slices as its length needs: length / s, rounded up",
     "the entry of SYS has attributes 8010h, index sector 6, s times its slices as reserved length, \
      and zeros in the optional words and the tail",
-    "MAP is entered, in a sector of its key",
+    "MAP is entered, in a sector of its key and before the end of SYS",
     "the entry of MAP has attributes 8010h, length 1, index sector 7, reserved length 1, and zeros \
      in the optional words and the tail",
     "the index block of MAP begins with the words 1, 1, 9",

@@ -115,7 +115,8 @@ fn shared(kit: &Kit, part: &Part, found: &mut Found) {
         let text = format!("{slices} {verb} in {files}");
         let finding = finding.says(text).numbers(1, part.times);
         let finding = finding.at(kit.first_sector(part.first), 0);
-        finding.of(&names(part))
+        let finding = finding.slices_from(part.first, part.last - part.first + 1);
+        finding.of(&names(part)).and_more(part.more)
     });
 }
 
@@ -162,7 +163,8 @@ fn check_marks(image: &[u16], kit: &Kit, part: &Part, found: &mut Found) {
                 ),
             };
             let finding = finding.says(text).at(MAP_SECTOR, (first - 1) / 16);
-            finding.of(&names(part))
+            let finding = finding.slices_from(first, number);
+            finding.of(&names(part)).and_more(part.more)
         });
     }
 }

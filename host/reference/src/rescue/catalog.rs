@@ -1,15 +1,17 @@
 //! SYS's sectors and the entries in them.
 
-use std::collections::HashSet;
+use std::collections::{BTreeSet, HashSet};
 
+use super::claims::followed;
+use super::file::Kind;
 use super::index::{read_index, Index};
 use super::numbers::Layout;
-use crate::layout::{legal, ENTRY, MAP_INDEX, MAP_SECTOR, PLACES, SECTOR, SYS, SYS_INDEX};
+use crate::layout::{is_legal, ENTRY, MAP_INDEX, MAP_SECTOR, PLACES, SECTOR, SYS, SYS_INDEX};
 use crate::types::Name;
 
 /// A sector that is read as one of SYS's.
 #[derive(Clone, Copy, PartialEq, Eq, Debug)]
-pub struct CatalogSector {
+pub(super) struct CatalogSector {
     /// The sector.
     pub sector: usize,
     /// SYS's block; none if the sector was found by its looks.
@@ -93,8 +95,9 @@ pub(super) fn read_catalog(image: &[u16], layout: &Layout) -> Catalog {
     }
 }
 
-/// The sectors that a legal index gives, as many as SYS's entry says; without a usable length those
-/// of them that look like SYS's.
+/// The sectors that a legal index gives, as many as SYS's entry says. Without a usable length the
+/// index may have lost pairs: those of its sectors that look like SYS's, and all others that do and
+/// that no file has.
 fn by_index(
     image: &[u16],
     layout: &Layout,
@@ -112,9 +115,36 @@ fn by_index(
             doubts.push(format!("SYS: {doubt}; its sectors are told by their looks"));
             let all = joined.iter().enumerate();
             let alike = all.filter(|(_, &sector)| looks_like_entries(image, layout, sector));
-            alike.map(in_block).collect()
+            let mut found: Vec<CatalogSector> = alike.map(in_block).collect();
+            let indexed: HashSet<usize> = joined.into_iter().collect();
+            let others = by_looks(image, layout).into_iter();
+            found.extend(others.filter(|one| !indexed.contains(&one.sector)));
+            without_blocks_of_files(image, layout, found)
         }
     }
+}
+
+/// The sectors of SYS's index and those of the others that are no block of a file entered in any of
+/// them.
+fn without_blocks_of_files(
+    image: &[u16],
+    layout: &Layout,
+    mut found: Vec<CatalogSector>,
+) -> Vec<CatalogSector> {
+    let entered = places(image, &found);
+    let ordinary = entered
+        .iter()
+        .filter(|place| Kind::of(place.name()) == Kind::Ordinary);
+    let indexes: BTreeSet<usize> = ordinary.map(|place| place.words[8] as usize).collect();
+    let mut held = vec![false; layout.most()];
+    for index in indexes {
+        for pair in followed(image, layout, index).pairs {
+            let end = pair.sectors().end.min(held.len());
+            held[pair.start.min(end)..end].fill(true);
+        }
+    }
+    found.retain(|one| one.block.is_some() || !held[one.sector]);
+    found
 }
 
 /// SYS's length by its first entry in the joined sectors, or what is doubtful about it.
@@ -167,7 +197,7 @@ fn looks_like_entries(image: &[u16], layout: &Layout, sector: usize) -> bool {
     let plausible = |words: &&[u16; ENTRY]| {
         let (name, index) = ([words[0], words[1], words[2]], words[8] as usize);
         let somewhere = [0, SYS_INDEX, MAP_INDEX].contains(&index) || layout.holds(index);
-        legal(name) == Some(name) && somewhere
+        is_legal(name) && somewhere
     };
     let plausible = used.iter().filter(plausible).count();
     plausible > 0 && 2 * plausible >= used.len()

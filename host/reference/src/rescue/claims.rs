@@ -1,10 +1,11 @@
 //! Which sectors are claimed by which entries, and how the map marks them.
 
-use std::collections::{BTreeMap, HashSet};
+use std::collections::{BTreeMap, BTreeSet, HashSet};
+use std::ops::Range;
 
 use super::catalog::{Catalog, Place};
-use super::index::{read_index, Fault, Index};
-use super::numbers::Layout;
+use super::index::{read_index, Index, Pair};
+use super::numbers::{Layout, FIRST_POSSIBLE};
 use crate::layout::{marked_free, MAP, MAP_SECTOR, SECTOR, SYS, SYS_INDEX};
 
 /// Who claims a sector: SYS by its index or looks, or an entry by its number.
@@ -28,14 +29,6 @@ pub(super) struct Cell {
 }
 
 impl Cell {
-    fn claim(&mut self, claimers: &[Claimer]) {
-        let vacant = self.claimers.iter_mut().filter(|place| place.is_none());
-        for (place, claimer) in vacant.zip(claimers) {
-            *place = Some(*claimer);
-        }
-        self.number += claimers.len();
-    }
-
     /// Another than this one who claims the sector, and how many others do.
     pub fn others(&self, me: Option<Claimer>) -> Option<(Claimer, usize)> {
         let mine = usize::from(me.is_some());
@@ -50,8 +43,6 @@ pub(super) struct Claims {
     cells: Vec<Cell>,
     /// For each sector how many from it on have equal cells.
     runs: Vec<usize>,
-    /// For each sector the index sector of those who claimed it last.
-    last: Vec<usize>,
     /// The index sectors, 6 among them, whose pairs give a sector twice.
     twice: HashSet<usize>,
 }
@@ -59,49 +50,19 @@ pub(super) struct Claims {
 impl Claims {
     /// Gathers the claims of SYS and of every entry.
     pub fn gather(image: &[u16], layout: &Layout, catalog: &Catalog) -> Claims {
-        let mut claims = Claims {
-            cells: marked(image, layout),
-            runs: Vec::new(),
-            last: vec![0; layout.n],
-            twice: HashSet::new(),
-        };
-        claims.claim_catalog(layout, catalog);
+        let mut stretches = Stretches::new(layout);
+        let sys = catalog_pairs(layout, catalog);
+        stretches.add(layout, SYS_INDEX, &sys, vec![Claimer::Catalog]);
         for (index, numbers) in by_index_sector(layout, &catalog.places) {
-            let pairs = followed(image, layout, index);
-            claims.claim(layout, index, &pairs, &numbers);
+            let pairs = followed_or_guessed(image, layout, index).pairs;
+            let claimers = numbers.into_iter().map(Claimer::Entry).collect();
+            stretches.add(layout, index, &pairs, claimers);
         }
-        claims.runs = runs(&claims.cells);
-        claims
-    }
-
-    /// SYS claims the sectors of its index; where it has none, the slices of its sectors.
-    fn claim_catalog(&mut self, layout: &Layout, catalog: &Catalog) {
-        let mut sectors: Vec<usize> = Vec::new();
-        sectors.extend(catalog.index.pairs.iter().flat_map(|pair| pair.sectors()));
-        if sectors.is_empty() {
-            let whole = catalog.sectors.iter();
-            sectors.extend(whole.flat_map(|found| slice_around(layout, found.sector)));
-            sectors.sort_unstable();
-            sectors.dedup();
-        }
-        self.mark(layout, SYS_INDEX, sectors, &[Claimer::Catalog]);
-    }
-
-    /// The entries of these numbers claim the sectors of the pairs.
-    fn claim(&mut self, layout: &Layout, index: usize, pairs: &Index, numbers: &[usize]) {
-        let claimers: Vec<Claimer> = numbers.iter().copied().map(Claimer::Entry).collect();
-        let sectors = pairs.pairs.iter().flat_map(|pair| pair.sectors());
-        self.mark(layout, index, sectors.collect(), &claimers);
-    }
-
-    fn mark(&mut self, layout: &Layout, index: usize, sectors: Vec<usize>, claimers: &[Claimer]) {
-        for sector in sectors.into_iter().filter(|&sector| layout.holds(sector)) {
-            // No two calls are about one index, so that it tells them apart.
-            if std::mem::replace(&mut self.last[sector], index) == index {
-                self.twice.insert(index);
-            } else {
-                self.cells[sector].claim(claimers);
-            }
+        let cells = stretches.cells(marked(image, layout));
+        Claims {
+            runs: runs(&cells),
+            cells,
+            twice: stretches.twice,
         }
     }
 
@@ -121,6 +82,90 @@ impl Claims {
     }
 }
 
+/// The stretches of all that claim sectors, to be gone through from the first sector to the last:
+/// an index may give the whole unit, and so may every other one.
+struct Stretches {
+    /// Those that claim by one index block, in the order in which they count.
+    groups: Vec<Vec<Claimer>>,
+    /// For each sector the groups for whom a stretch begins there, or has ended.
+    changes: Vec<Vec<(u32, bool)>>,
+    /// The index sectors whose pairs give a sector twice.
+    twice: HashSet<usize>,
+}
+
+impl Stretches {
+    fn new(layout: &Layout) -> Stretches {
+        Stretches {
+            groups: Vec::new(),
+            changes: vec![Vec::new(); layout.most() + 1],
+            twice: HashSet::new(),
+        }
+    }
+
+    /// Adds those that claim the pairs of an index block.
+    fn add(&mut self, layout: &Layout, index: usize, pairs: &[Pair], claimers: Vec<Claimer>) {
+        let group = self.groups.len() as u32;
+        self.groups.push(claimers);
+        let within =
+            |sector: usize| sector.clamp(FIRST_POSSIBLE, layout.most().max(FIRST_POSSIBLE));
+        let all = pairs.iter().map(Pair::sectors);
+        let all = all.map(|sectors| within(sectors.start)..within(sectors.end));
+        let mut all: Vec<Range<usize>> = all.filter(|sectors| !sectors.is_empty()).collect();
+        all.sort_unstable_by_key(|sectors| sectors.start);
+        let mut all = all.into_iter().peekable();
+        while let Some(mut sectors) = all.next() {
+            while let Some(next) = all.next_if(|next| next.start <= sectors.end) {
+                if next.start < sectors.end {
+                    self.twice.insert(index);
+                }
+                sectors.end = sectors.end.max(next.end);
+            }
+            self.changes[sectors.start].push((group, true));
+            self.changes[sectors.end].push((group, false));
+        }
+    }
+
+    /// The cells with the claims besides their marks.
+    fn cells(&self, mut cells: Vec<Cell>) -> Vec<Cell> {
+        let mut now: BTreeSet<u32> = BTreeSet::new();
+        let mut number = 0;
+        for (cell, changes) in cells.iter_mut().zip(&self.changes) {
+            for &(group, begins) in changes {
+                let claimers = self.groups[group as usize].len();
+                match begins {
+                    true => {
+                        now.insert(group);
+                        number += claimers;
+                    }
+                    false => {
+                        now.remove(&group);
+                        number -= claimers;
+                    }
+                }
+            }
+            let groups = now
+                .iter()
+                .take(2)
+                .map(|&group| &self.groups[group as usize]);
+            let mut first = groups.flatten().copied();
+            cell.claimers = [first.next(), first.next()];
+            cell.number = number;
+        }
+        cells
+    }
+}
+
+/// What SYS claims: the pairs of its index, and the slices of the sectors found by their looks.
+fn catalog_pairs(layout: &Layout, catalog: &Catalog) -> Vec<Pair> {
+    let mut pairs = catalog.index.pairs.clone();
+    let indexed: HashSet<usize> = pairs.iter().flat_map(Pair::sectors).collect();
+    let alike = catalog.sectors.iter().filter(|found| found.block.is_none());
+    let alike = alike.flat_map(|found| slice_around(layout, found.sector));
+    let alike: BTreeSet<usize> = alike.filter(|sector| !indexed.contains(sector)).collect();
+    pairs.extend(Index::of_sectors(alike).pairs);
+    pairs
+}
+
 /// A file's index with its first pair at the index sector, where a file's first slice begins.
 pub(super) fn followed(image: &[u16], layout: &Layout, index: usize) -> Index {
     if !layout.holds(index) {
@@ -130,12 +175,25 @@ pub(super) fn followed(image: &[u16], layout: &Layout, index: usize) -> Index {
     let begins = read.pairs.first().map_or(index, |first| first.start);
     if begins != index {
         read.pairs[0].start = index;
-        read.faults.push(Fault {
-            position: 0,
-            text: format!(
-                "pair 1 begins at sector {begins}, not at the index sector, from which it is read"
-            ),
-        });
+        let text = format!(
+            "pair 1 begins at sector {begins}, not at the index sector, from which it is read"
+        );
+        read.fault(0, text);
+    }
+    read
+}
+
+/// A file's index; where it gives no pair, the slice that begins at the index sector, which is the
+/// file's first.
+pub(super) fn followed_or_guessed(image: &[u16], layout: &Layout, index: usize) -> Index {
+    let mut read = followed(image, layout, index);
+    let (there, start) = (layout.readable().contains(&index), index);
+    let begins = there && read.pairs.is_empty() && layout.begins_slice(index);
+    if let Some(length) = layout.s.filter(|_| begins) {
+        let text = "only the slice that begins at the index sector is read";
+        read.fault(0, text.into());
+        read.pairs = vec![Pair { start, length }];
+        read.guessed = true;
     }
     read
 }
@@ -159,7 +217,7 @@ fn marked(image: &[u16], layout: &Layout) -> Vec<Cell> {
         let slice = layout.slice_of(sector).filter(|_| has_map);
         slice.map(|slice| marked_free(image, slice))
     };
-    let cells = (0..layout.n).map(|sector| Cell {
+    let cells = (0..layout.most()).map(|sector| Cell {
         marked_free: mark(sector),
         ..Cell::default()
     });
@@ -167,7 +225,7 @@ fn marked(image: &[u16], layout: &Layout) -> Vec<Cell> {
 }
 
 /// The sectors of the slice in which a sector lies, or the sector alone.
-fn slice_around(layout: &Layout, sector: usize) -> std::ops::Range<usize> {
+fn slice_around(layout: &Layout, sector: usize) -> Range<usize> {
     let slice = layout.slice_of(sector);
     let first = slice.and_then(|slice| layout.first_sector(slice));
     match (first, layout.s) {

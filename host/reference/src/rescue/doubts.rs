@@ -5,10 +5,14 @@ use super::claims::{Cell, Claimer};
 use super::file::{is_legal, shown, File, Kind};
 use super::index::{Fault, Pair};
 use super::Rescue;
+use crate::findings::count;
 use crate::layout::{key, legal_attributes, system_entry, ENTRY, MAP, MAP_INDEX, SYS, SYS_INDEX};
+use crate::types::Name;
 
 /// So many lines at most are said of stretches that are claimed or marked wrongly.
-const MOST_LINES: usize = 16;
+const MOST_LINES: usize = 8;
+/// So many places at most are said of others of a name.
+const MOST_NAMESAKES: usize = 4;
 
 impl Rescue<'_> {
     /// What is doubtful about the entry itself: its name, its key, others of its name.
@@ -38,14 +42,26 @@ impl Rescue<'_> {
             let other = self.claimer(other, name);
             doubts.push(format!("its sector {} is claimed by {other}", place.sector));
         }
-        let namesakes = self.numbers.get(&name).into_iter().flatten();
-        let others = namesakes
-            .filter(|&&other| Some(other) != number)
-            .take(MOST_LINES);
-        doubts.extend(others.map(|&other| {
+        doubts.extend(self.namesakes(name, number));
+        doubts
+    }
+
+    /// Where else a name stands; of many places only some.
+    fn namesakes(&self, name: Name, number: Option<usize>) -> Vec<String> {
+        let all = self.find(name);
+        let others = all.iter().filter(|&&other| Some(other) != number);
+        let said = others.take(MOST_NAMESAKES).map(|&other| {
             let Place { sector, place, .. } = self.catalog.places[other];
             format!("the name stands in {sector}:{place} too")
-        }));
+        });
+        let mut doubts: Vec<String> = said.collect();
+        let said = doubts.len() + usize::from(number.is_some());
+        if let Some(more @ 1..) = all.len().checked_sub(said) {
+            doubts.push(format!(
+                "the name stands in {} too",
+                count(more, "more place")
+            ));
+        }
         doubts
     }
 
@@ -100,11 +116,14 @@ impl Rescue<'_> {
 
     /// Which index block of a lost file could be that of a file whose own cannot be followed.
     fn lost_doubt(&self, file: &File) -> Option<String> {
+        if !file.pairs.is_empty() && !file.guessed {
+            return None;
+        }
         let reserved = file.words[9] as usize;
-        let mut alike = self.lost().iter();
-        let found = alike.find(|&&sector| self.lost_total(sector) == reserved)?;
-        let unread = file.pairs.is_empty();
-        unread.then(|| format!("@{found} may be its index block: it has {reserved} sectors too"))
+        let found = self.lost_of.get(&reserved)?;
+        Some(format!(
+            "@{found} may be its index block: it has {reserved} sectors too"
+        ))
     }
 
     /// What is doubtful about an index sector.
@@ -114,8 +133,12 @@ impl Rescue<'_> {
             return None;
         }
         Some(match index {
+            _ if index >= self.layout.most() => {
+                let most = self.layout.most();
+                format!("the index sector {index} is outside: there are {most} sectors")
+            }
             _ if index >= n => {
-                format!("the index sector {index} is outside: there are {n} sectors")
+                format!("the index sector {index} is outside: the unit has {n} sectors")
             }
             _ if index < begin => {
                 format!("the index sector {index} is outside: the first slice begins at {begin}")
@@ -198,8 +221,11 @@ impl Rescue<'_> {
         let mut position = 0;
         for (number, pair) in file.pairs.iter().enumerate() {
             let before = file.pairs[..number].iter();
+            if doubts.len() >= MOST_LINES {
+                break;
+            }
             let overlap = before.filter_map(|other| overlap(*pair, *other)).next();
-            if let Some(twice) = overlap.filter(|_| doubts.len() < MOST_LINES) {
+            if let Some(twice) = overlap {
                 let (what, many) = self.stretch(twice);
                 let verb = if many { "come" } else { "comes" };
                 let at = from_block(file, position + twice.start - pair.start);

@@ -4,7 +4,8 @@ use std::iter::repeat;
 use std::ops::Range;
 
 use super::index::Pair;
-use crate::layout::{legal, ENTRY, MAP, SYS};
+pub(super) use crate::layout::is_legal;
+use crate::layout::{ENTRY, MAP, SYS};
 use crate::types::Name;
 
 /// What an entry is about.
@@ -47,6 +48,8 @@ pub struct File {
     pub kind: Kind,
     /// The pairs of the index block that are followed, in file order.
     pub pairs: Vec<Pair>,
+    /// Whether the index block gives no pair, and the one here is the slice that begins with it.
+    pub(super) guessed: bool,
     /// What is doubtful, a line each; none if all is as it has to be.
     pub doubts: Vec<String>,
     /// The sectors of the image where blocks can lie.
@@ -125,8 +128,8 @@ impl File {
     }
 }
 
-/// A name in letters and digits, with all else as `%` and two digits of base 16; the zeros at its end
-/// are left out.
+/// A name in letters and digits, with all else as `%` and two digits of base 16; the zeros at its
+/// end are left out.
 pub fn shown(name: Name) -> String {
     let characters: Vec<u8> = name.iter().flat_map(|word| word.to_be_bytes()).collect();
     let used = characters.iter().rposition(|&character| character != 0);
@@ -136,9 +139,4 @@ pub fn shown(name: Name) -> String {
         false => format!("%{character:02X}"),
     };
     characters.iter().map(escaped).collect()
-}
-
-/// Whether a name is legal, its sixth character 0.
-pub(super) fn is_legal(name: Name) -> bool {
-    legal(name) == Some(name)
 }

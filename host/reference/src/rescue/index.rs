@@ -3,6 +3,9 @@
 use super::numbers::Layout;
 use crate::layout::{SECTOR, STRETCHES};
 
+/// So many faults of an index block are said at most.
+const MOST_FAULTS: usize = 16;
+
 /// A pair of an index block: a stretch of sectors.
 #[derive(Clone, Copy, PartialEq, Eq, Debug)]
 pub struct Pair {
@@ -33,8 +36,10 @@ pub(super) struct Fault {
 pub(super) struct Index {
     /// The pairs that are followed.
     pub pairs: Vec<Pair>,
-    /// What is wrong, in the order of the pairs.
+    /// What is wrong, in the order of the pairs; of much only some.
     pub faults: Vec<Fault>,
+    /// Whether the block gives no pair, and the one here is the slice that begins with it.
+    pub guessed: bool,
 }
 
 impl Index {
@@ -52,7 +57,7 @@ impl Index {
         }
         Index {
             pairs,
-            faults: Vec::new(),
+            ..Index::default()
         }
     }
 
@@ -61,13 +66,16 @@ impl Index {
         self.pairs.iter().map(|pair| pair.length).sum()
     }
 
-    fn fault(&mut self, position: usize, text: String) {
+    pub fn fault(&mut self, position: usize, text: String) {
         self.faults.push(Fault { position, text });
     }
 
-    /// Says what is wrong with the next pair.
-    fn judge(&mut self, layout: &Layout, pair: Pair) {
-        let (number, position) = (self.pairs.len() + 1, self.total());
+    /// Says what is wrong with the next pair, at a place in the joined stretches.
+    fn judge(&mut self, layout: &Layout, pair: Pair, position: usize) {
+        let number = self.pairs.len() + 1;
+        if self.faults.len() > MOST_FAULTS {
+            return;
+        }
         let Pair { start, length } = pair;
         if length == 0 {
             self.fault(position, format!("pair {number} has length 0"));
@@ -78,10 +86,8 @@ impl Index {
         if !layout.begins_slice(start) {
             let text = format!("pair {number} begins at sector {start}, where no slice begins");
             self.fault(position, text);
-        } else if start + length > layout.n {
-            let (last, end) = (start + length - 1, layout.n - 1);
-            let text = format!("pair {number} goes on to sector {last}, the last one is {end}");
-            self.fault(position, text);
+        } else if start + length > layout.n.min(layout.there) {
+            self.fault(position, beyond(layout, number, pair));
         }
         if self
             .pairs
@@ -94,15 +100,29 @@ impl Index {
     }
 }
 
+/// What is wrong with a pair that goes on past the unit or past what is there.
+fn beyond(layout: &Layout, number: usize, pair: Pair) -> String {
+    let (start, last) = (pair.start, pair.sectors().end - 1);
+    let (unit, there) = (layout.n - 1, layout.there);
+    match (last > unit, start >= there) {
+        (true, _) => format!("pair {number} goes on to sector {last}, the last one is {unit}"),
+        (false, true) => {
+            format!("pair {number}, sectors {start} to {last}, lies past the end of the file")
+        }
+        (false, false) => {
+            let last = last.min(there - 1);
+            format!("pair {number} is cut: sector {last} is the last one of the file")
+        }
+    }
+}
+
 /// Reads the index block in a sector of the image. Pairs are followed until they give more sectors
-/// than there are, so that what is followed is never longer than the image.
+/// than there are, so that what is followed is never longer than the unit or the image.
 pub(super) fn read_index(image: &[u16], layout: &Layout, sector: usize) -> Index {
     let mut index = Index::default();
     let Some(block) = image.get(sector * SECTOR..(sector + 1) * SECTOR) else {
-        index.fault(
-            0,
-            format!("the index block, sector {sector}, is not in the image"),
-        );
+        let text = format!("the index block, sector {sector}, lies past the end of the file");
+        index.fault(0, text);
         return index;
     };
     let count = block[0] as usize;
@@ -112,17 +132,29 @@ pub(super) fn read_index(image: &[u16], layout: &Layout, sector: usize) -> Index
         index.fault(0, text);
         return index;
     }
+    let mut total = 0;
     for words in block[1..1 + 2 * count].chunks_exact(2) {
         let (length, start) = (words[0] as usize, words[1] as usize);
-        let pair = Pair { start, length };
-        let (number, total) = (index.pairs.len() + 1, index.total());
-        if total + length > layout.n {
-            let text = format!("pair {number} has {length} sectors, more than there are: it and those behind it are not followed");
+        let number = index.pairs.len() + 1;
+        if total + length > layout.most() {
+            let text = format!(
+                "pair {number} has {length} sectors, more than there are: it and those behind it \
+                 are not followed"
+            );
             index.fault(total, text);
             break;
         }
-        index.judge(layout, pair);
+        let pair = Pair { start, length };
+        index.judge(layout, pair, total);
         index.pairs.push(pair);
+        total += length;
+    }
+    if index.faults.len() > MOST_FAULTS {
+        index.faults.truncate(MOST_FAULTS);
+        index.fault(
+            total,
+            "there is more of this kind, which is not listed".into(),
+        );
     }
     index
 }

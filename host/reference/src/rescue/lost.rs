@@ -1,5 +1,7 @@
 //! What no entry or no kit tells any more: index blocks of lost files, and numbers that fit.
 
+use std::cmp::Reverse;
+
 use super::catalog::Place;
 use super::claims::followed;
 use super::file::{is_legal, File};
@@ -7,6 +9,13 @@ use super::index::Pair;
 use super::numbers::{KitRead, Layout, Numbers, H_LIMITS, S_LIMITS};
 use super::Rescue;
 use crate::layout::{key, ENTRY};
+
+/// So many files at most are looked at to find numbers that fit.
+const MOST_FILES: usize = 2_048;
+/// With more entries than so many, numbers that fit are not looked for: each try reads them all.
+const MOST_ENTRIES: usize = 4_096;
+/// So many s at most are tried.
+const MOST_TRIED: usize = 8;
 
 impl Rescue<'_> {
     /// The sectors with index blocks of lost files: legal ones in slices that are marked used and
@@ -54,19 +63,20 @@ impl Rescue<'_> {
         Some(file)
     }
 
-    /// Numbers that fit SYS's index, the names in SYS and the pairs of the files best, where the kit's are
-    /// not within limits or make more doubtful than these; none where SYS's index is not legal. Of
-    /// several the greatest H, and the s with which the least is doubtful.
+    /// Numbers that fit SYS's index, the names in SYS and the pairs of the files best, where the
+    /// kit's are not within limits or make more doubtful than these; none where SYS's index is not
+    /// legal. Of several the greatest H, and the s with which the least is doubtful: those s are
+    /// tried that the pairs of the files fit best.
     pub fn fitting(&self) -> Option<Numbers> {
-        let Layout { h, s, f, n } = self.layout;
+        let Layout { h, s, f, there, .. } = self.layout;
         let known = h.and(s).and(f).is_some();
-        if known && self.doubts.is_empty() {
+        if known && self.doubts.is_empty() || self.entries() > MOST_ENTRIES {
             return None;
         }
-        let blank = Rescue::by(self.image, KitRead::blank(n));
+        let blank = Rescue::by(self.image, KitRead::blank(there));
         let f = blank.catalog.index.pairs.first()?.start;
         let h = blank.fitting_h()?;
-        let fitting = blank.fitting_s(f).into_iter().map(|s| Numbers {
+        let fitting = blank.likely_s(f).into_iter().map(|s| Numbers {
             h: Some(h),
             s: Some(s),
             f: Some(f),
@@ -89,6 +99,25 @@ impl Rescue<'_> {
         possible.find(|&h| places.clone().all(|place| keyed(&place, h)))
     }
 
+    /// Of the s with which SYS's pairs are whole slices those with which the most pairs of files
+    /// are, of equal ones the greatest; in order.
+    fn likely_s(&self, f: usize) -> Vec<usize> {
+        let numbers =
+            (0..self.entries().min(MOST_FILES)).filter_map(|number| self.unjudged(number));
+        let pairs: Vec<Pair> = numbers.flat_map(|file| file.pairs).collect();
+        let wrong = |s: usize| {
+            let whole = |pair: &Pair| {
+                pair.start.abs_diff(f).is_multiple_of(s) && pair.length.is_multiple_of(s)
+            };
+            pairs.iter().filter(|pair| !whole(pair)).count()
+        };
+        let mut likely = self.fitting_s(f);
+        likely.sort_by_cached_key(|&s| (wrong(s), Reverse(s)));
+        likely.truncate(MOST_TRIED);
+        likely.sort_unstable();
+        likely
+    }
+
     /// Each s with which SYS's pairs are whole slices.
     fn fitting_s(&self, f: usize) -> Vec<usize> {
         let pairs = &self.catalog.index.pairs;
@@ -100,8 +129,9 @@ impl Rescue<'_> {
     }
 }
 
-/// How much is doubtful in all.
+/// How much is doubtful about the unit and its files, or the first of them.
 fn doubts(rescue: &Rescue) -> usize {
-    let files: usize = rescue.files().map(|file| file.doubts.len()).sum();
+    let files = rescue.files().take(MOST_FILES);
+    let files: usize = files.map(|file| file.doubts.len()).sum();
     rescue.doubts().len() + files
 }

@@ -1,19 +1,26 @@
 //! What can be read of an image that is not a sound unit, or of a sound one.
 //!
-//! [`Rescue::read`] takes any words of any length: it never panics and always ends. Where a rule of
-//! a sound unit is broken, it reads on as far as it can and says what is doubtful, in plain words, a
-//! line each: about the unit in [`Rescue::doubts`], about a file in [`File::doubts`]. There is no
-//! doubt at all exactly if the image is a sound unit with nothing open.
+//! [`Rescue::read`] takes any words of any length: it never panics and always ends. Where a rule
+//! of a sound unit is broken, it reads on as far as it can and says what is doubtful, in plain
+//! words, a line each: about the unit in [`Rescue::doubts`], about a file in [`File::doubts`].
+//! There is no doubt at all exactly if the image is a sound unit with nothing open.
 //!
 //! Decided, where the rules do not say how a broken unit is read:
 //!
+//! * Slices are counted by the kit's N if the kit is within its limits, else by the sectors that
+//!   are there. What can be read are the sectors that are there, whatever N is.
 //! * SYS's sectors are those of its index if that is legal and begins at F, as many as SYS's entry
-//!   says. Else every sector from 10 on is read, whatever F is, that looks like one of SYS's: at least one place is used, and half or more of those used have a legal name and an index
-//!   sector that is 0, 6, 7 or where files lie. The keys of such sectors are not known.
+//!   says. Where the entry's length does not go with the index, they are those of the index that
+//!   look like SYS's, and all others that do and that no file has. Where the index is not legal,
+//!   they are all sectors from 10 on that look like SYS's, whatever F is.
+//! * A sector looks like one of SYS's if at least one place is used, and half or more of those used
+//!   have a legal name and an index sector that is 0, 6, 7 or where files lie. The keys of sectors
+//!   that are not found by the index are not known.
 //! * Every place of these sectors that is not zero is an entry, whatever its words are.
 //! * A file is read from the pairs of its index block as they stand, s and F serving to judge them
-//!   only. The first pair is read from the index sector on, where a file's first slice begins. Pairs
-//!   that together have more sectors than the image are not followed.
+//!   only. The first pair is read from the index sector on, where a file's first slice begins.
+//!   Pairs that together have more sectors than there are are not followed. Where no pair is, the
+//!   slice that begins at the index sector is read.
 //! * A legal index block in slices that are marked used and that nobody claims is a lost file's.
 //! * Several files may claim a sector: each is given it, with a doubt.
 
@@ -31,11 +38,10 @@ use std::collections::HashMap;
 use crate::layout::{system_entry, Kit, MAP, MAP_SECTOR, SECTOR, SYS, SYS_INDEX};
 use crate::types::Name;
 use catalog::{read_catalog, words_at, Catalog, Place};
-use claims::{followed, Claims};
+use claims::{followed_or_guessed, Claims};
 use index::{Fault, Index};
 use numbers::KitRead;
 
-pub use catalog::CatalogSector;
 pub use claims::Claimer;
 pub use file::{shown, File, Kind};
 pub use index::Pair;
@@ -53,6 +59,8 @@ pub struct Rescue<'a> {
     claims: Claims,
     /// The index blocks of lost files.
     lost: Vec<usize>,
+    /// The first of them for each number of sectors.
+    lost_of: HashMap<usize, usize>,
     doubts: Vec<String>,
 }
 
@@ -77,9 +85,14 @@ impl<'a> Rescue<'a> {
             catalog,
             numbers,
             lost: Vec::new(),
+            lost_of: HashMap::new(),
             doubts: kit.doubts,
         };
         rescue.lost = rescue.look_for_lost();
+        for &sector in rescue.lost.iter().rev() {
+            let total = rescue.lost_total(sector);
+            rescue.lost_of.insert(total, sector);
+        }
         rescue.doubts.extend_from_slice(&rescue.catalog.doubts);
         let more = rescue.unit_doubts();
         rescue.doubts.extend(more);
@@ -99,6 +112,7 @@ impl<'a> Rescue<'a> {
         }
         let claimed = self.claim_doubts(&self.sys_file(), Some(Claimer::Catalog));
         doubts.extend(claimed.into_iter().map(|doubt| format!("SYS: {doubt}")));
+        doubts.extend(self.layout.unknown());
         doubts.extend(self.unclaimed());
         doubts.extend(self.lost.iter().map(|&sector| {
             let total = self.lost_total(sector);
@@ -132,11 +146,6 @@ impl<'a> Rescue<'a> {
         &self.doubts
     }
 
-    /// The sectors that are read as SYS's.
-    pub fn catalog(&self) -> &[CatalogSector] {
-        &self.catalog.sectors
-    }
-
     /// The number of entries found; they have the numbers below it.
     pub fn entries(&self) -> usize {
         self.catalog.places.len()
@@ -158,8 +167,24 @@ impl<'a> Rescue<'a> {
         (0..self.entries()).filter_map(|number| self.file(number))
     }
 
-    /// The file whose entry stands in a place of a sector, one of SYS's or not; none if the place is
-    /// not in the image.
+    /// The numbers of all entries by name and place.
+    pub fn sorted(&self) -> Vec<usize> {
+        let mut numbers: Vec<usize> = (0..self.entries()).collect();
+        numbers.sort_by_key(|&number| {
+            let place = &self.catalog.places[number];
+            (place.name(), place.sector, place.place)
+        });
+        numbers
+    }
+
+    /// The file of the entry with a number, its doubts left out.
+    pub fn unjudged(&self, number: usize) -> Option<File> {
+        let place = self.catalog.places.get(number)?;
+        Some(self.read_file(place).0)
+    }
+
+    /// The file whose entry stands in a place of a sector, one of SYS's or not; none if the place
+    /// is not in the image.
     pub fn at(&self, sector: usize, place: usize) -> Option<File> {
         let stands = |found: &Place| (found.sector, found.place) == (sector, place);
         if let Some(number) = self.catalog.places.iter().position(stands) {
@@ -200,7 +225,8 @@ impl<'a> Rescue<'a> {
             ),
             Kind::Ordinary => {
                 let sector = place.words[8] as usize;
-                (followed(self.image, &self.layout, sector), data)
+                let index = followed_or_guessed(self.image, &self.layout, sector);
+                (index, data)
             }
         };
         let file = File {
@@ -209,6 +235,7 @@ impl<'a> Rescue<'a> {
             words: place.words,
             kind,
             pairs: index.pairs,
+            guessed: index.guessed,
             doubts: Vec::new(),
             readable,
         };

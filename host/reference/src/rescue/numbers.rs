@@ -2,6 +2,7 @@
 
 use std::ops::{Range, RangeInclusive};
 
+use crate::findings::count;
 use crate::layout::{marked_free, ones_in_map, Kit, KIT, MAP_SECTOR, SECTOR};
 
 /// The first sector that can belong to a slice, whatever F is.
@@ -38,8 +39,11 @@ pub struct Layout {
     pub s: Option<usize>,
     /// F.
     pub f: Option<usize>,
-    /// The sectors that are read: those of the unit that the image has.
+    /// The sectors of the unit: the kit's N if the kit is within its limits, else as many as there
+    /// are. Slices are counted by it.
     pub n: usize,
+    /// The sectors that are there to be read, fewer or more than the unit's.
+    pub there: usize,
 }
 
 impl Layout {
@@ -48,20 +52,38 @@ impl Layout {
         self.f.unwrap_or(FIRST_POSSIBLE)
     }
 
-    /// The sectors where files can lie, whatever F is.
+    /// The sectors with blocks that can be read, whatever F is.
     pub(super) fn readable(&self) -> Range<usize> {
-        FIRST_POSSIBLE..self.n.max(FIRST_POSSIBLE)
+        FIRST_POSSIBLE..self.there.max(FIRST_POSSIBLE)
     }
 
-    /// Whether a file can lie in a sector, whatever F is.
+    /// The sectors of the unit and those that are there.
+    pub(super) fn most(&self) -> usize {
+        self.n.max(self.there)
+    }
+
+    /// Whether a file can lie in a sector, whatever F is and whether it can be read or not.
     pub(super) fn holds(&self, sector: usize) -> bool {
-        self.readable().contains(&sector)
+        (FIRST_POSSIBLE..self.most()).contains(&sector)
     }
 
     /// M, the number of slices, if s and F are known.
     pub fn slices(&self) -> Option<usize> {
         let (s, f) = (self.s?, self.f?);
         Some((self.n.saturating_sub(f) / s).min(MOST_SLICES))
+    }
+
+    /// What is not known of s and F, and what is not done therefore.
+    pub(super) fn unknown(&self) -> Option<String> {
+        let (what, choices) = match (self.s, self.f) {
+            (None, None) => ("s and F are", "--slice, --first"),
+            (None, Some(_)) => ("s is", "--slice"),
+            (Some(_), None) => ("F is", "--first"),
+            (Some(_), Some(_)) => return None,
+        };
+        Some(format!(
+            "{what} not known: files without an entry are not looked for ({choices})"
+        ))
     }
 
     /// The first sector of a slice, if s and F are known.
@@ -82,7 +104,7 @@ impl Layout {
             (Some(s), Some(f)) => sector >= f && (sector - f).is_multiple_of(s),
             _ => true,
         };
-        self.holds(sector) && at_slice
+        (FIRST_POSSIBLE..self.n).contains(&sector) && at_slice
     }
 }
 
@@ -97,12 +119,12 @@ pub(super) struct KitRead {
 }
 
 impl KitRead {
-    /// No kit at all, of an image of which so many sectors are read.
-    pub fn blank(n: usize) -> KitRead {
-        let (h, s, f) = (None, None, None);
+    /// No kit at all, of an image of which so many sectors can be read.
+    pub fn blank(there: usize) -> KitRead {
+        let (h, s, f, n) = (None, None, None, there);
         KitRead {
             kit: None,
-            layout: Layout { h, s, f, n },
+            layout: Layout { h, s, f, n, there },
             doubts: Vec::new(),
         }
     }
@@ -118,12 +140,12 @@ pub(super) fn read_kit(image: &[u16], given: &Numbers) -> KitRead {
     let s = chosen("s", given.s, of(|kit| kit.s), S_LIMITS, &mut doubts);
     let f = chosen("F", given.f, of(|kit| kit.f), F_LIMITS, &mut doubts);
     let f = within(f, sectors, &mut doubts);
+    let there = sectors.min(MOST_SECTORS);
     let n = match kit {
-        Some(kit) if *given == Numbers::default() && f.is_some_and(|f| kit.n > f) => kit.n,
-        _ => sectors,
+        Some(kit) if *given == Numbers::default() && kit.limits().is_ok() => kit.n,
+        _ => there,
     };
-    let n = n.min(sectors).min(MOST_SECTORS);
-    let layout = Layout { h, s, f, n };
+    let layout = Layout { h, s, f, n, there };
     if let Some(kit) = kit {
         doubts.extend(wrong_sectors(&kit, sectors));
     }
@@ -144,13 +166,16 @@ fn short(words: usize) -> Vec<String> {
     let sectors = words / SECTOR;
     if !words.is_multiple_of(SECTOR) {
         doubts.push(format!(
-            "the image has {words} words, which are no whole number of sectors"
+            "the image has {} and {}: these words are not read",
+            count(sectors, "sector"),
+            count(words % SECTOR, "word")
         ));
     }
     for (sector, what) in [(KIT, "kit"), (MAP_SECTOR, "map")] {
         if sectors <= sector {
             doubts.push(format!(
-                "the image has {sectors} sectors and so no {what}, which is sector {sector}"
+                "the image has {} and so no {what}, which is sector {sector}",
+                count(sectors, "sector")
             ));
         }
     }
@@ -181,7 +206,8 @@ fn chosen(
 /// F, if it is a sector of the image.
 fn within(f: Option<usize>, sectors: usize, doubts: &mut Vec<String>) -> Option<usize> {
     if let Some(f) = f.filter(|&f| f >= sectors) {
-        doubts.push(format!("F is {f}, and the image has {sectors} sectors"));
+        let sectors = count(sectors, "sector");
+        doubts.push(format!("F is {f}, and the image has {sectors}"));
     }
     f.filter(|&f| f < sectors)
 }
@@ -191,8 +217,9 @@ fn wrong_sectors(kit: &Kit, sectors: usize) -> Vec<String> {
     let mut doubts = Vec::new();
     if kit.n != sectors {
         doubts.push(format!(
-            "the kit's N is {}, the image has {sectors} sectors",
-            kit.n
+            "the kit's N is {}, the image has {}",
+            kit.n,
+            count(sectors, "sector")
         ));
     }
     if kit.n > MOST_SECTORS {
@@ -246,9 +273,10 @@ fn wrong_map(image: &[u16], kit: &Kit, layout: &Layout) -> Vec<String> {
         let past = (slices + 1..=MOST_SLICES).filter(|&slice| marked_free(image, slice));
         let past: Vec<usize> = past.collect();
         if let Some(first) = past.first() {
+            let past = past.len();
             doubts.push(format!(
-                "{} of the map's bits past the last slice, {slices}, are 1, the first slice {first}'s",
-                past.len()
+                "{past} of the map's bits past the last slice, {slices}, are 1, the first slice \
+                 {first}'s"
             ));
         }
     }

@@ -41,8 +41,8 @@ pub struct Data {
     pub more: usize,
 }
 
-/// What a sector is to one that claims it; files have their names, with the place of the entry where
-/// the name is not enough.
+/// What a sector is to one that claims it; files have their names, with the place of the entry
+/// where the name is not enough.
 #[derive(Clone, PartialEq, Eq, Debug)]
 pub enum Held {
     /// A block of SYS, with its number if it is known.

@@ -57,6 +57,8 @@ static void names_and_lengths(ruzkemp_unit *unit)
     ruzkemp_name pass = ruzkemp_name_of("PASS", UNIT);
     ruzkemp_name hollow = {{0, 0x4141, 0x4100}};
     ruzkemp_name late = {{0x0041, 0, 0}};
+    /* UNIT + 256 is no unit, though its low eight bits are those of one. */
+    show("create", ruzkemp_create(unit, ruzkemp_name_of("PASS", UNIT + 256), 2, RUZKEMP_EXTENDABLE));
     show("create", ruzkemp_create(unit, pass, 2, RUZKEMP_EXTENDABLE));
     rename_it(unit, "PASS", "SEASON79");
     rename_it(unit, "PASS", "");

@@ -9,7 +9,7 @@ use ruzkemp::State;
 use crate::arguments::{flag, Command, Given, LOW, OFFSET, UNIT};
 use crate::console::{print, visible};
 use crate::failure::{Failure, Outcome};
-use crate::host::{shown, Form, ImageFile, SECTOR_BYTES};
+use crate::host::{shown, Form, ImageFile};
 use crate::{hint, json};
 
 /// `check`.
@@ -42,7 +42,7 @@ struct Checked {
 
 impl Checked {
     fn read(path: &Path, form: Form, unit: u16) -> Outcome<Checked> {
-        let image = ImageFile::read(path, form)?.words;
+        let image = ImageFile::read_to_judge(path, form)?;
         // Soundness does not depend on the unit's number, and an image file has nothing open.
         Ok(Checked {
             form,
@@ -140,9 +140,7 @@ fn finding_lines(finding: &Finding, form: Form) -> String {
 /// A finding's sector in the unit, and the byte in the file at which its word begins.
 fn place(finding: &Finding, form: Form) -> Option<(u64, u64)> {
     let (sector, word) = finding.place()?;
-    let sector = sector as u64;
-    let before = form.offset.unwrap_or(0) + sector;
-    Some((sector, SECTOR_BYTES as u64 * before + 2 * word as u64))
+    Some((sector as u64, form.byte(sector, word)))
 }
 
 /// An image as JSON, in one line for itself and one for each finding.
@@ -175,6 +173,7 @@ fn object(path: &Path, checked: &Outcome<Checked>) -> String {
 fn finding_object(finding: &Finding, form: Form) -> String {
     let number = |number: Option<u64>| number.map_or("null".into(), |number| number.to_string());
     let (place, numbers) = (place(finding, form), finding.expected_and_found());
+    let slices = finding.slices();
     let files: Vec<String> = finding
         .files()
         .iter()
@@ -182,7 +181,8 @@ fn finding_object(finding: &Finding, form: Form) -> String {
         .collect();
     format!(
         "{{\"rule\": {}, \"text\": {}, \"found\": {}, \"expected\": {}, \"actual\": {}, \
-         \"sector\": {}, \"byte\": {}, \"files\": [{}]}}",
+         \"sector\": {}, \"byte\": {}, \"files\": [{}], \"file_count\": {}, \
+         \"first_slice\": {}, \"slices\": {}}}",
         finding.rule.number(),
         json::string(finding.rule.text()),
         json::string(&finding.to_string()),
@@ -190,7 +190,10 @@ fn finding_object(finding: &Finding, form: Form) -> String {
         number(numbers.map(|(_, actual)| actual as u64)),
         number(place.map(|(sector, _)| sector)),
         number(place.map(|(_, byte)| byte)),
-        files.join(", ")
+        files.join(", "),
+        finding.file_count(),
+        number(slices.map(|(first, _)| first as u64)),
+        number(slices.map(|(_, number)| number as u64))
     )
 }
 

@@ -1,21 +1,28 @@
 //! `diff`: in what the files of two images differ.
 
 use std::collections::BTreeSet;
+use std::path::Path;
 
 use ruzkemp::{Block, Call, Entry, Name, Role};
 
-use crate::arguments::{flag, Command, Given, LOW, OFFSET, UNIT};
+use crate::arguments::{flag, valued, Choice, Command, Given, LOW, OFFSET, UNIT};
+use crate::commands::many::is_own;
 use crate::commands::transfer::{close_area, open_area, SENDER};
 use crate::console::print;
 use crate::failure::{Failure, Outcome};
 use crate::host::shown;
 use crate::progress::Progress;
 use crate::session::Session;
-use crate::values::count;
+use crate::values::{count, hex};
 use crate::view::{Holder, View};
 
 /// Where kit words 6 and 7, which are carried, stand in an image.
 const CARRIED: std::ops::Range<usize> = 8 * 256 + 6..8 * 256 + 8;
+
+/// The order of a word's bytes in the second image.
+const OTHER_LOW: Choice = flag("--other-low-byte-first", "the same of OTHER's file");
+/// Where in its file the second unit begins.
+const OTHER_OFFSET: Choice = valued("--other-offset", "SECTORS", "the same of OTHER's unit");
 
 /// `diff`.
 pub const DIFF: Command = Command {
@@ -26,19 +33,26 @@ pub const DIFF: Command = Command {
         UNIT,
         LOW,
         OFFSET,
+        OTHER_LOW,
+        OTHER_OFFSET,
     ],
     summary: "Say in what the units of two images differ",
     about: "Compares the unit's numbers, and of the files names, attributes, lengths, optional\n\
             words, tails and blocks. Where slices lie is no difference without --layout; free\n\
-            sectors and sectors 0 to 5 are never compared. The options hold for both images.\n\
+            sectors and sectors 0 to 5 are never compared.\n\n\
+            --low-byte-first and --offset are about IMAGE alone; OTHER is an image file of its own\n\
+            with the high byte first, unless --other-low-byte-first or --other-offset says else.\n\n\
             Exit status 0 if there is no difference, 1 if there is one, above 1 on trouble.",
     run: diff,
 };
 
 fn diff(given: &Given) -> Outcome {
+    if [0, 1].map(|place| given.path(place)) == [Path::new("-"); 2] {
+        return Err(given.misused("standard input can be one of the two only".into()));
+    }
     let mut pair = Pair {
-        one: Side::open(given, 0)?,
-        other: Side::open(given, 1)?,
+        one: Side::open(given, 0, [&LOW, &OFFSET])?,
+        other: Side::open(given, 1, [&OTHER_LOW, &OTHER_OFFSET]).map_err(of_other)?,
     };
     let layout = given.flag("--layout");
     let mut lines = pair.of_unit();
@@ -64,6 +78,17 @@ fn diff(given: &Given) -> Outcome {
     Err(Failure::Differ(format!("{title} differ in {what}")))
 }
 
+/// A failure to read the second image: a hint that names an option means the other's.
+fn of_other(failure: Failure) -> Failure {
+    match failure {
+        Failure::NotUnit(text) if [LOW, OFFSET].iter().any(|hint| text.contains(hint.name)) => {
+            let (low, offset) = (OTHER_LOW.name, OTHER_OFFSET.name);
+            Failure::NotUnit(format!("{text}; here the options are {low} and {offset}"))
+        }
+        other => other,
+    }
+}
+
 /// An image of the two.
 struct Side {
     shown: String,
@@ -72,11 +97,18 @@ struct Side {
 }
 
 impl Side {
-    fn open(given: &Given, place: usize) -> Outcome<Side> {
-        let mut session = Session::to_read_at(given, place)?;
+    /// Opens an operand, with the options that say how it lies in its file.
+    fn open(given: &Given, place: usize, [low, offset]: [&Choice; 2]) -> Outcome<Side> {
+        let form = given.form_by(low, offset)?;
+        let mut session = Session::to_read_at(given, place, form)?;
         let view = View::of(&mut session)?;
+        let path = shown(given.path(place));
         Ok(Side {
-            shown: shown(given.path(place)),
+            // The two may be units of one pack.
+            shown: match form.offset {
+                Some(sector) => format!("{path} at sector {sector}"),
+                None => path,
+            },
             session,
             view,
         })
@@ -119,8 +151,7 @@ impl Pair {
     fn names(&self, layout: bool) -> BTreeSet<Name> {
         let sides = [&self.one, &self.other].into_iter();
         let names = sides.flat_map(|side| side.view.files.iter().map(|file| file.name));
-        let own = |name: &Name| [Name::SYS, Name::MAP].contains(name);
-        names.filter(|name| layout || !own(name)).collect()
+        names.filter(|name| layout || !is_own(*name)).collect()
     }
 
     /// A difference, as a line: what it is about, and both values.
@@ -161,7 +192,7 @@ impl Pair {
             lines.extend(self.lines(&about, slices(one), slices(other)));
         }
         let common = one.entry.length().min(other.entry.length());
-        if ![Name::SYS, Name::MAP].contains(&name) {
+        if !is_own(name) {
             lines.extend(self.of_blocks(name, common)?);
         }
         Ok(lines)
@@ -202,20 +233,9 @@ fn of_entry(entry: &Entry) -> [(&'static str, String); 4] {
     ]
 }
 
-fn hex(words: &[u16]) -> String {
-    let words: Vec<String> = words.iter().map(|word| format!("{word:04X}")).collect();
-    words.join(" ")
-}
-
-/// A file's stretches in slices.
+/// A file's stretches in slices, all of them.
 fn listed(file: &Holder) -> String {
-    let stretches = file.stretches.iter();
-    let parts: Vec<String> = stretches
-        .map(|stretch| match stretch.slices {
-            1 => stretch.first.to_string(),
-            _ => format!("{}-{}", stretch.first, stretch.last()),
-        })
-        .collect();
+    let parts: Vec<String> = file.stretches.iter().map(ToString::to_string).collect();
     match parts.is_empty() {
         true => "none".into(),
         false => parts.join(" "),

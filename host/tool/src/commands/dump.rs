@@ -2,7 +2,7 @@
 
 use std::ops::RangeInclusive;
 
-use reference::layout::{marked_free, Kit, KIT, SECTOR, STRETCHES};
+use reference::layout::{marked_free, Kit, ENTRY, SECTOR, STRETCHES};
 use reference::rescue::{shown, Data, Held, Rescue, Use};
 
 use super::rescue::{numbers, FIRST, KEYS, SLICE};
@@ -14,8 +14,6 @@ use crate::values::{self, count};
 
 /// Words in a line.
 const LINE: usize = 8;
-/// Words in an entry.
-const ENTRY: usize = 16;
 
 /// `dump`.
 pub const DUMP: Command = Command {
@@ -24,7 +22,7 @@ pub const DUMP: Command = Command {
     choices: &[KEYS, SLICE, FIRST, UNIT, LOW, OFFSET],
     summary: "Print sectors in base 16 and in characters, and what they are",
     about:
-        "Works on any image of whole sectors, sound or not. A line has the number of its first\n\
+        "Works on the whole sectors of any file, sound or not. A line has the number of its first\n\
             word, the offset of its first byte, 8 words and their characters; * stands for lines\n\
             like the one before. --keys, --slice and --first serve where the kit is damaged.",
     run: dump,
@@ -33,20 +31,27 @@ pub const DUMP: Command = Command {
 fn dump(given: &Given) -> Outcome {
     let range = range(&given.text(1)).map_err(|wrong| given.misused(wrong))?;
     let form = given.form()?;
-    let image = ImageFile::read(given.path(0), form)?.words;
+    let image = ImageFile::read_to_rescue(given.path(0), form)?;
     let rescue = Rescue::read(&image, &numbers(given)?);
-    let sectors = rescue.sectors();
-    if *range.end() >= sectors {
-        let (last, outside) = (sectors - 1, range.end());
-        return Err(given.misused(format!(
-            "sector {outside} is outside: the image has the sectors 0 to {last}"
-        )));
+    if *range.end() >= rescue.sectors() {
+        let outside = outside(*range.end(), rescue.sectors());
+        return Err(given.misused(outside));
     }
     let offset = form.offset.unwrap_or(0);
     let dumped: Vec<String> = range
         .map(|sector| dumped(&rescue, sector, offset))
         .collect();
     print(&dumped.join("\n"))
+}
+
+/// That a sector is not among the whole sectors of an image.
+fn outside(sector: usize, sectors: usize) -> String {
+    let there = match sectors {
+        0 => "no whole sector".to_string(),
+        1 => "the sector 0 only".to_string(),
+        _ => format!("the sectors 0 to {}", sectors - 1),
+    };
+    format!("sector {sector} is outside: the image has {there}")
 }
 
 /// A sector, or the first and the last of a stretch.
@@ -70,7 +75,7 @@ fn dumped(rescue: &Rescue, sector: usize, offset: u64) -> String {
         Use::System => text += "not used by the catalog\n",
         Use::SysIndex => text += &format!("index block of SYS\n{}", pairs(words)),
         Use::MapIndex => text += &format!("index block of MAP\n{}", pairs(words)),
-        Use::Kit => text += &kit(rescue),
+        Use::Kit => text += &kit(rescue.kit()),
         Use::Map => text += &map(rescue),
         Use::BeforeSlices => text += "before the first slice, not used by the catalog\n",
         Use::PastSlices => text += "past the last slice, not used by the catalog\n",
@@ -79,17 +84,13 @@ fn dumped(rescue: &Rescue, sector: usize, offset: u64) -> String {
     text + &lines(words, from)
 }
 
-fn kit(rescue: &Rescue) -> String {
-    let words = &rescue.image()[KIT * SECTOR..(KIT + 1) * SECTOR];
-    let Kit {
-        h,
-        s,
-        n,
-        free,
-        f,
-        top,
-    } = Kit::from_words(words);
-    format!("the kit: H {h}, s {s}, N {n}, free {free}, F {f}, top {top}\n")
+fn kit(kit: Option<Kit>) -> String {
+    let said = kit.map(|kit| {
+        let Kit { h, s, n, .. } = kit;
+        let Kit { free, f, top, .. } = kit;
+        format!("the kit: H {h}, s {s}, N {n}, free {free}, F {f}, top {top}\n")
+    });
+    said.unwrap_or("the kit\n".into())
 }
 
 fn map(rescue: &Rescue) -> String {

@@ -9,11 +9,14 @@ use crate::arguments::{flag, valued, Command, Given, DRY_RUN, LOW, OFFSET, UNIT}
 use crate::console::report;
 use crate::explained::Explained;
 use crate::failure::{Failure, Outcome};
-use crate::host::{shown, SECTOR_BYTES};
+use crate::host::{shown, MOST_SECTORS, SECTOR_BYTES};
 use crate::meaning;
-use crate::numbers::{Numbers, Wanted, OPTIONS};
+use crate::numbers::{Numbers, Wanted, OPTIONS, PASSED};
 use crate::session::{make, Session};
-use crate::values;
+use crate::values::{self, count};
+
+/// The sectors of the smallest unit: one slice of two from sector 10 on.
+const SMALLEST: u16 = 12;
 
 /// `format`.
 pub const FORMAT: Command = Command {
@@ -79,16 +82,45 @@ fn format(given: &Given) -> Outcome {
 fn wanted(given: &Given, stays: bool) -> Outcome<Wanted> {
     let mut wanted = Wanted::default();
     for (number, option) in wanted.given.iter_mut().zip(OPTIONS) {
-        *number = given.value(option, values::number)?;
+        *number = given.value(option, values::nearest_word)?;
     }
     if given.flag(OFFSET.name) {
-        given.needed(OPTIONS[0], values::number)?;
+        given.needed(OPTIONS[0], values::nearest_word)?;
     } else if stays {
-        let metadata = fs::metadata(given.path(0)).ok();
-        let sectors = metadata.map(|metadata| metadata.len() / SECTOR_BYTES as u64);
-        wanted.file = sectors.and_then(|sectors| u16::try_from(sectors).ok());
+        wanted.file = sectors_of(given.path(0));
+    } else if wanted.given[0].is_none() {
+        // A file that is made anew has the old one's length, if a unit can have it.
+        let of_unit = |sectors: &u16| (SMALLEST..=MOST_SECTORS as u16).contains(sectors);
+        wanted.given[0] = sectors_of(given.path(0)).filter(of_unit);
     }
+    are_words(given, &wanted)?;
     Ok(wanted)
+}
+
+/// The sectors of a file, if there is one and a word can say how many they are.
+fn sectors_of(path: &Path) -> Option<u16> {
+    let bytes = fs::metadata(path).ok()?.len();
+    u16::try_from(bytes / SECTOR_BYTES as u64).ok()
+}
+
+/// Refuses a number that no message can carry, as Format would with the largest word in its place.
+fn are_words(given: &Given, wanted: &Wanted) -> Outcome {
+    for (option, fault) in OPTIONS.into_iter().zip(PASSED) {
+        let limit = meaning::of_limit(fault);
+        let too_large = |text: &str| format!("{text} is too large: {limit}{}", legal(wanted));
+        given.value(option, |text| {
+            values::number(text).map_err(|_| too_large(text))
+        })?;
+    }
+    Ok(())
+}
+
+/// The nearest legal numbers, if there are any, in brackets.
+fn legal(wanted: &Wanted) -> String {
+    match wanted.nearest() {
+        none if none.is_empty() => String::new(),
+        nearest => format!(" (legal: {})", nearest.join(", ")),
+    }
 }
 
 fn record(given: &Given, wanted: &Wanted) -> Outcome<Record> {
@@ -116,14 +148,14 @@ fn refused(unit: &Explained, record: &Record, wanted: &Wanted, error: Error) -> 
     let what = format!("format of unit {}", record.unit);
     let failure = unit.refused(what, error);
     let numbers = wanted.chosen();
-    let broken = match (wanted.file, numbers.broken()) {
+    let broken = match wanted.file {
         // Better numbers would not help a unit that is not known.
         _ if record.unit > 3 => None,
-        (Some(file), _) if file != numbers.sectors => {
+        Some(file) if file != numbers.sectors => {
             let sectors = numbers.sectors;
             Some(format!("the file has {file} sectors, and N is {sectors}"))
         }
-        (_, fault) => fault.map(|fault| meaning::of_limit(fault).into()),
+        _ => wanted.broken(),
     };
     let (Failure::Refused(what, error, _), Some(broken)) = (&failure, broken) else {
         return failure;
@@ -134,12 +166,8 @@ fn refused(unit: &Explained, record: &Record, wanted: &Wanted, error: Error) -> 
         slice,
         keys,
     } = numbers;
-    let nearest = match wanted.nearest() {
-        none if none.is_empty() => String::new(),
-        nearest => format!(" (legal: {})", nearest.join(", ")),
-    };
     let what = format!("{what} with N {sectors}, F {first}, s {slice}, H {keys}");
-    Failure::Refused(what, *error, format!("{broken}{nearest}"))
+    Failure::Refused(what, *error, format!("{broken}{}", legal(wanted)))
 }
 
 fn described(path: &Path, record: &Record) -> String {
@@ -151,11 +179,11 @@ fn described(path: &Path, record: &Record) -> String {
         first,
         ..
     } = record;
-    let slices = (sectors - first) / slice_size;
     format!(
-        "{}: unit {unit} formatted: {sectors} sectors, {slices} slices of {slice_size} from sector \
-         {first} on, {sys_size} key{}\n",
+        "{}: unit {unit} formatted: {sectors} sectors, {} of {slice_size} from sector {first} on, \
+         {}\n",
         shown(path),
-        if *sys_size == 1 { "" } else { "s" }
+        count((sectors - first) / slice_size, "slice"),
+        count(*sys_size, "key")
     )
 }

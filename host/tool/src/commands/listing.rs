@@ -5,11 +5,11 @@ use ruzkemp::{Call, Entry};
 use super::rescue::{self, FIRST, KEYS, SLICE, UNSOUND};
 use crate::arguments::{flag, Choice, Command, Given, LOW, OFFSET, UNIT};
 use crate::console::print;
-use crate::failure::Outcome;
+use crate::failure::{Failure, Outcome};
 use crate::host::SECTOR_BYTES;
 use crate::json;
 use crate::session::Session;
-use crate::values::count;
+use crate::values::{count, hex, range};
 use crate::view::{Holder, View};
 
 /// The option for programs that read what is printed.
@@ -89,17 +89,16 @@ fn show(given: &Given) -> Outcome {
     let entry = session.call(Call::LookUp, name, |unit| unit.look_up(name))?;
     let view = View::of(&mut session)?;
     let holder = view.files.iter().find(|file| file.name == name);
-    match holder {
-        Some(holder) if given.flag(JSON.name) => print(&json::file(&view, holder)),
-        _ => print(&shown(&view, &entry, holder)),
+    let holder = holder.ok_or_else(|| {
+        Failure::Disagreement(format!("Look-up finds {name}, and the listing does not"))
+    })?;
+    match given.flag(JSON.name) {
+        true => print(&json::file(&view, holder)),
+        false => print(&shown(&view, &entry, holder)),
     }
 }
 
-fn shown(view: &View, entry: &Entry, holder: Option<&Holder>) -> String {
-    let hex = |words: &[u16]| {
-        let words: Vec<String> = words.iter().map(|word| format!("{word:04X}")).collect();
-        words.join(" ")
-    };
+fn shown(view: &View, entry: &Entry, holder: &Holder) -> String {
     let name = entry.name();
     let (length, attributes) = (entry.length(), entry.attributes());
     let bytes = u64::from(length) * SECTOR_BYTES as u64;
@@ -115,17 +114,10 @@ fn shown(view: &View, entry: &Entry, holder: Option<&Holder>) -> String {
     );
     text += &format!("optional    {}\n", hex(&entry.optional()));
     text += &format!("tail        {}\n", hex(&entry.tail()));
-    for (number, stretch) in holder
-        .iter()
-        .flat_map(|file| file.stretches.iter().enumerate())
-    {
+    for (number, stretch) in (1..).zip(&holder.stretches) {
         let (first, last) = view.sectors(stretch);
-        text += &format!(
-            "stretch {:<3} slices {} to {}, sectors {first} to {last}\n",
-            number + 1,
-            stretch.first,
-            stretch.last()
-        );
+        let slices = range("slice", stretch.first, stretch.last());
+        text += &format!("stretch {number:<3} {slices}, sectors {first} to {last}\n");
     }
     text
 }

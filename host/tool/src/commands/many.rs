@@ -9,7 +9,7 @@ use ruzkemp::Name;
 
 use crate::arguments::{valued, Choice, Given};
 use crate::failure::{Failure, Outcome};
-use crate::host::shown;
+use crate::host::{irregular, shown, Replacement};
 
 /// The option for all files of unit or folder.
 pub const ALL: Choice = valued("--all", "DIR", "all files, to or from the folder DIR");
@@ -64,6 +64,11 @@ fn names(given: &Given) -> Outcome<Vec<Name>> {
     Ok(names)
 }
 
+/// Whether a file is the unit's own: SYS or MAP.
+pub fn is_own(name: Name) -> bool {
+    [Name::SYS, Name::MAP].contains(&name)
+}
+
 /// The host file of a name in a folder.
 pub fn beside(folder: &Path, name: Name) -> PathBuf {
     folder.join(name.to_string())
@@ -81,7 +86,7 @@ pub fn host_files(given: &Given, which: Which) -> Outcome<Vec<(Name, PathBuf)>> 
         let metadata = fs::metadata(&path).map_err(|error| Failure::host(&path, error))?;
         match metadata.is_file() {
             true => Ok((name, path)),
-            false => Err(Failure::host(&path, "this is no regular file")),
+            false => Err(irregular(&path)),
         }
     });
     found.collect()
@@ -124,6 +129,23 @@ fn content(folder: &Path) -> io::Result<BTreeMap<String, bool>> {
         Ok((entry.file_name().to_string_lossy().into_owned(), regular))
     });
     found.collect()
+}
+
+/// Whether a path in a folder may be written, as far as that is seen before: nothing is there, or
+/// a file that is to be replaced by force. A link is not followed: it could lead out of the folder.
+pub fn may_be_written(given: &Given, path: &Path) -> Outcome {
+    let Ok(there) = fs::symlink_metadata(path) else {
+        return Ok(());
+    };
+    given.not_the_image(path)?;
+    if there.is_symlink() {
+        return Err(Failure::host(path, "this is a link, which is not followed"));
+    }
+    match (there.is_file(), given.flag("--force")) {
+        (false, _) => Err(irregular(path)),
+        (true, false) => Err(Replacement::exists(path)),
+        (true, true) => Ok(()),
+    }
 }
 
 /// A folder into which files are written: made if it is missing, and taken away again if none

@@ -16,8 +16,9 @@ pub const REPORT: Command = Command {
         valued(
             "--output",
             "FILE",
-            "write the report into FILE (- is standard output); also -o FILE",
-        ),
+            "write the report into FILE (- is standard output)",
+        )
+        .or("-o"),
         flag("--force", "replace FILE if it exists"),
         UNIT,
         LOW,
@@ -37,8 +38,11 @@ fn report(given: &Given) -> Outcome {
     write(given, path, &page(&subject))?;
     match subject.content {
         Content::Sound(_) => Ok(()),
-        Content::Unsound(..) => {
-            let image = shown(given.path(0));
+        Content::Unsound(_) => {
+            let image = match given.path(0) {
+                input if input == Path::new("-") => "standard input".into(),
+                path => shown(path),
+            };
             Err(Failure::NotUnit(format!("{image}: not a sound unit")))
         }
     }

@@ -1,7 +1,7 @@
 //! `run`: the messages of a script, one after the other.
 
 use std::fs;
-use std::io::{self, Read};
+use std::io::Read;
 use std::path::Path;
 
 use ruzkemp::{Answer, Entry, Error, Message, Operation, Unit, ENTRY, SECTOR};
@@ -10,7 +10,7 @@ use crate::arguments::{flag, Command, Given, DRY_RUN, LOW, OFFSET, UNIT};
 use crate::console::{print, report};
 use crate::explained::Explained;
 use crate::failure::{Failure, Outcome};
-use crate::host::{bytes_of, shown};
+use crate::host::{bytes_of, shown, streams};
 use crate::script::{parse, Lent, Line, Show, Step};
 use crate::session::Session;
 
@@ -66,7 +66,7 @@ fn read(path: &Path) -> Outcome<String> {
         return fs::read_to_string(path).map_err(|error| Failure::host(path, error));
     }
     let mut text = String::new();
-    let read = io::stdin().read_to_string(&mut text);
+    let read = streams::input()?.read_to_string(&mut text);
     read.map_err(|error| Failure::Host(format!("standard input: {error}")))?;
     Ok(text)
 }

@@ -1,17 +1,20 @@
 //! `put` and `get`: files' blocks from and to host files.
 
-use std::fs::{self, File};
-use std::io::{self, BufReader, Cursor, Read};
+use std::fs::File;
+use std::io::{BufRead, BufReader, Cursor, Read};
 use std::path::Path;
 
+use reference::layout::Kit;
 use ruzkemp::{Attributes, Block, Call, Entry, Error, Name, Role};
 
 use super::rescue::{self, FIRST, KEYS, SLICE, UNSOUND};
 use crate::arguments::{flag, valued, Command, Given, DRY_RUN, LOW, OFFSET, UNIT};
-use crate::commands::many::{beside, host_files, Folder, Which, ALL, FROM, INTO};
+use crate::commands::many::{
+    beside, host_files, is_own, may_be_written, Folder, Which, ALL, FROM, INTO,
+};
 use crate::console::{print_bytes, report};
 use crate::failure::{Failure, Outcome};
-use crate::host::{bytes_of, shown, words_of, Replacement, SECTOR_BYTES};
+use crate::host::{bytes_of, shown, streams, words_of, Replacement, MOST_SECTORS, SECTOR_BYTES};
 use crate::progress::Progress;
 use crate::room;
 use crate::session::Session;
@@ -21,7 +24,7 @@ use crate::values::{self, count};
 /// The number under which this tool is a user of an area process.
 pub const SENDER: u16 = 1;
 /// The most bytes of a text that can fit on a unit: a Danish letter has two on the host.
-const MOST_TEXT: u64 = 2 * 32_767 * SECTOR_BYTES as u64;
+const MOST_TEXT: u64 = 2 * (MOST_SECTORS * SECTOR_BYTES) as u64;
 
 /// `put`.
 pub const PUT: Command = Command {
@@ -77,7 +80,8 @@ pub const GET: Command = Command {
         "get IMAGE NAME HOSTFILE, or get IMAGE NAME... --into DIR, or get IMAGE --all DIR: all\n\
             files but SYS and MAP. DIR is made if it is missing.\n\n\
             Writes whole sectors, unless --bytes gives the true length. A host file appears when\n\
-            it is complete, or not at all; if one exists, none is written without --force.\n\n\
+            it is complete, or not at all; if one exists, none is written without --force. In DIR\n\
+            only regular files are replaced: a link or a folder there is refused.\n\n\
             --text takes off the zeros at the end and makes line ends LF, --danish also makes the\n\
             codes of [ \\ ] { | } the letters Æ Ø Å æ ø å.",
     run: get,
@@ -128,16 +132,18 @@ pub fn close_area(session: &mut Session, name: Name) -> Outcome {
     session.call(Call::RemoveArea, name, |unit| unit.remove_area(name))
 }
 
-/// Enters a new file to which blocks can be appended.
+/// Enters a new file to which blocks can be appended. SYS and MAP cannot be replaced either.
 fn entered(session: &mut Session, name: Name) -> Outcome {
     let attributes = Attributes::EXTENDABLE;
     let created = session.call(Call::Create, name, |unit| unit.create(name, 0, attributes));
     created.map_err(|failure| match failure {
-        Failure::Refused(what, error @ Error::EntryExists, reason) => Failure::Refused(
-            format!("{what} (--replace replaces its words)"),
-            error,
-            reason,
-        ),
+        Failure::Refused(what, error @ Error::EntryExists, reason) if !is_own(name) => {
+            Failure::Refused(
+                format!("{what} (--replace replaces its words)"),
+                error,
+                reason,
+            )
+        }
         other => other,
     })
 }
@@ -167,11 +173,13 @@ fn emptied(given: &Given, session: &mut Session, name: Name, source: &Source) ->
 /// Outputs the source's blocks one after the other; how many.
 fn copy_in(session: &mut Session, name: Name, source: &mut Source) -> Outcome<u64> {
     let mut progress = Progress::new(name.to_string(), source.blocks());
+    let before = Kit::read(session.unit.image());
     let mut blocks = 0;
     while let Some(block) = source.next()? {
-        session.call(Call::Output, name, |unit| {
+        let output = session.call(Call::Output, name, |unit| {
             unit.write_block(name, SENDER, &block)
-        })?;
+        });
+        output.map_err(|failure| room::counted(failure, source.blocks(), &before))?;
         blocks += 1;
         progress.advance();
     }
@@ -201,13 +209,23 @@ impl Source {
     fn of(path: &Path) -> Outcome<Source> {
         let shown = shown(path);
         if path == Path::new("-") {
-            let reader = Box::new(io::stdin());
+            let reader = Box::new(streams::input()?);
             return Ok(Source::new("standard input".into(), reader, None));
         }
         let opened = File::open(path).and_then(|file| Ok((file.metadata()?, file)));
         let (metadata, file) = opened.map_err(|error| Failure::host(path, error))?;
-        let bytes = metadata.is_file().then_some(metadata.len());
-        Ok(Source::new(shown, Box::new(BufReader::new(file)), bytes))
+        let mut reader = BufReader::new(file);
+        let bytes = match (metadata.is_file(), metadata.len()) {
+            // A file of /proc says that it is empty, whatever it has.
+            (true, 0) => {
+                let begin = reader.fill_buf();
+                let begin = begin.map_err(|error| Failure::host(path, error))?;
+                begin.is_empty().then_some(0)
+            }
+            (true, bytes) => Some(bytes),
+            (false, _) => None,
+        };
+        Ok(Source::new(shown, Box::new(reader), bytes))
     }
 
     fn new(shown: String, reader: Box<dyn Read>, bytes: Option<u64>) -> Source {
@@ -320,17 +338,7 @@ fn all_files(session: &mut Session) -> Outcome<Vec<Name>> {
     let listed = session.unit.list();
     let entries = listed.map_err(|error| session.unit.refused(what, error))?;
     let names = entries.iter().map(Entry::name);
-    let own = |name: &Name| [Name::SYS, Name::MAP].contains(name);
-    Ok(names.filter(|name| !own(name)).collect())
-}
-
-/// Whether a host file may be written, as far as that is seen before.
-fn may_be_written(given: &Given, path: &Path) -> Outcome {
-    given.not_the_image(path)?;
-    match fs::symlink_metadata(path) {
-        Ok(_) if !given.flag("--force") => Err(Replacement::exists(path)),
-        _ => Ok(()),
-    }
+    Ok(names.filter(|name| !is_own(*name)).collect())
 }
 
 /// Writes files into a folder, each complete or not at all; what is to be said of it.
@@ -372,7 +380,7 @@ fn content(session: &mut Session, name: Name, bytes: u64, wording: Wording) -> O
     let mut content = Vec::with_capacity(bytes as usize);
     copy_out(session, name, bytes, |part| content.extend(part))?;
     let text = wording.to_host(content);
-    text.map_err(|stray| Failure::Usage(format!("get: --danish: {name}: {stray}")))
+    text.map_err(|stray| Failure::Host(format!("{name}: {stray}")))
 }
 
 /// Inputs the blocks of so many bytes one after the other.

@@ -22,9 +22,11 @@ fn line(command: &Command) -> String {
     let mut flags = vec!["--help".to_string()];
     let mut valued = Vec::new();
     for choice in command.choices {
-        match value(choice) {
-            None => flags.push(choice.name.into()),
-            Some(kind) => valued.push(format!("{}:{}", choice.name, word(kind))),
+        for name in choice.names() {
+            match value(choice) {
+                None => flags.push(name.into()),
+                Some(kind) => valued.push(format!("{name}:{}", word(kind))),
+            }
         }
     }
     let operands: Vec<String> = operands(command)
@@ -60,7 +62,11 @@ mod tests {
     use super::*;
     use crate::arguments::{flag, valued, Choice};
 
-    const CHOICES: &[Choice] = &[flag("--force", ""), valued("--all", "DIR", "")];
+    const CHOICES: &[Choice] = &[
+        flag("--force", ""),
+        valued("--all", "DIR", ""),
+        valued("--output", "FILE", "").or("-o"),
+    ];
 
     #[test]
     fn a_line_has_the_kinds_of_values_and_operands() {
@@ -74,7 +80,8 @@ mod tests {
         };
         assert_eq!(
             line(&command),
-            "    copy) flags='--help --force' valued='--all:folder' operands='file name+ file' ;;\n"
+            "    copy) flags='--help --force' valued='--all:folder -o:file --output:file' \
+             operands='file name+ file' ;;\n"
         );
     }
 }

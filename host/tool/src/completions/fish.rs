@@ -26,7 +26,8 @@ fn lines(command: &Command) -> String {
     // To find the operands among the words, the script has to know which options have a value.
     let has_value = |choice: &&Choice| choice.value.is_some();
     let valued = command.choices.iter().filter(has_value);
-    let valued: String = valued.map(|choice| format!(" {}", choice.name)).collect();
+    let valued = valued.flat_map(Choice::names);
+    let valued: String = valued.map(|name| format!(" {name}")).collect();
     for choice in command.choices {
         text += &option(name, choice, &valued);
     }
@@ -44,8 +45,11 @@ fn option(command: &str, choice: &Choice, valued: &str) -> String {
         None => String::new(),
         Some(kind) => format!(" -r {}", completed(kind, valued)),
     };
+    let short = choice.short.map_or(String::new(), |short| {
+        format!("-s {} ", short.trim_start_matches('-'))
+    });
     format!(
-        "complete -c ruzkemp -n '__ruzkemp_of {command}' -l {}{takes} -d {}\n",
+        "complete -c ruzkemp -n '__ruzkemp_of {command}' {short}-l {}{takes} -d {}\n",
         choice.name.trim_start_matches('-'),
         quoted(choice.help)
     )

@@ -23,7 +23,7 @@ pub fn script() -> String {
 /// A branch of the script: the arguments of one command.
 fn arguments(command: &Command) -> String {
     let mut words = vec![quoted("(- *)--help[print this command's page]")];
-    words.extend(command.choices.iter().map(option));
+    words.extend(command.choices.iter().flat_map(options));
     let operands = operands(command);
     let places = operands.iter().enumerate();
     words.extend(places.map(|(place, operand)| argument(place + 1, operand)));
@@ -34,19 +34,28 @@ fn arguments(command: &Command) -> String {
     )
 }
 
-fn option(choice: &Choice) -> String {
+/// An option, under each of its names; of two only one can be given.
+fn options(choice: &Choice) -> Vec<String> {
+    let both: Vec<&str> = choice.names().collect();
+    let alone = match choice.short {
+        Some(_) => format!("({})", both.join(" ")),
+        None => String::new(),
+    };
+    let option = |name: &&str| quoted(&format!("{alone}{}", option(choice, name)));
+    both.iter().map(option).collect()
+}
+
+fn option(choice: &Choice, name: &str) -> String {
     let help = bracketed(choice.help);
-    quoted(&match (value(choice), choice.value) {
+    match (value(choice), choice.value) {
         (Some(kind), Some(called)) => {
-            format!(
-                "{}=[{help}]:{}:{}",
-                choice.name,
-                plain(called),
-                action(kind)
-            )
+            // A long name's value may follow it in the same word.
+            let sign = if name == choice.name { "=" } else { "" };
+            let (called, action) = (plain(called), action(kind));
+            format!("{name}{sign}[{help}]:{called}:{action}")
         }
-        _ => format!("{}[{help}]", choice.name),
-    })
+        _ => format!("{name}[{help}]"),
+    }
 }
 
 fn argument(place: usize, operand: &Operand) -> String {
@@ -93,8 +102,13 @@ mod tests {
     #[test]
     fn signs_of_zsh_in_a_text_stand_for_themselves() {
         let choice = flag("--odd", "it's [so]: odd");
-        assert_eq!(option(&choice), r"'--odd[it'\''s \[so\]\: odd]'");
+        assert_eq!(options(&choice), [r"'--odd[it'\''s \[so\]\: odd]'"]);
         let choice = valued("--svg", "FILE", "draw");
-        assert_eq!(option(&choice), "'--svg=[draw]:FILE:_files'");
+        assert_eq!(options(&choice), ["'--svg=[draw]:FILE:_files'"]);
+        let both = [
+            "'(-s --svg)-s[draw]:FILE:_files'",
+            "'(-s --svg)--svg=[draw]:FILE:_files'",
+        ];
+        assert_eq!(options(&choice.or("-s")), both);
     }
 }

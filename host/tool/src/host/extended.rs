@@ -21,8 +21,9 @@ extern "C" {
     fn fremovexattr(file: c_int, name: *const c_char) -> c_int;
 }
 
-/// Gives a new file the extended attributes of the old one; what could not be kept, in words.
-pub fn keep(old: &File, new: &File) -> Vec<String> {
+/// Gives a new file the extended attributes of the old one; what could not be kept, in words. A
+/// file of another group gets no access control list, which would open the file to that group.
+pub fn keep(old: &File, new: &File, same_group: bool) -> Vec<String> {
     let mut lost = Vec::new();
     let names = names(old).unwrap_or_else(|error| {
         // A file system that has no such attributes says so.
@@ -31,13 +32,18 @@ pub fn keep(old: &File, new: &File) -> Vec<String> {
         }
         Vec::new()
     });
+    let is_list = |name: &CString| name.as_c_str() == ACCESS;
     for name in &names {
-        if let Err(error) = copy(old, new, name) {
+        let kept = match is_list(name) && !same_group {
+            true => Err(io::Error::other("the group is another")),
+            false => copy(old, new, name),
+        };
+        if let Err(error) = kept {
             lost.push(format!("{}: {error}", name.to_string_lossy()));
         }
     }
-    let listed = |name: &CString| name.as_c_str() == ACCESS;
-    if !names.iter().any(listed) && value(new, ACCESS).is_ok() {
+    let is_kept = same_group && names.iter().any(is_list);
+    if !is_kept && value(new, ACCESS).is_ok() {
         // SAFETY: an open file and a C string.
         let removed = unsafe { fremovexattr(new.as_raw_fd(), ACCESS.as_ptr()) };
         if removed != 0 {

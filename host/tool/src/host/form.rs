@@ -2,6 +2,8 @@
 
 use ruzkemp::{bytes_from_words, words_from_bytes, ByteOrder};
 
+use super::SECTOR_BYTES;
+
 /// How an image lies in its file.
 #[derive(Clone, Copy, PartialEq, Eq, Debug, Default)]
 pub struct Form {
@@ -20,5 +22,11 @@ impl Form {
     /// The bytes of words.
     pub fn bytes(self, words: &[u16]) -> Vec<u8> {
         bytes_from_words(words, self.order)
+    }
+
+    /// The byte of the file at which a word of a sector of the unit begins.
+    pub fn byte(self, sector: usize, word: usize) -> u64 {
+        let before = self.offset.unwrap_or(0) + sector as u64;
+        SECTOR_BYTES as u64 * before + 2 * word as u64
     }
 }

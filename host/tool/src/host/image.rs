@@ -7,7 +7,8 @@ use std::path::{Path, PathBuf};
 use reference::layout::{Kit, KIT};
 
 use super::lock::Old;
-use super::{irregular, regular, shown, Form, Replacement, MOST_SECTORS, SECTOR_BYTES};
+use super::{irregular, regular, shown, streams, Form, Replacement, MOST_SECTORS, SECTOR_BYTES};
+use crate::console::warn;
 use crate::failure::{Failure, Outcome};
 
 const SECTOR: u64 = SECTOR_BYTES as u64;
@@ -15,9 +16,10 @@ const SECTOR: u64 = SECTOR_BYTES as u64;
 /// An image file and its words.
 pub struct ImageFile {
     /// The path as the user gave it.
-    shown: PathBuf,
+    pub shown: PathBuf,
     path: PathBuf,
-    form: Form,
+    /// How the unit lies in the file.
+    pub form: Form,
     /// The file, held while the image may be replaced.
     old: Option<Old>,
     /// The unit's words.
@@ -28,17 +30,7 @@ impl ImageFile {
     /// Reads an image that is not going to be changed, from any file that can be read to its
     /// end; `-` is standard input.
     pub fn read(shown: &Path, form: Form) -> Outcome<ImageFile> {
-        let words = if shown == Path::new("-") {
-            Source::new(shown, io::stdin().lock(), None).words(form, None)?
-        } else {
-            let opened = File::open(shown).and_then(|file| Ok((file.metadata()?, file)));
-            let (metadata, file) = opened.map_err(|error| Failure::host(shown, error))?;
-            if metadata.is_dir() {
-                return Err(irregular(shown));
-            }
-            let bytes = metadata.is_file().then_some(metadata.len());
-            Source::at(shown, file, bytes, form)?.words(form, None)?
-        };
+        let (words, _) = words_of(shown, form, false)?;
         Ok(ImageFile {
             shown: shown.into(),
             path: shown.into(),
@@ -46,6 +38,30 @@ impl ImageFile {
             old: None,
             words,
         })
+    }
+
+    /// Reads the words of an image that need not be whole sectors, to read what can be read of
+    /// them. A last byte that is half a word is dropped, and a warning tells it.
+    pub fn read_to_rescue(shown: &Path, form: Form) -> Outcome<Vec<u16>> {
+        let (words, odd) = words_of(shown, form, true)?;
+        if odd {
+            warn_of_half(shown);
+        }
+        Ok(words)
+    }
+
+    /// As `read_to_rescue`, to judge the words. A file of whole sectors and half a word is refused
+    /// as by `read`: the words alone could be a sound unit, and the file is none.
+    pub fn read_to_judge(shown: &Path, form: Form) -> Outcome<Vec<u16>> {
+        let (words, odd) = words_of(shown, form, true)?;
+        if odd && words.len().is_multiple_of(SECTOR_BYTES / 2) {
+            let wrong = no_sectors(2 * words.len() as u64 + 1);
+            return Err(no_image(shown, &wrong));
+        }
+        if odd {
+            warn_of_half(shown);
+        }
+        Ok(words)
     }
 
     /// Reads an image that may be changed, and holds off other changes of it until dropped. A
@@ -57,7 +73,8 @@ impl ImageFile {
         let path = regular(shown)?;
         let old = Old::locked(shown, &path, true)?;
         let bytes = Some(old.metadata.len());
-        let words = Source::at(shown, &old.file, bytes, form)?.words(form, sectors)?;
+        let source = Source::at(shown, &old.file, bytes, form)?;
+        let (words, _) = source.words(form, sectors, false)?;
         Ok(ImageFile {
             shown: shown.into(),
             path,
@@ -87,6 +104,22 @@ impl ImageFile {
     }
 }
 
+/// The words of an image that is not going to be changed, loosely or not, and whether half a word
+/// is left.
+fn words_of(shown: &Path, form: Form, loose: bool) -> Outcome<(Vec<u16>, bool)> {
+    if shown == Path::new("-") {
+        let source = Source::new(shown, streams::input()?.lock(), None);
+        return source.words(form, None, loose);
+    }
+    let opened = File::open(shown).and_then(|file| Ok((file.metadata()?, file)));
+    let (metadata, file) = opened.map_err(|error| Failure::host(shown, error))?;
+    if metadata.is_dir() {
+        return Err(irregular(shown));
+    }
+    let bytes = metadata.is_file().then_some(metadata.len());
+    Source::at(shown, file, bytes, form)?.words(form, None, loose)
+}
+
 /// A file from which an image is read.
 struct Source<'a, R> {
     shown: &'a Path,
@@ -101,8 +134,9 @@ impl<'a, R: Read + Seek> Source<'a, R> {
     /// A file, and of a regular one only what comes from the unit on.
     fn at(shown: &'a Path, reader: R, bytes: Option<u64>, form: Form) -> Outcome<Source<'a, R>> {
         let mut source = Source::new(shown, reader, bytes);
-        if let (Some(_), Some(offset)) = (bytes, form.offset) {
-            let begin = offset * SECTOR;
+        if let (Some(bytes), Some(offset)) = (bytes, form.offset) {
+            // Not every file system can seek far past the end.
+            let begin = (offset * SECTOR).min(bytes);
             let sought = source.reader.seek(SeekFrom::Start(begin));
             sought.map_err(|error| Failure::host(shown, error))?;
             source.passed = begin;
@@ -121,13 +155,16 @@ impl<'a, R: Read> Source<'a, R> {
         }
     }
 
-    /// The words of the unit that begins as the form says.
-    fn words(mut self, form: Form, sectors: Option<u16>) -> Outcome<Vec<u16>> {
-        let bytes = match form.offset {
-            None => self.whole()?,
+    /// The words of the unit that begins as the form says, loosely or not, and whether half a word
+    /// is left.
+    fn words(mut self, form: Form, sectors: Option<u16>, loose: bool) -> Outcome<(Vec<u16>, bool)> {
+        let mut bytes = match form.offset {
+            None => self.whole(loose)?,
             Some(offset) => self.part(offset, form, sectors)?,
         };
-        Ok(form.words(&bytes))
+        let odd = !bytes.len().is_multiple_of(2);
+        bytes.truncate(bytes.len() - usize::from(odd));
+        Ok((form.words(&bytes), odd))
     }
 
     /// So many bytes, or fewer at the end.
@@ -138,18 +175,18 @@ impl<'a, R: Read> Source<'a, R> {
         Ok(read)
     }
 
-    /// The bytes of a file that is a unit.
-    fn whole(&mut self) -> Outcome<Vec<u8>> {
+    /// The bytes of a file that is a unit; loosely of one that has a word at least.
+    fn whole(&mut self, loose: bool) -> Outcome<Vec<u8>> {
         if let Some(bytes) = self.bytes {
-            self.whole_sectors(bytes)?;
+            self.whole_sectors(bytes, loose)?;
         }
         let bytes = self.next(SECTOR * (MOST_SECTORS as u64 + 1))?;
-        self.whole_sectors(bytes.len() as u64)?;
+        self.whole_sectors(bytes.len() as u64, loose)?;
         Ok(bytes)
     }
 
-    /// An image file has whole sectors, and no more than a unit can have.
-    fn whole_sectors(&self, bytes: u64) -> Outcome {
+    /// An image file has whole sectors, or loosely a word, and no more than a unit can have.
+    fn whole_sectors(&self, bytes: u64, loose: bool) -> Outcome {
         let wrong = if bytes == 0 {
             "the file is empty".to_string()
         } else if bytes / SECTOR > MOST_SECTORS as u64 {
@@ -161,12 +198,12 @@ impl<'a, R: Read> Source<'a, R> {
                 "{sectors} sectors, and a unit has at most {MOST_SECTORS} (--offset SECTORS reads \
                  one unit of a pack)"
             )
-        } else if !bytes.is_multiple_of(SECTOR) {
-            format!("{bytes} bytes are no whole number of sectors of {SECTOR}")
-        } else {
+        } else if loose && bytes > 1 || bytes.is_multiple_of(SECTOR) {
             return Ok(());
+        } else {
+            no_sectors(bytes)
         };
-        Err(self.no_image(&wrong))
+        Err(no_image(self.shown, &wrong))
     }
 
     /// The bytes of a unit in a pack: as many sectors as are wanted, or as its kit says, or, if
@@ -186,7 +223,7 @@ impl<'a, R: Read> Source<'a, R> {
         }
         bytes.truncate(bytes.len() / SECTOR_BYTES * SECTOR_BYTES);
         if bytes.is_empty() {
-            return Err(self.no_image(&format!("it has no sector {offset}")));
+            return Err(no_image(self.shown, &format!("it has no sector {offset}")));
         }
         Ok(bytes)
     }
@@ -210,12 +247,32 @@ impl<'a, R: Read> Source<'a, R> {
         );
         Err(Failure::host(self.shown, what))
     }
+}
 
-    fn no_image(&self, wrong: &str) -> Failure {
-        let path = match self.shown == Path::new("-") {
-            true => "standard input".into(),
-            false => shown(self.shown),
-        };
-        Failure::NotUnit(format!("{path}: not a unit image: {wrong}"))
+/// What is wrong with a file of so many bytes, and which commands read it all the same.
+fn no_sectors(bytes: u64) -> String {
+    format!(
+        "{bytes} bytes are no whole number of sectors of {SECTOR} (ruzkemp check judges them, \
+         --unsound reads them)"
+    )
+}
+
+fn no_image(shown: &Path, wrong: &str) -> Failure {
+    let path = path_of(shown);
+    Failure::NotUnit(format!("{path}: not a unit image: {wrong}"))
+}
+
+fn warn_of_half(shown: &Path) {
+    let path = path_of(shown);
+    warn(&format!(
+        "{path}: the last byte is half a word and is not read"
+    ));
+}
+
+/// The file as messages name it.
+fn path_of(path: &Path) -> String {
+    match path == Path::new("-") {
+        true => "standard input".into(),
+        false => shown(path),
     }
 }

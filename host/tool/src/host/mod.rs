@@ -6,8 +6,11 @@ mod image;
 mod lock;
 mod replacement;
 pub mod signals;
+pub mod streams;
 
-use std::fs;
+use std::fs::{self, File, Metadata};
+use std::io;
+use std::os::fd::AsFd;
 use std::os::unix::fs::MetadataExt;
 use std::path::{Path, PathBuf};
 
@@ -48,13 +51,25 @@ fn regular(path: &Path) -> Outcome<PathBuf> {
     fs::canonicalize(path).map_err(|error| Failure::host(path, error))
 }
 
-fn irregular(path: &Path) -> Failure {
+/// The failure to use anything but a regular file.
+pub fn irregular(path: &Path) -> Failure {
     Failure::host(path, "this is no regular file")
 }
 
 /// Whether two paths lead to one file.
 pub fn is_same(one: &Path, other: &Path) -> bool {
-    match (fs::metadata(one), fs::metadata(other)) {
+    are_one(fs::metadata(one), fs::metadata(other))
+}
+
+/// Whether a path leads to the file from which standard input is read.
+pub fn is_standard_input(path: &Path) -> bool {
+    let input = io::stdin().as_fd().try_clone_to_owned();
+    let input = input.and_then(|input| File::from(input).metadata());
+    are_one(fs::metadata(path), input)
+}
+
+fn are_one(one: io::Result<Metadata>, other: io::Result<Metadata>) -> bool {
+    match (one, other) {
         (Ok(one), Ok(other)) => (one.dev(), one.ino()) == (other.dev(), other.ino()),
         _ => false,
     }

@@ -1,8 +1,8 @@
 //! A file that takes another's place in one step.
 
-use std::fs::{self, File, OpenOptions};
+use std::fs::{self, File, OpenOptions, Permissions};
 use std::io::{self, BufWriter, ErrorKind, Read, Seek, SeekFrom, Write};
-use std::os::unix::fs::{fchown, MetadataExt, OpenOptionsExt};
+use std::os::unix::fs::{fchown, MetadataExt, OpenOptionsExt, PermissionsExt};
 use std::path::{Path, PathBuf};
 use std::process;
 
@@ -12,13 +12,19 @@ use super::{extended, regular, shown};
 use crate::console::warn;
 use crate::failure::{Failure, Outcome};
 
+/// The bits of a mode that lend a program its owner's and its group's rights.
+const SET_USER: u32 = 0o4000;
+const SET_GROUP: u32 = 0o2000;
+
 /// A file in the making beside the one whose place it takes. Dropped without
 /// [`Replacement::commit`] it leaves nothing behind.
 pub struct Replacement {
     /// The path as the user gave it.
     shown: PathBuf,
     target: PathBuf,
-    /// The file to be replaced, locked; none if there must not be one.
+    /// Whether a file that is there may be replaced.
+    force: bool,
+    /// The file to be replaced, locked; none if none was there.
     old: Option<Old>,
     /// The file's path for now; none once it has been renamed.
     temporary: Option<(PathBuf, Temporary)>,
@@ -31,7 +37,9 @@ impl Replacement {
     /// after it.
     pub fn of(shown: &Path, force: bool) -> Outcome<Replacement> {
         if fs::symlink_metadata(shown).is_err() {
-            return Replacement::begin(shown, shown, None);
+            let mut new = Replacement::begin(shown, shown, None)?;
+            new.force = force;
+            return Ok(new);
         }
         if !force {
             return Err(Replacement::exists(shown));
@@ -55,6 +63,7 @@ impl Replacement {
         Ok(Replacement {
             shown: shown.into(),
             target: target.into(),
+            force: old.is_some(),
             old,
             temporary: Some((path, entered)),
             file: BufWriter::with_capacity(1 << 16, file),
@@ -102,9 +111,17 @@ impl Replacement {
     }
 
     fn put(mut self, last: bool) -> Outcome {
-        let lost = self.publish(last).map_err(|error| match error.kind() {
-            ErrorKind::AlreadyExists => Replacement::exists(&self.shown),
-            _ => unwritten(&self.shown, error),
+        let mut published = self.publish(last);
+        let appeared = |error: &io::Error| error.kind() == ErrorKind::AlreadyExists;
+        if self.force && self.old.is_none() && published.as_ref().is_err_and(appeared) {
+            // Another command has made the file since this one began.
+            self.target = regular(&self.shown)?;
+            self.old = Some(Old::locked(&self.shown, &self.target, false)?);
+            published = self.publish(last);
+        }
+        let lost = published.map_err(|error| match appeared(&error) {
+            true => Replacement::exists(&self.shown),
+            false => unwritten(&self.shown, error),
         })?;
         // The file is in its place already, so that nothing of this is a failure.
         self.told(&lost);
@@ -118,17 +135,17 @@ impl Replacement {
         Ok(())
     }
 
-    /// Writes the file to the disc and gives it its path; which of the old file's extended
-    /// attributes it could not get.
+    /// Writes the file to the disc and gives it its path; what of the old file it could not get.
     fn publish(&mut self, last: bool) -> io::Result<Vec<String>> {
         self.file.flush()?;
         let file = self.file.get_ref();
         let mut lost = Vec::new();
         if let Some(old) = &self.old {
-            // Only a privileged user may keep another owner: the mode is what must be kept.
-            let _ = fchown(file, Some(old.metadata.uid()), Some(old.metadata.gid()));
-            file.set_permissions(old.metadata.permissions())?;
-            lost = extended::keep(&old.file, file);
+            lost = keep(old, file)?;
+        } else {
+            // Whoever replaces the new file waits until its temporary name is gone. Not every file
+            // system has locks.
+            let _ = file.try_lock();
         }
         file.sync_all()?;
         match last {
@@ -146,8 +163,11 @@ impl Replacement {
             // Unlike a rename, a link never takes another file's place; not every file system
             // has links.
             let linked = fs::hard_link(temporary, &self.target);
-            if linked.is_ok() || fs::symlink_metadata(&self.target).is_ok() {
-                return linked;
+            if linked.is_ok() {
+                return Ok(());
+            }
+            if fs::symlink_metadata(&self.target).is_ok() {
+                return Err(ErrorKind::AlreadyExists.into());
             }
         }
         fs::rename(temporary, &self.target)?;
@@ -158,10 +178,8 @@ impl Replacement {
     /// Tells what of the old file is not the new one's.
     fn told(&self, lost: &[String]) {
         let path = shown(&self.shown);
-        for attribute in lost {
-            warn(&format!(
-                "{path}: an extended attribute is not kept: {attribute}"
-            ));
+        for lost in lost {
+            warn(&format!("{path}: {lost}"));
         }
         if self
             .old
@@ -181,6 +199,46 @@ impl Drop for Replacement {
             let _ = fs::remove_file(temporary);
         }
     }
+}
+
+/// Gives a new file the owner, group, mode and extended attributes of the old one; what could not
+/// be kept, in words. Only a privileged user may keep another owner, or a group that is not the
+/// user's.
+fn keep(old: &Old, new: &File) -> io::Result<Vec<String>> {
+    let (uid, gid, mut mode) = (old.metadata.uid(), old.metadata.gid(), old.metadata.mode());
+    let there = new.metadata()?;
+    let mut lost = Vec::new();
+    let mut same_group = true;
+    if there.gid() != gid {
+        if let Err(error) = fchown(new, None, Some(gid)) {
+            same_group = false;
+            mode = for_another_group(mode);
+            let other = there.gid();
+            lost.push(format!(
+                "its group {gid} is not kept: {error}; group {other} may do no more than all others"
+            ));
+        }
+    }
+    if there.uid() != uid {
+        if let Err(error) = fchown(new, Some(uid), None) {
+            mode &= !SET_USER;
+            let other = there.uid();
+            lost.push(format!(
+                "its owner {uid} is not kept: {error}; user {other} is its owner now"
+            ));
+        }
+    }
+    new.set_permissions(Permissions::from_mode(mode))?;
+    let attributes = extended::keep(&old.file, new, same_group);
+    let attribute = |what| format!("an extended attribute is not kept: {what}");
+    lost.extend(attributes.into_iter().map(attribute));
+    Ok(lost)
+}
+
+/// A mode for a file whose group is another than before: what the group may, all may.
+fn for_another_group(mode: u32) -> u32 {
+    let all = mode & 0o007;
+    mode & !SET_GROUP & (!0o070 | all << 3)
 }
 
 fn unwritten(shown: &Path, error: io::Error) -> Failure {
@@ -210,6 +268,47 @@ fn temporary_beside(target: &Path, mode: u32) -> io::Result<(PathBuf, Temporary,
             Ok((entered, file)) => return Ok((path, entered, file)),
             Err(error) if error.kind() == ErrorKind::AlreadyExists && number < 1_000 => number += 1,
             Err(error) => return Err(error),
+        }
+    }
+}
+
+#[cfg(test)]
+mod tests {
+    use super::*;
+
+    /// What a file holds that appeared while another was in the making under its path.
+    fn appeared(name: &str, force: bool) -> (Outcome, Vec<u8>) {
+        let name = format!("ruzkemp-{}-{name}", process::id());
+        let path = std::env::temp_dir().join(name);
+        let mut new = Replacement::of(&path, force).expect("nothing is there");
+        new.write(b"new").expect("written");
+        fs::write(&path, b"other").expect("written");
+        let ended = new.commit();
+        let there = fs::read(&path).expect("it is there");
+        fs::remove_file(&path).expect("removed");
+        (ended, there)
+    }
+
+    #[test]
+    fn a_file_that_appears_is_replaced_by_force_only() {
+        let (ended, there) = appeared("forced", true);
+        ended.expect("it is replaced");
+        assert_eq!(there, b"new");
+        let (ended, there) = appeared("kept", false);
+        let failure = ended.expect_err("it is kept");
+        assert!(failure.to_string().ends_with("(--force replaces it)"));
+        assert_eq!(there, b"other");
+    }
+
+    #[test]
+    fn another_group_may_do_no_more_than_all() {
+        for (old, new) in [
+            (0o640, 0o600),
+            (0o2775, 0o755),
+            (0o664, 0o644),
+            (0o4705, 0o4705),
+        ] {
+            assert_eq!(for_another_group(old), new, "{old:o}");
         }
     }
 }

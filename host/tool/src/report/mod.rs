@@ -9,6 +9,7 @@ mod subject;
 mod summary;
 mod tables;
 mod text;
+mod trouble;
 
 pub use subject::{Content, Subject};
 
@@ -18,8 +19,8 @@ const PAGE: &str = include_str!("page.html");
 const STYLE: &str = include_str!("page.css");
 const SCRIPT: &str = include_str!("page.js");
 /// The sums of the style and of the script, by which the policy allows these two alone.
-const STYLE_SUM: &str = "sha256-fv1xhUM1sDGuciZL9qXVdbgGtpsIrsBUtyz5iwF0pHw=";
-const SCRIPT_SUM: &str = "sha256-85Hyf8lsj6yk3G4Yv/PBk3cjoAd1FXwbpbBbIpaqVDw=";
+const STYLE_SUM: &str = "sha256-eetgeFph62rOve1u/ReaokFsg2Mvtt3daekCObOZyMU=";
+const SCRIPT_SUM: &str = "sha256-RrKi1CRm5JwOyjr61BVDGuZlEF9V/4MFnFudIgfAuEw=";
 
 /// The page.
 pub fn page(subject: &Subject) -> String {
@@ -31,9 +32,7 @@ pub fn page(subject: &Subject) -> String {
             tables::free(view),
         ]
         .concat(),
-        Content::Unsound(kit, findings) => {
-            summary::of_unsound(subject.sectors, kit.as_ref(), findings)
-        }
+        Content::Unsound(image) => trouble::cards(image),
     };
     filled(
         PAGE,

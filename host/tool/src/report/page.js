@@ -11,7 +11,7 @@
 
   const READS = {
     order: (entry) => entry.order,
-    number: (entry, column) => Number(entry.row.cells[column].textContent.replaceAll(",", "")),
+    number: (entry, column) => Number(entry.row.cells[column].textContent),
     text: (entry, column) => entry.row.cells[column].textContent,
   };
 
@@ -312,7 +312,7 @@
       this.unit = read(map);
       this.picture = new Picture(map, this.unit);
       this.tip = new Tip(byId("tip"));
-      Object.assign(this, { kept: null, pointed: null, lit: null, slice: 0, cursor: 1 });
+      Object.assign(this, { kept: null, pointed: null, lit: null, slice: 0, cursor: 1, byKeys: false });
       this.redraw();
       this.keep(null);
     }
@@ -339,13 +339,21 @@
 
     /* Points at a slice, with its tip. */
     visit(slice, place) {
+      this.byKeys = false;
       this.point(this.unit.at[slice].owner, slice);
       this.tip.show(lines(this.unit, slice), place);
     }
 
+    /* What is left marked when the pointer goes: the row that the keyboard stands on. */
+    standing() {
+      const row = document.activeElement?.closest("tr[data-of]");
+      return row && row.matches(":focus-visible") ? this.unit.owners.get(row.dataset.of) : null;
+    }
+
     leave() {
+      this.byKeys = false;
       this.tip.hide();
-      this.point(null, 0);
+      this.point(this.standing(), 0);
     }
 
     /* Keeps a choice; the same once more drops it. */
@@ -373,10 +381,16 @@
       }
     }
 
+    /* Shows the slice of the keyboard. */
+    showCursor() {
+      this.visit(this.cursor, this.picture.below(this.cursor));
+      this.byKeys = true;
+    }
+
     /* Goes to a slice by the keyboard. */
     stand(slice) {
       if (slice >= 1 && slice <= this.unit.slices) this.cursor = slice;
-      this.visit(this.cursor, this.picture.below(this.cursor));
+      this.showCursor();
       byId("say").textContent = lines(this.unit, this.cursor).join(", ");
     }
 
@@ -410,8 +424,19 @@
       const slice = desk.picture.sliceAt(event);
       if (!slice) return;
       desk.cursor = slice;
+      /* A tap has no pointermove. */
+      desk.visit(slice, { x: event.clientX, y: event.clientY });
       desk.choose(slice);
     });
+  }
+
+  /* The page moves below a tip: that of the keyboard follows its slice, any other goes. */
+  function followScroll(desk) {
+    addEventListener("scroll", () => {
+      const { y } = desk.picture.below(desk.cursor);
+      if (desk.byKeys && y > 0 && y < innerHeight) desk.showCursor();
+      else if (!desk.tip.element.hidden) desk.leave();
+    }, { passive: true });
   }
 
   function followKeys(desk) {
@@ -431,13 +456,15 @@
       if (event.key !== "Escape") return;
       desk.keep(null);
       desk.leave();
+      desk.point(null, 0);
     });
   }
 
   function followRows(desk, body) {
     const owner = (event) => desk.unit.owners.get(event.target.closest("tr").dataset.of);
     for (const kind of ["pointerover", "focusin"]) body.addEventListener(kind, (event) => desk.point(owner(event), 0));
-    for (const kind of ["pointerleave", "focusout"]) body.addEventListener(kind, () => desk.point(null, 0));
+    body.addEventListener("pointerleave", () => desk.leave());
+    body.addEventListener("focusout", () => desk.point(null, 0));
     body.addEventListener("click", (event) => desk.keep(owner(event)));
     body.addEventListener("keydown", (event) => {
       if (!isEnter(event)) return;
@@ -462,6 +489,7 @@
   filterable(byId("files"), byId("filter"), byId("count"));
   const desk = new Desk(byId("map"));
   followPointer(desk);
+  followScroll(desk);
   followKeys(desk);
   followWidth(desk);
   for (const table of tables) followRows(desk, table.tBodies[0]);

@@ -1,12 +1,15 @@
 //! What a report is about: an image, and what both implementations say of it.
 
+use std::path::Path;
+
 use reference::layout::{Kit, MAP_SECTOR, SECTOR};
+use reference::Finding;
 use ruzkemp::State;
 
 use crate::arguments::Given;
 use crate::failure::{Failure, Outcome};
 use crate::hint;
-use crate::host::{shown, ImageFile};
+use crate::host::{shown, Form, ImageFile};
 use crate::session::Session;
 use crate::view::View;
 
@@ -16,8 +19,6 @@ use super::text::visible;
 pub struct Subject {
     /// Its file name, to be read by people; not yet escaped.
     pub name: String,
-    /// The sectors of its file.
-    pub sectors: usize,
     /// What is in it.
     pub content: Content,
 }
@@ -26,67 +27,62 @@ pub struct Subject {
 pub enum Content {
     /// A sound unit.
     Sound(View),
-    /// No sound unit: the kit, if there is room for one, and the rules that fail.
-    Unsound(Option<Kit>, Vec<Finding>),
+    /// No sound unit.
+    Unsound(Unsound),
 }
 
-/// A rule of a sound unit that fails.
-pub struct Finding {
-    /// The rule.
-    pub rule: String,
-    /// What was found.
-    pub found: String,
+/// An image that is no sound unit.
+pub struct Unsound {
+    /// How it lies in its file.
+    pub form: Form,
+    /// Its sectors.
+    pub sectors: usize,
+    /// The kit, if there is room for one.
+    pub kit: Option<Kit>,
+    /// The rules that fail, by the second implementation.
+    pub findings: Vec<Finding>,
+    /// What else is to be known if the length or the kit is wrong.
+    pub hints: Vec<String>,
 }
 
 impl Subject {
-    /// Reads the command's image.
+    /// Reads the command's image, once: it may come from a pipe.
     pub fn of(given: &Given) -> Outcome<Subject> {
-        let (sectors, content) = match Session::to_read(given) {
-            Ok(mut session) => {
-                let view = View::of(&mut session)?;
-                (view.kit.n, Content::Sound(view))
-            }
-            Err(failure @ Failure::NotUnit(_)) => unsound(given, failure)?,
+        let file = ImageFile::read(given.path(0), given.form()?)?;
+        let image = file.words.clone();
+        let content = match Session::to_read_file(given, file) {
+            Ok(mut session) => Content::Sound(View::of(&mut session)?),
+            Err(Failure::NotUnit(_)) => Content::Unsound(unsound(given, &image)?),
             Err(failure) => return Err(failure),
         };
-        let name = given.path(0).file_name().unwrap_or_default();
         Ok(Subject {
-            name: visible(name),
-            sectors,
+            name: name(given.path(0)),
             content,
         })
     }
 }
 
-/// What can be said of an image that Init did not accept.
-fn unsound(given: &Given, failure: Failure) -> Outcome<(usize, Content)> {
-    let form = given.form()?;
-    let image = ImageFile::read(given.path(0), form)?.words;
-    let mut findings = findings(&image);
-    if let Some(first) = findings.first_mut() {
-        first.found += &hint::of(&image, form);
+/// What an image is called in its report.
+fn name(path: &Path) -> String {
+    match path.to_str() {
+        Some("-" | "/dev/stdin") => "standard input".into(),
+        _ => visible(path.file_name().unwrap_or_default()),
     }
-    let proved = ruzkemp::is_sound(&image, &State::new(given.unit()?));
-    match (findings.is_empty(), proved) {
-        (false, false) => {}
-        // The file has been replaced by a sound one in the meantime.
-        (true, true) => return Err(failure),
-        _ => {
-            let path = shown(given.path(0));
-            return Err(Failure::Disagreement(format!("report {path}")));
-        }
-    }
-    let kit = (image.len() >= (MAP_SECTOR + 1) * SECTOR).then(|| Kit::read(&image));
-    Ok((image.len() / SECTOR, Content::Unsound(kit, findings)))
 }
 
-/// The rules that fail, by the second implementation; none if the image is sound.
-fn findings(image: &[u16]) -> Vec<Finding> {
-    let found = reference::findings(image).into_iter();
-    found
-        .map(|finding| Finding {
-            rule: format!("rule {}: {}", finding.rule.number(), finding.rule.text()),
-            found: finding.to_string(),
-        })
-        .collect()
+/// What can be said of an image that Init did not accept.
+fn unsound(given: &Given, image: &[u16]) -> Outcome<Unsound> {
+    let form = given.form()?;
+    let findings = reference::findings(image);
+    if findings.is_empty() || ruzkemp::is_sound(image, &State::new(given.unit()?)) {
+        let path = shown(given.path(0));
+        return Err(Failure::Disagreement(format!("report {path}")));
+    }
+    Ok(Unsound {
+        form,
+        sectors: image.len() / SECTOR,
+        kit: (image.len() >= (MAP_SECTOR + 1) * SECTOR).then(|| Kit::read(image)),
+        findings,
+        hints: hint::list(image, form),
+    })
 }

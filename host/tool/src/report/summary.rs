@@ -1,21 +1,19 @@
 //! The top of the page: whether the image is sound, the unit's numbers, its space and how much
-//! the files are broken up; or what was found wrong.
+//! the files are broken up.
 
-use reference::layout::Kit;
 use ruzkemp::Name;
 
 use crate::host::SECTOR_BYTES;
 use crate::values::count;
 use crate::view::{Holder, Stretch, View};
 
-use super::subject::{Content, Finding};
-use super::text::{escaped, grouped};
+use super::subject::Content;
 
 /// What the page is, above the heading.
 pub fn kind(content: &Content) -> String {
     match content {
         Content::Sound(view) => format!("Disc report &middot; unit {}", view.unit),
-        Content::Unsound(..) => "Disc report".into(),
+        Content::Unsound(_) => "Disc report".into(),
     }
 }
 
@@ -26,7 +24,7 @@ pub fn source(content: &Content) -> &'static str {
             " The entries are as the proved library lists them, the slices as the second \
              implementation reads them."
         }
-        Content::Unsound(..) => "",
+        Content::Unsound(_) => "",
     }
 }
 
@@ -34,11 +32,11 @@ pub fn source(content: &Content) -> &'static str {
 pub fn verdict(content: &Content) -> String {
     let (class, sign, word) = match content {
         Content::Sound(_) => ("good", "M4 10.5l4 4 8-9", "sound"),
-        Content::Unsound(..) => ("bad", "M5 5l10 10M15 5L5 15", "not sound"),
+        Content::Unsound(_) => ("bad", "M5 5l10 10M15 5L5 15", "not sound"),
     };
     let title = match content {
         Content::Sound(_) => "Sound",
-        Content::Unsound(..) => "Not sound",
+        Content::Unsound(_) => "Not sound",
     };
     format!(
         "<div class=\"verdict {class}\">\n\
@@ -69,36 +67,8 @@ pub fn of_unit(view: &View) -> String {
     )
 }
 
-/// The cards of an image that is not sound.
-pub fn of_unsound(sectors: usize, kit: Option<&Kit>, findings: &[Finding]) -> String {
-    let mut tiles = tile("Sectors of the image", "", sectors);
-    if let Some(kit) = kit {
-        tiles += &[
-            tile("Sectors", "N", kit.n),
-            tile("First data sector", "F", kit.f),
-            tile("Sectors in a slice", "s", kit.s),
-            tile("Keys", "H", kit.h),
-            tile("Free sectors", "", kit.free),
-        ]
-        .concat();
-    }
-    let found = findings.iter().map(|finding| {
-        let (rule, found) = (escaped(&finding.rule), escaped(&finding.found));
-        format!("<li><p>{found}</p><p class=\"muted\">Rule: {rule}.</p></li>\n")
-    });
-    let found: String = found.collect();
-    format!(
-        "<section class=\"card trouble\" aria-labelledby=\"found-title\">\n\
-         <h2 id=\"found-title\">What was found</h2>\n<ol class=\"findings\">\n{found}</ol>\n\
-         <p class=\"muted\">The files and the map are left out: what they say cannot be relied on. \
-         The image was not changed.</p>\n</section>\n\
-         <h2 class=\"alone\">Numbers as they stand on the disc</h2>\n\
-         <dl class=\"tiles\">\n{tiles}</dl>\n"
-    )
-}
-
 /// A number of the unit, with its letter.
-fn tile(label: &str, letter: &str, value: usize) -> String {
+pub fn tile(label: &str, letter: &str, value: usize) -> String {
     let letter = match letter {
         "" => String::new(),
         _ => format!(" <i>{letter}</i>"),
@@ -113,7 +83,7 @@ fn space(view: &View) -> String {
     let catalog = sys.map_or(0, Holder::slices);
     let files = all - free - catalog;
     let (sectors, percent) = (free * view.kit.s, 100.0 * free as f64 / all as f64);
-    let bytes = grouped(sectors * SECTOR_BYTES);
+    let bytes = sectors * SECTOR_BYTES;
     let slices = |number: usize| count(number as u64, "slice");
     format!(
         "<section class=\"card space\" aria-labelledby=\"space-title\">\n\
@@ -156,7 +126,7 @@ fn fragmentation(view: &View) -> String {
     });
     let facts = [
         fact(
-            "Files in one stretch",
+            "Files with slices in one stretch",
             &format!("{} of {}", whole.count(), holders.len()),
         ),
         fact("Stretches of all files", &stretches.to_string()),

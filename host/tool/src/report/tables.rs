@@ -8,10 +8,13 @@ use crate::view::{Holder, Stretch, View};
 
 use super::map::colours;
 use super::summary::longest;
-use super::text::{escaped, grouped};
+use super::text::escaped;
 
 /// A column: its heading and how it is sorted (`order` is the listing's own).
 type Column = (&'static str, &'static str);
+
+/// A table of so many rows is a long one: only its rows in sight are laid out.
+const LONG: usize = 200;
 
 const FILES: [Column; 9] = [
     ("Name", "order"),
@@ -47,31 +50,31 @@ pub fn files(view: &View) -> String {
          <p class=\"muted\">Lengths and reserved lengths are in sectors, the longest stretch in \
          slices; the index is the sector of the index block.</p>\n\
          {}</section>\n",
-        table("files", "Files", &FILES, file_rows(view))
+        table("files", "Files", &FILES, &file_rows(view))
     )
 }
 
-fn file_rows(view: &View) -> String {
-    let mut rows = String::new();
+fn file_rows(view: &View) -> Vec<String> {
+    let mut rows = Vec::new();
     for ((number, file), colour) in view.files.iter().enumerate().zip(colours(view)) {
         let entry = &file.entry;
         let swatch = swatch(file, colour);
         let length = entry.length() as usize;
         let places = listed(&file.stretches);
-        rows += &format!(
+        rows.push(format!(
             "<tr data-of=\"f{number}\" data-length=\"{length}\"><th scope=\"row\">\
              {swatch}{}</th>\
              <td>{length}</td><td>{}</td><td>{}</td><td>{}</td><td>{}</td>\
              <td title=\"{places}\">{}</td><td>{}</td><td>{}</td></tr>\n",
             escaped(&file.name.to_string()),
             entry.reserved(),
-            grouped(length * SECTOR_BYTES),
+            length * SECTOR_BYTES,
             entry.index(),
             file.slices(),
             file.stretches.len(),
             longest(&file.stretches),
             escaped(&entry.attributes().to_string()),
-        );
+        ));
     }
     rows
 }
@@ -110,7 +113,7 @@ pub fn free(view: &View) -> String {
     };
     let body = match view.free.is_empty() {
         true => "<p class=\"muted\">No slice is free.</p>\n".into(),
-        false => table("free", "Free stretches", &FREE, free_rows(view)),
+        false => table("free", "Free stretches", &FREE, &free_rows(view)),
     };
     format!(
         "<section class=\"card\" aria-labelledby=\"free-title\">\n\
@@ -119,25 +122,25 @@ pub fn free(view: &View) -> String {
     )
 }
 
-fn free_rows(view: &View) -> String {
-    let mut rows = String::new();
+fn free_rows(view: &View) -> Vec<String> {
+    let mut rows = Vec::new();
     for (number, stretch) in view.free.iter().enumerate() {
         let (first, last) = view.sectors(stretch);
-        rows += &format!(
+        rows.push(format!(
             "<tr data-of=\"e{number}\"><th scope=\"row\">{}</th><td>{}</td><td>{}</td><td>{}</td>\
              <td>{first}</td><td>{}</td></tr>\n",
             number + 1,
             stretch.first,
             stretch.last(),
             stretch.slices,
-            grouped((last + 1 - first) * SECTOR_BYTES),
-        );
+            (last + 1 - first) * SECTOR_BYTES,
+        ));
     }
     rows
 }
 
 /// A table that the script sorts; it comes sorted by its first column.
-fn table(id: &str, label: &str, columns: &[Column], rows: String) -> String {
+fn table(id: &str, label: &str, columns: &[Column], rows: &[String]) -> String {
     let heads = columns.iter().enumerate().map(|(place, (heading, sort))| {
         let sorted = if place == 0 {
             " aria-sort=\"ascending\""
@@ -150,8 +153,13 @@ fn table(id: &str, label: &str, columns: &[Column], rows: String) -> String {
         )
     });
     let heads: String = heads.collect();
+    let class = match rows.len() >= LONG {
+        true => " class=\"long\"",
+        false => "",
+    };
     format!(
         "<div class=\"scroll\" role=\"region\" aria-label=\"{label}\" tabindex=\"0\">\
-         <table id=\"{id}\">\n<thead><tr>{heads}</tr></thead>\n<tbody>\n{rows}</tbody></table></div>\n"
+         <table id=\"{id}\"{class}>\n<thead><tr>{heads}</tr></thead>\n<tbody>\n{}</tbody></table></div>\n",
+        rows.concat()
     )
 }

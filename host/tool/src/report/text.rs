@@ -52,19 +52,6 @@ pub fn filled(template: &str, values: &[(&str, String)]) -> String {
     page
 }
 
-/// A number with its digits in groups of three.
-pub fn grouped(number: usize) -> String {
-    let digits = number.to_string();
-    let mut text = String::new();
-    for (place, digit) in digits.chars().enumerate() {
-        if place > 0 && (digits.len() - place).is_multiple_of(3) {
-            text.push(',');
-        }
-        text.push(digit);
-    }
-    text
-}
-
 #[cfg(test)]
 mod tests {
     use super::*;
@@ -90,17 +77,5 @@ mod tests {
     fn a_value_is_not_filled_in_again() {
         let values = [("a", "{{b}}".to_string()), ("b", "x".to_string())];
         assert_eq!(filled("<{{a}}|{{b}}|{{c}}>", &values), "<{{b}}|x|>");
-    }
-
-    #[test]
-    fn digits_come_in_groups() {
-        for (number, text) in [
-            (0, "0"),
-            (999, "999"),
-            (1_000, "1,000"),
-            (16_776_704, "16,776,704"),
-        ] {
-            assert_eq!(grouped(number), text);
-        }
     }
 }

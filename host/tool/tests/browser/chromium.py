@@ -1,10 +1,15 @@
-"""A page in headless Chromium, driven over the browser's debugging pipe (standard library only)."""
+"""A page in headless Chromium, driven over the browser's debugging pipe (standard library only).
+
+chromium.py CHROMIUM FILE tries whether the browser opens a page whose title is `probe`.
+"""
 
 import fcntl
 import json
 import os
 import select
+import shutil
 import subprocess
+import sys
 import tempfile
 import time
 
@@ -21,8 +26,12 @@ FLAGS = [
 ]
 
 
+# The status of a program that the browser let down.
+UNUSABLE = 77
+
+
 class Trouble(Exception):
-    """The browser did not answer, or answered that it cannot."""
+    """The browser has ended, did not answer, or answered that it cannot: this says nothing about a page."""
 
 
 def pipes():
@@ -32,7 +41,7 @@ def pipes():
     theirs = [fcntl.fcntl(end, fcntl.F_DUPFD_CLOEXEC, 10) for end in (commands, replies)]
     os.close(commands)
     os.close(replies)
-    return to, answers, *theirs
+    return (to, answers, *theirs)
 
 
 class Page:
@@ -40,12 +49,12 @@ class Page:
 
     def __init__(self, chromium, limit):
         self.deadline = time.monotonic() + limit
-        self.folder = tempfile.TemporaryDirectory(prefix="ruzkemp-browser-", ignore_cleanup_errors=True)
+        self.folder = tempfile.mkdtemp(prefix="ruzkemp-browser-")
         self.to, self.answers, commands, replies = pipes()
         # The browser reads commands from descriptor 3 and writes answers to descriptor 4.
         wires = f"exec 3<&{commands} 4>&{replies} {commands}<&- {replies}>&-; exec \"$@\""
         limited = ["timeout", "--kill-after=5", str(limit), chromium]
-        flags = [*FLAGS, f"--user-data-dir={self.folder.name}", "about:blank"]
+        flags = [*FLAGS, f"--user-data-dir={self.folder}", "about:blank"]
         self.process = subprocess.Popen(
             ["bash", "-c", wires, "bash", *limited, *flags],
             pass_fds=(commands, replies),
@@ -57,6 +66,13 @@ class Page:
         os.close(replies)
         self.number, self.rest, self.events = 0, b"", []
         self.session = None
+        try:
+            self.attach()
+        except BaseException:
+            self.close()
+            raise
+
+    def attach(self):
         target = self.call("Target.createTarget", url="about:blank")["targetId"]
         self.session = self.call("Target.attachToTarget", targetId=target, flatten=True)["sessionId"]
         for domain in ["Page", "Runtime", "Log", "Network"]:
@@ -71,7 +87,7 @@ class Page:
             self.process.terminate()
             self.process.wait()
         finally:
-            self.folder.cleanup()
+            shutil.rmtree(self.folder, ignore_errors=True)
 
     def message(self):
         """The next message of the browser; messages end with a zero byte."""
@@ -93,8 +109,11 @@ class Page:
         if self.session:
             command["sessionId"] = self.session
         data = json.dumps(command).encode() + b"\0"
-        while data:
-            data = data[os.write(self.to, data):]
+        try:
+            while data:
+                data = data[os.write(self.to, data):]
+        except BrokenPipeError:
+            raise Trouble("the browser has ended") from None
         while True:
             message = self.message()
             if message.get("id") == self.number:
@@ -118,7 +137,9 @@ class Page:
         self.call("Emulation.setEmulatedMedia", features=[scheme])
         self.call("Emulation.setScriptExecutionDisabled", value=not script)
         self.events.clear()
-        self.call("Page.navigate", url="file://" + os.path.abspath(path))
+        answer = self.call("Page.navigate", url="file://" + os.path.abspath(path))
+        if answer.get("errorText"):
+            raise Trouble(f"{path}: {answer['errorText']}")
         self.wait("Page.loadEventFired")
 
     def size(self, width, height):
@@ -131,7 +152,7 @@ class Page:
         """The value of a script's expression."""
         answer = self.call("Runtime.evaluate", expression=expression, returnByValue=True, awaitPromise=True)
         if "exceptionDetails" in answer:
-            raise Trouble(f"{expression}: {answer['exceptionDetails']}")
+            raise AssertionError(f"{expression}: {answer['exceptionDetails']}")
         return answer["result"].get("value")
 
     def mouse(self, kind, x, y, **more):
@@ -144,6 +165,16 @@ class Page:
         self.hover(x, y)
         self.mouse("mousePressed", x, y, button="left", clickCount=1)
         self.mouse("mouseReleased", x, y, button="left", clickCount=1)
+
+    def tap(self, x, y):
+        """A short touch, and the click that the browser makes of it after a while."""
+        click = "new Promise((done) => { addEventListener('click', () => done(), { once: true }); setTimeout(done, 10000); })"
+        self.value(f"void (window.tapped = {click})")
+        self.call("Emulation.setTouchEmulationEnabled", enabled=True)
+        self.call("Input.dispatchTouchEvent", type="touchStart", touchPoints=[{"x": x, "y": y}])
+        self.call("Input.dispatchTouchEvent", type="touchEnd", touchPoints=[])
+        self.value("window.tapped")
+        self.call("Emulation.setTouchEmulationEnabled", enabled=False)
 
     def press(self, key, text=""):
         codes = {"Enter": 13, "Tab": 9, "Escape": 27, " ": 32}
@@ -169,3 +200,27 @@ class Page:
                 if params.get("type") != "Document" or not url.startswith("file:"):
                     told.append(f"request: {url}")
         return told
+
+
+def guarded(main):
+    """Runs a program; if the browser lets it down, it says so and ends with the status that tells it."""
+    try:
+        main()
+    except Trouble as trouble:
+        print(trouble)
+        sys.exit(UNUSABLE)
+
+
+def probe(chromium, path):
+    page = Page(chromium, 60)
+    try:
+        page.open(path)
+        title = page.value("document.title")
+        if title != "probe":
+            raise Trouble(f"{path}: a page with the title {title!r} is shown")
+    finally:
+        page.close()
+
+
+if __name__ == "__main__":
+    guarded(lambda: probe(*sys.argv[1:]))

@@ -2,11 +2,13 @@
 #![allow(dead_code)]
 
 use std::collections::BTreeMap;
-use std::fs;
-use std::io::Write;
+use std::fs::{self, File, TryLockError};
+use std::io::{ErrorKind, Write};
 use std::path::{Path, PathBuf};
-use std::process::{Command, Output, Stdio};
+use std::process::{Child, Command, Output, Stdio};
 use std::sync::atomic::{AtomicUsize, Ordering};
+use std::thread::sleep;
+use std::time::{Duration, Instant};
 
 /// The tool.
 pub const TOOL: &str = env!("CARGO_BIN_EXE_ruzkemp");
@@ -36,11 +38,17 @@ impl From<Output> for Done {
 
 impl Folder {
     pub fn new() -> Folder {
-        let number = FOLDERS.fetch_add(1, Ordering::Relaxed);
-        let name = format!("ruzkemp-test-{}-{number}", std::process::id());
-        let path = std::env::temp_dir().join(name);
-        fs::create_dir(&path).expect("a temporary folder");
-        Folder(path)
+        loop {
+            let number = FOLDERS.fetch_add(1, Ordering::Relaxed);
+            let name = format!("ruzkemp-test-{}-{number}", std::process::id());
+            let path = std::env::temp_dir().join(name);
+            match fs::create_dir(&path) {
+                Ok(()) => return Folder(path),
+                // One that was killed before may have had the same process number.
+                Err(error) if error.kind() == ErrorKind::AlreadyExists => (),
+                Err(error) => panic!("no temporary folder {}: {error}", path.display()),
+            }
+        }
     }
 
     pub fn path(&self) -> &Path {
@@ -156,6 +164,21 @@ impl Folder {
 impl Drop for Folder {
     fn drop(&mut self) {
         let _ = fs::remove_dir_all(&self.0);
+    }
+}
+
+/// Waits until a running tool has locked a file.
+pub fn wait_for_lock(path: &Path, child: &mut Child) {
+    let is_locked = || {
+        let file = File::open(path).expect("it is there");
+        matches!(file.try_lock(), Err(TryLockError::WouldBlock))
+    };
+    let began = Instant::now();
+    while !is_locked() {
+        let ended = child.try_wait().expect("it is a child");
+        assert!(ended.is_none(), "it ended without a lock: {ended:?}");
+        assert!(began.elapsed() < Duration::from_secs(60), "no lock is seen");
+        sleep(Duration::from_millis(1));
     }
 }
 

@@ -47,7 +47,10 @@ impl Asked<'_> {
         match legal(self.name()) {
             Some(name @ (SYS | MAP)) => {
                 let name = name_text(name);
-                format!("the attributes that {name} would keep, 8010h, are not those of a file")
+                format!(
+                    "SYS and MAP are never changed (the attributes that {name} would keep, 8010h, \
+                     are not those of a file)"
+                )
             }
             _ => "an entry-only file would get slices".into(),
         }
@@ -118,15 +121,19 @@ impl Asked<'_> {
         let Some(survey) = self.survey() else {
             return text.into();
         };
-        let demand = self.demand(&survey, &self.wanted(&survey));
+        let wanted = self.wanted(&survey);
+        let demand = self.demand(&survey, &wanted);
         let needed = demand.for_sys + demand.for_file;
-        let for_sys = match demand.for_sys {
-            0 => String::new(),
-            some => format!(" ({some} of them for SYS)"),
+        let for_sys = match (demand.for_sys, demand.for_file) {
+            (0, _) => String::new(),
+            (_, 0) => " for SYS".into(),
+            (some, _) => format!(" ({some} of them for SYS)"),
         };
+        // Those that a file has already do not count.
+        let more = if wanted.held.is_empty() { "" } else { " more" };
         let verb = |number: usize| if number == 1 { "is" } else { "are" };
         format!(
-            "{text}: {needed} {} needed{for_sys} and {} {} free",
+            "{text}: {needed}{more} {} needed{for_sys} and {} {} free",
             verb(needed),
             demand.free,
             verb(demand.free)

@@ -8,7 +8,7 @@ use std::path::{Path, PathBuf};
 use reference::layout::SECTOR;
 use reference::rescue::{File, Rescue};
 
-use super::{heading, named, not_with, numbers};
+use super::{heading, named, not_with, numbers, MOST_DOUBTS};
 use crate::arguments::Given;
 use crate::console::{print, print_bytes, report};
 use crate::failure::{Failure, Outcome};
@@ -39,6 +39,11 @@ impl Found {
         Some(Found { label, file })
     }
 
+    /// Whether it has blocks, and none of them can be read.
+    fn is_unreadable(&self) -> bool {
+        self.file.length() > 0 && self.file.blocks().flatten().next().is_none()
+    }
+
     /// The line about the file when it is written.
     fn written(&self, bytes: &[u8], path: &Path) -> String {
         let bytes = count(bytes.len() as u64, "byte");
@@ -49,7 +54,7 @@ impl Found {
 /// `get --unsound`.
 pub fn get(given: &Given) -> Outcome {
     not_with(given, &["--text", "--danish", "--into"])?;
-    let image = ImageFile::read(given.path(0), given.form()?)?.words;
+    let image = ImageFile::read_to_rescue(given.path(0), given.form()?)?;
     let rescue = Rescue::read(&image, &numbers(given)?);
     let folder = given.raw("--all").map(Path::new);
     match (folder, given.operands_from(0).len()) {
@@ -60,12 +65,14 @@ pub fn get(given: &Given) -> Outcome {
     }
 }
 
-/// One file: written whatever is doubtful, which the status tells.
+/// One file: written whatever is doubtful, which the status tells, unless no block can be read.
 fn one(given: &Given, rescue: &Rescue) -> Outcome {
     let found = wanted(given, rescue)?;
     let bytes = first_bytes(given, &found, contents(rescue, &found.file))?;
     let path = given.path(2);
+    let unreadable = found.is_unreadable();
     match path == Path::new("-") {
+        _ if unreadable => {}
         true => print_bytes(&bytes)?,
         false => {
             given.not_the_image(path)?;
@@ -80,6 +87,9 @@ fn one(given: &Given, rescue: &Rescue) -> Outcome {
         let _ = writeln!(std::io::stderr(), "ruzkemp: {label}: {doubt}");
     }
     match file.doubts.len() {
+        _ if unreadable => Err(Failure::NotUnit(format!(
+            "{label}: no block can be read: nothing is written"
+        ))),
         0 => Ok(()),
         doubts => Err(Failure::NotUnit(format!(
             "{label}: {}: what could be read is written",
@@ -154,7 +164,7 @@ fn all(given: &Given, rescue: &Rescue, folder: &Path) -> Outcome {
         allowed(given, path)?;
     }
     bounded(given, rescue, &files)?;
-    print(&heading(given, rescue))?;
+    print(&heading(given, rescue, MOST_DOUBTS))?;
     fs::create_dir_all(folder).map_err(|error| Failure::host(folder, error))?;
     for (found, path) in files.iter().zip(&paths) {
         let done = saved(given, rescue, found, path)?;
@@ -164,14 +174,22 @@ fn all(given: &Given, rescue: &Rescue, folder: &Path) -> Outcome {
         };
         report(&format!("{done}{doubts}\n"));
     }
+    ended(rescue, &files)
+}
+
+/// How it ends, by what is doubtful about the files and about the unit: with the unit's doubts
+/// files may be lost that are not among these.
+fn ended(rescue: &Rescue, files: &[Found]) -> Outcome {
     let doubtful = files.iter().filter(|found| !found.file.doubts.is_empty());
-    match doubtful.count() {
-        0 => Ok(()),
-        doubtful => Err(Failure::NotUnit(format!(
-            "{doubtful} of {} are doubtful: what could be read is written",
-            count(files.len() as u64, "file")
-        ))),
-    }
+    let all = count(files.len() as u64, "file");
+    let what = match (doubtful.count(), rescue.doubts().is_empty()) {
+        (0, true) => return Ok(()),
+        (0, false) => format!("the unit is doubtful, though none of {all} is"),
+        (doubtful, _) => format!("{doubtful} of {all} are doubtful"),
+    };
+    Err(Failure::NotUnit(format!(
+        "{what}: what could be read is written"
+    )))
 }
 
 /// Refuses to write far more than the image has: each of its sectors belongs to one file.
@@ -193,7 +211,7 @@ fn bounded(given: &Given, rescue: &Rescue, files: &[Found]) -> Outcome {
 /// Writes a file unless none of its blocks can be read; the line about it.
 fn saved(given: &Given, rescue: &Rescue, found: &Found, path: &Path) -> Outcome<String> {
     let Found { label, file } = found;
-    if file.length() > 0 && file.blocks().flatten().next().is_none() {
+    if found.is_unreadable() {
         return Ok(format!("{label}: not written, no block can be read"));
     }
     let bytes = contents(rescue, file);
@@ -217,19 +235,21 @@ fn paths(folder: &Path, files: &[Found]) -> Vec<PathBuf> {
     paths
 }
 
-/// Whether a path may be written: nothing is there, or a file that is to be replaced by force. A
-/// link is not followed: it could lead out of the folder.
+/// Whether a path may be written: nothing is there, or a regular file that is to be replaced by
+/// force. A link is not followed: it could lead out of the folder.
 fn allowed(given: &Given, path: &Path) -> Outcome {
     let Ok(there) = fs::symlink_metadata(path) else {
         return Ok(());
     };
     given.not_the_image(path)?;
-    match (there.is_symlink(), given.flag("--force")) {
-        (true, _) => Err(Failure::host(path, "this is a link, which is not followed")),
-        (false, false) => Err(Failure::host(
-            path,
-            "the file exists already (--force replaces it)",
-        )),
-        (false, true) => Ok(()),
-    }
+    let wrong = if there.is_symlink() {
+        "this is a link, which is not followed"
+    } else if !there.is_file() {
+        "this is no regular file"
+    } else if !given.flag("--force") {
+        "the file exists already (--force replaces it)"
+    } else {
+        return Ok(());
+    };
+    Err(Failure::host(path, wrong))
 }

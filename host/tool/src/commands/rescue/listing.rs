@@ -4,35 +4,50 @@ use reference::layout::key;
 use reference::rescue::{File, Kind, Layout, Pair, Rescue};
 use ruzkemp::Entry;
 
-use super::{heading, named, not_with, numbers};
+use super::{heading, named, not_with, numbers, MOST_DOUBTS};
 use crate::arguments::Given;
 use crate::console::print;
 use crate::failure::Outcome;
 use crate::host::{ImageFile, SECTOR_BYTES};
-use crate::values::count;
+use crate::values::{count, hex, range};
+
+/// So many doubts about a file are listed at most; `show` says all.
+const MOST_LISTED: usize = 8;
+/// So many bytes at least are printed at once.
+const PART: usize = 1 << 20;
 
 /// `ls --unsound`.
 pub fn ls(given: &Given) -> Outcome {
     not_with(given, &["--json"])?;
-    let image = ImageFile::read(given.path(0), given.form()?)?.words;
+    let image = ImageFile::read_to_rescue(given.path(0), given.form()?)?;
     let rescue = Rescue::read(&image, &numbers(given)?);
-    print(&format!("{}{}", heading(given, &rescue), table(&rescue)))
+    table(&rescue, heading(given, &rescue, usize::MAX))
 }
 
-/// The files by name, each with its doubts below it.
-fn table(rescue: &Rescue) -> String {
-    let mut files: Vec<File> = rescue.files().collect();
-    files.sort_by_key(|file| (file.name(), file.sector, file.place));
-    let mut text = String::from("NAME   LENGTH RESERVED  INDEX STRETCHES    ENTRY ATTRIBUTES\n");
-    for file in &files {
-        text += &line(file);
-        for doubt in &file.doubts {
+/// Prints the heading and the files by name, each with its doubts below it. It is printed part by
+/// part, since a damaged disc can have very many entries.
+fn table(rescue: &Rescue, heading: String) -> Outcome {
+    let mut text = heading + "NAME   LENGTH RESERVED  INDEX STRETCHES    ENTRY ATTRIBUTES\n";
+    let mut doubtful = 0;
+    for file in rescue
+        .sorted()
+        .into_iter()
+        .filter_map(|number| rescue.file(number))
+    {
+        text += &line(&file);
+        doubtful += usize::from(!file.doubts.is_empty());
+        for doubt in file.doubts.iter().take(MOST_LISTED) {
             text += &format!("  doubtful: {doubt}\n");
         }
+        if let Some(more @ 1..) = file.doubts.len().checked_sub(MOST_LISTED) {
+            text += &format!("  and {more} more (show --unsound says them)\n");
+        }
+        if text.len() >= PART {
+            print(&std::mem::take(&mut text))?;
+        }
     }
-    let doubtful = files.iter().filter(|file| !file.doubts.is_empty());
-    text += &format!("{} entries, {} doubtful", files.len(), doubtful.count());
-    text + &free(rescue) + "\n"
+    text += &format!("{} entries, {doubtful} doubtful", rescue.entries());
+    print(&(text + &free(rescue) + "\n"))
 }
 
 fn line(file: &File) -> String {
@@ -70,18 +85,23 @@ fn free(rescue: &Rescue) -> String {
 /// `show --unsound`.
 pub fn show(given: &Given) -> Outcome {
     not_with(given, &["--json"])?;
-    let image = ImageFile::read(given.path(0), given.form()?)?.words;
+    let image = ImageFile::read_to_rescue(given.path(0), given.form()?)?;
     let rescue = Rescue::read(&image, &numbers(given)?);
     let files = named(given, &rescue, &given.text(1))?;
     let layout = rescue.layout();
-    let shown: Vec<String> = files.iter().map(|file| shown(file, &layout)).collect();
-    print(&format!("{}{}", heading(given, &rescue), shown.join("\n")))
+    let offset = given.form()?.offset.unwrap_or(0);
+    let shown = files.iter().map(|file| shown(file, &layout, offset));
+    let shown: Vec<String> = shown.collect();
+    let heading = heading(given, &rescue, MOST_DOUBTS);
+    print(&format!("{heading}{}", shown.join("\n")))
 }
 
-fn shown(file: &File, layout: &Layout) -> String {
+/// An entry; its bytes are counted from the beginning of the file.
+fn shown(file: &File, layout: &Layout, offset: u64) -> String {
     let entry = Entry::from_words(file.words);
-    let from = file.sector * SECTOR_BYTES + 2 * file.words.len() * file.place;
-    let to = from + 2 * file.words.len() - 1;
+    let bytes = 2 * file.words.len() as u64;
+    let from = (offset + file.sector as u64) * SECTOR_BYTES as u64 + bytes * file.place as u64;
+    let to = from + bytes - 1;
     let mut text = format!("name        {}\n", file.shown());
     text += &format!(
         "entry       sector {}, place {}, bytes {from} to {to}\n",
@@ -102,11 +122,6 @@ fn shown(file: &File, layout: &Layout) -> String {
     text += &format!("optional    {}\n", hex(&entry.optional()));
     text += &format!("tail        {}\n", hex(&entry.tail()));
     text + &pairs(file, layout) + &doubts(file)
-}
-
-fn hex(words: &[u16]) -> String {
-    let words: Vec<String> = words.iter().map(|word| format!("{word:04X}")).collect();
-    words.join(" ")
 }
 
 /// The pairs that are followed, and the blocks in them.
@@ -131,9 +146,9 @@ fn pairs(file: &File, layout: &Layout) -> String {
 /// The slices of a pair, if they are known, and its sectors.
 fn sectors(pair: &Pair, layout: &Layout) -> String {
     let (first, last) = (pair.start, pair.sectors().end - 1);
-    let sectors = format!("sectors {first} to {last}");
+    let sectors = range("sector", first, last);
     match (layout.slice_of(first), layout.slice_of(last)) {
-        (Some(first), Some(last)) => format!("slices {first} to {last}, {sectors}"),
+        (Some(first), Some(last)) => format!("{}, {sectors}", range("slice", first, last)),
         _ => sectors,
     }
 }
@@ -144,7 +159,7 @@ fn blocks(file: &File, position: usize, pair: &Pair) -> String {
     let end = file.block_at(position + pair.length).unwrap_or(0);
     let end = end.min(file.length());
     match first < end {
-        true => format!("blocks {first} to {}", end - 1),
+        true => range("block", first, end - 1),
         false => "no block".into(),
     }
 }

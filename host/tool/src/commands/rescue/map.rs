@@ -1,18 +1,16 @@
 //! `map` with `--unsound`: each slice by who claims it.
 
-use reference::rescue::{Claimer, File, Kind, Rescue, Slice};
+use std::collections::BTreeMap;
 
-use super::{fitting, heading, not_with, numbers};
+use reference::rescue::{Claimer, Kind, Rescue, Slice};
+
+use super::{fitting, heading, not_with, numbers, MOST_DOUBTS};
 use crate::arguments::Given;
 use crate::console::print;
 use crate::failure::{Failure, Outcome};
 use crate::host::{shown, ImageFile};
 use crate::palette;
-
-/// Slices in a row.
-const ROW: usize = 64;
-/// So many slices are listed at most behind a symbol.
-const MOST: usize = 8;
+use crate::terminal::{some, ROW};
 
 /// What is drawn for a slice.
 #[derive(Clone, Copy, PartialEq, Eq)]
@@ -44,7 +42,7 @@ impl Drawn {
 /// `map --unsound`.
 pub fn map(given: &Given) -> Outcome {
     not_with(given, &["--svg", "--json", "--force"])?;
-    let image = ImageFile::read(given.path(0), given.form()?)?.words;
+    let image = ImageFile::read_to_rescue(given.path(0), given.form()?)?;
     let rescue = Rescue::read(&image, &numbers(given)?);
     let Some(slices) = rescue.layout().slices() else {
         let fit = fitting(&rescue).unwrap_or("--slice and --first give them".into());
@@ -56,35 +54,35 @@ pub fn map(given: &Given) -> Outcome {
     let drawn = (1..=slices).filter_map(|slice| rescue.slice(slice));
     let drawn: Vec<Drawn> = drawn.map(|slice| Drawn::of(&slice)).collect();
     let symbols = Symbols::of(&rescue);
-    let text = heading(given, &rescue) + &rows(&drawn, &symbols) + &legend(&drawn, &symbols);
+    let text =
+        heading(given, &rescue, MOST_DOUBTS) + &rows(&drawn, &symbols) + &legend(&drawn, &symbols);
     print(&text)
 }
 
 /// The files with pairs, by name, and their symbols.
 struct Symbols {
     files: Vec<(Claimer, String, char)>,
+    of: BTreeMap<Claimer, char>,
 }
 
 impl Symbols {
     fn of(rescue: &Rescue) -> Symbols {
-        let all = rescue.files().enumerate();
+        let all = rescue.sorted().into_iter();
+        let all = all.filter_map(|number| Some((number, rescue.unjudged(number)?)));
         let holders = all.filter(|(_, file)| file.kind == Kind::Ordinary && file.total() > 0);
-        let mut holders: Vec<(usize, File)> = holders.collect();
-        holders.sort_by_key(|(_, file)| (file.name(), file.sector, file.place));
         let mut files = vec![(Claimer::Catalog, "SYS".to_string(), '#')];
-        for (place, (number, file)) in holders.iter().enumerate() {
+        for (place, (number, file)) in holders.enumerate() {
             let symbol = palette::symbol(place);
-            files.push((Claimer::Entry(*number), file.shown(), symbol));
+            files.push((Claimer::Entry(number), file.shown(), symbol));
         }
-        Symbols { files }
+        let of = files.iter().map(|(claimer, _, symbol)| (*claimer, *symbol));
+        let of = of.collect();
+        Symbols { files, of }
     }
 
     fn symbol(&self, drawn: Drawn) -> char {
         match drawn {
-            Drawn::Owner(owner) => {
-                let found = self.files.iter().find(|(claimer, _, _)| *claimer == owner);
-                found.map_or('!', |(_, _, symbol)| *symbol)
-            }
+            Drawn::Owner(owner) => self.of.get(&owner).copied().unwrap_or('!'),
             Drawn::Free => '.',
             Drawn::Several => '!',
             Drawn::Lost => '?',
@@ -106,8 +104,14 @@ fn rows(drawn: &[Drawn], symbols: &Symbols) -> String {
 /// Each symbol with the number of slices that have it.
 fn legend(drawn: &[Drawn], symbols: &Symbols) -> String {
     let mut text = String::new();
+    let mut owned: BTreeMap<Claimer, usize> = BTreeMap::new();
+    for slice in drawn {
+        if let Drawn::Owner(owner) = slice {
+            *owned.entry(*owner).or_default() += 1;
+        }
+    }
     for (claimer, name, symbol) in &symbols.files {
-        let slices = slices(drawn, Drawn::Owner(*claimer)).len();
+        let slices = owned.get(claimer).copied().unwrap_or(0);
         text += &format!("{symbol} {name:<5} {slices:>5}\n");
     }
     for (what, said) in [
@@ -119,10 +123,9 @@ fn legend(drawn: &[Drawn], symbols: &Symbols) -> String {
         let slices = slices(drawn, what);
         let symbol = symbols.symbol(what);
         text += &format!("{symbol}       {:>5} {said}", slices.len());
-        text += &match what {
-            Drawn::Free => String::new(),
-            _ => listed(&slices),
-        };
+        if what != Drawn::Free && !slices.is_empty() {
+            text += &format!(": {}", some(&slices));
+        }
         text.push('\n');
     }
     text
@@ -133,14 +136,4 @@ fn slices(drawn: &[Drawn], wanted: Drawn) -> Vec<usize> {
     let all = drawn.iter().enumerate();
     let found = all.filter(|(_, drawn)| **drawn == wanted);
     found.map(|(place, _)| place + 1).collect()
-}
-
-/// Slices one by one; of many only the first.
-fn listed(slices: &[usize]) -> String {
-    if slices.is_empty() {
-        return String::new();
-    }
-    let some = slices.iter().take(MOST).map(|slice| format!(" {slice}"));
-    let more = if slices.len() > MOST { " .." } else { "" };
-    format!(":{}{more}", some.collect::<String>())
 }

@@ -70,8 +70,12 @@ fn not_with(given: &Given, names: &[&str]) -> Outcome {
     }
 }
 
-/// The line that says how the image is read, and what is doubtful about the unit.
-fn heading(given: &Given, rescue: &Rescue) -> String {
+/// So many doubts about the unit are said where it is not the unit that is asked for.
+const MOST_DOUBTS: usize = 16;
+
+/// The line that says how the image is read, and what is doubtful about the unit, so many lines at
+/// most.
+fn heading(given: &Given, rescue: &Rescue, most: usize) -> String {
     let sound = is_sound(rescue.image(), &State::default());
     let verdict = match (sound, rescue.doubts().is_empty()) {
         (true, true) => "the unit is sound, nothing is doubtful",
@@ -80,8 +84,11 @@ fn heading(given: &Given, rescue: &Rescue) -> String {
     };
     let path = shown(given.path(0));
     let mut text = format!("{path}: read without guarantee: {verdict}\n");
-    for doubt in rescue.doubts() {
+    for doubt in rescue.doubts().iter().take(most) {
         text += &format!("  doubtful: {doubt}\n");
+    }
+    if let Some(more @ 1..) = rescue.doubts().len().checked_sub(most) {
+        text += &format!("  and {more} more (ls --unsound lists them)\n");
     }
     if let Some(fit) = fitting(rescue) {
         text += &format!("  {fit}\n");
@@ -98,6 +105,9 @@ fn fitting(rescue: &Rescue) -> Option<String> {
     ))
 }
 
+/// So many files of a name at most are read by it; all have places.
+const MOST_NAMESAKES: usize = 64;
+
 /// The files that an operand means: all of a name, or the one of a place as `SECTOR:PLACE`.
 fn named(given: &Given, rescue: &Rescue, text: &str) -> Outcome<Vec<File>> {
     let files: Vec<File> = match text.split_once(':') {
@@ -108,7 +118,7 @@ fn named(given: &Given, rescue: &Rescue, text: &str) -> Outcome<Vec<File>> {
         }
         None => {
             let name = name_of(&given.read_name(text)?.to_string(), 0);
-            let numbers = rescue.find(name).iter();
+            let numbers = rescue.find(name).iter().take(MOST_NAMESAKES);
             numbers.filter_map(|&number| rescue.file(number)).collect()
         }
     };
