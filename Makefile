@@ -10,7 +10,9 @@ LIBDIR = $(PREFIX)/lib
 INCLUDEDIR = $(PREFIX)/include
 DATADIR = $(PREFIX)/share
 
-# Paths with a blank would be taken for several, and one that does not begin at the root would depend on where make runs.
+# An empty path would stand for the root, one with a blank for several, and one that does not begin at the root would depend on where make
+# runs.
+$(foreach name,PREFIX BINDIR LIBDIR INCLUDEDIR DATADIR,$(if $(strip $($(name))),,$(error $(name) is empty)))
 $(foreach name,PREFIX BINDIR LIBDIR INCLUDEDIR DATADIR,$(if $(word 2,$($(name))),$(error $(name) has a blank in it: $($(name)))))
 $(foreach name,PREFIX BINDIR LIBDIR INCLUDEDIR DATADIR,$(if $(filter-out /%,$($(name))),$(error $(name) has to begin with /: $($(name)))))
 
@@ -24,16 +26,16 @@ MANUAL = $(DATADIR)/man/man1/ruzkemp.1
 BASH = $(DATADIR)/bash-completion/completions/ruzkemp
 ZSH = $(DATADIR)/zsh/site-functions/_ruzkemp
 FISH = $(DATADIR)/fish/vendor_completions.d/ruzkemp.fish
-TOOL_PAGE = $(DATADIR)/doc/ruzkemp/TOOL.md
-RULES_PAGE = $(DATADIR)/doc/ruzkemp/RULES.md
-ALL = $(TOOL) $(LIBRARY) $(KIT) $(PC) $(HEADER) $(MANUAL) $(BASH) $(ZSH) $(FISH) $(TOOL_PAGE) $(RULES_PAGE)
+PAGES = TOOL.md RULES.md sample-disc.svg sample-report.png
+PAGES_DIR = $(DATADIR)/doc/ruzkemp
+ALL = $(TOOL) $(LIBRARY) $(KIT) $(PC) $(HEADER) $(MANUAL) $(BASH) $(ZSH) $(FISH) $(addprefix $(PAGES_DIR)/,$(PAGES))
 
 # A folder as the pkg-config file names it: below the prefix, if it is, so that that file can be used elsewhere too.
 below = $(patsubst $(PREFIX)/%,$${prefix}/%,$(1))
 
 BUILT = bin/ruzkemp lib/libruzkemp.a lib/libruzkemp.kit lib/pkgconfig/ruzkemp.pc include/ruzkemp.h share/man/man1/ruzkemp.1 \
 	share/bash-completion/completions/ruzkemp share/zsh/site-functions/_ruzkemp share/fish/vendor_completions.d/ruzkemp.fish \
-	share/doc/ruzkemp/TOOL.md share/doc/ruzkemp/RULES.md
+	$(addprefix share/doc/ruzkemp/,$(PAGES))
 
 all:
 	./build
@@ -53,8 +55,7 @@ install: built
 	$(INSTALL) -m 644 out/share/bash-completion/completions/ruzkemp "$(DESTDIR)$(BASH)"
 	$(INSTALL) -m 644 out/share/zsh/site-functions/_ruzkemp "$(DESTDIR)$(ZSH)"
 	$(INSTALL) -m 644 out/share/fish/vendor_completions.d/ruzkemp.fish "$(DESTDIR)$(FISH)"
-	$(INSTALL) -m 644 out/share/doc/ruzkemp/TOOL.md "$(DESTDIR)$(TOOL_PAGE)"
-	$(INSTALL) -m 644 out/share/doc/ruzkemp/RULES.md "$(DESTDIR)$(RULES_PAGE)"
+	$(INSTALL) -m 644 $(addprefix out/share/doc/ruzkemp/,$(PAGES)) "$(DESTDIR)$(PAGES_DIR)"
 	sed -e 's|^prefix=.*|prefix=$(PREFIX)|' -e 's|^libdir=.*|libdir=$(call below,$(LIBDIR))|' \
 		-e 's|^includedir=.*|includedir=$(call below,$(INCLUDEDIR))|' out/lib/pkgconfig/ruzkemp.pc > "$(DESTDIR)$(PC)"
 	chmod 644 "$(DESTDIR)$(PC)"

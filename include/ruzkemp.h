@@ -251,7 +251,7 @@ RUZKEMP_FIELD(answer, entries, 8);
 #undef RUZKEMP_FIELD
 #undef RUZKEMP_LAYOUT
 
-/* Whether image and state are a sound unit, for every image and state; docs/RULES.md has the rules. */
+/* Whether image and state are a sound unit, for every image and state; RULES.md has the rules. */
 bool ruzkemp_sound(const uint16_t *image, size_t words, ruzkemp_state state);
 
 /* Carries out a call. lent holds what the message lends: the entry of Set and Change, the words that Look-up, Listing and Get Unit
@@ -428,8 +428,9 @@ static inline ruzkemp_answer ruzkemp_change(ruzkemp_unit *unit, ruzkemp_name nam
     return ruzkemp_send(unit, ruzkemp_named_message(RUZKEMP_CALL_CHANGE, name), entry, RUZKEMP_ENTRY_WORDS);
 }
 
-/* Another name, all else kept: a Look-up, then a Change. The unit is that of the old name; that of the other is not looked at. A name that Change would read as 'keep', such as that of a text of no or of more than
-   five characters, is refused with RUZKEMP_CATALOG_PARAMETER, as any other illegal name is. */
+/* Another name, all else kept: a Look-up, then a Change. The unit is that of the old name; that of the other is not looked at. A name that
+   Change would read as 'keep', such as that of a text of no or of more than five characters, is refused with RUZKEMP_CATALOG_PARAMETER, as
+   any other illegal name is. */
 static inline ruzkemp_answer ruzkemp_rename(ruzkemp_unit *unit, ruzkemp_name name, ruzkemp_name other)
 {
     uint16_t entry[RUZKEMP_ENTRY_WORDS];

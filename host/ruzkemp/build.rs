@@ -51,6 +51,10 @@ fn library() -> Result<PathBuf, String> {
         return current();
     };
     let made = PathBuf::from(made);
+    if made.is_relative() {
+        // This runs in the package's folder, which is not where cargo was called.
+        return Err(format!("{MADE} has to begin with /: {}", made.display()));
+    }
     watch(&made);
     watch(&record_of(&made));
     Ok(made)

@@ -14,20 +14,20 @@ pub type Result<T> = std::result::Result<T, Error>;
 /// [`Error::reasons`].
 #[derive(Clone, Copy, PartialEq, Eq, Hash, Debug)]
 pub enum Error {
-    /// 1200h. Catalog question 1: the unit is not known or not initialized, for Init an area
-    /// process is open. Question 4: the lent record, the name, the size or the attributes are
-    /// illegal. Question 5: the file has an area process, is SYS or MAP or is permanent. Listing
-    /// and Get Unit Description: too few words or bytes. Format: the record is not acceptable.
+    /// 1200h. The unit is not known or not initialized; for Init and Format an area process is
+    /// open. The lent record, the name, the size or the attributes are illegal. Change, Remove: the
+    /// file has an area process, is SYS or MAP or is permanent. Listing and Get Unit Description: too
+    /// few words or bytes. Format: the record is not acceptable.
     CatalogParameter,
-    /// 9000h. Catalog question 2: the image is not sound with the state.
+    /// 9000h. The image is not sound with the state.
     CatalogUnsound,
-    /// 5000h. Catalog question 3: the name does not stand in the catalog.
+    /// 5000h. The name does not stand in the catalog.
     NoEntry,
-    /// 1010h. Catalog question 6: the new name is used.
+    /// 1010h. The new name is used.
     EntryExists,
-    /// 1100h. Catalog question 7: not enough free slices for SYS and file together.
+    /// 1100h. There are not enough free slices for SYS and file together.
     DiscFull,
-    /// 1008h. Catalog question 8: more than 127 stretches in SYS or in the file.
+    /// 1008h. There would be more than 127 stretches in SYS or in the file.
     IndexFull,
     /// 1080h. Format: not 18 bytes, or fewer than 9 words lent.
     FormatRecord,

@@ -1,12 +1,15 @@
 //! The command line: which commands there are, and what was given to one.
 
+use std::borrow::Cow;
 use std::ffi::{OsStr, OsString};
+use std::os::unix::ffi::OsStrExt;
 use std::path::Path;
 
 use ruzkemp::{Attributes, ByteOrder, Name};
 
+use crate::console::visible_line;
 use crate::failure::{Failure, Outcome};
-use crate::host::{is_same, is_standard_input, shown, Form};
+use crate::host::{is_image, shown, Form};
 use crate::values::{self, ATTRIBUTES};
 
 /// An option of a command.
@@ -17,6 +20,8 @@ pub struct Choice {
     pub short: Option<&'static str>,
     /// What its value stands for, if it has one.
     pub value: Option<&'static str>,
+    /// Whether it has to be given.
+    pub needed: bool,
     /// What it does.
     pub help: &'static str,
 }
@@ -26,6 +31,14 @@ impl Choice {
     pub const fn or(self, short: &'static str) -> Choice {
         Choice {
             short: Some(short),
+            ..self
+        }
+    }
+
+    /// The option as one that has to be given.
+    pub const fn needed(self) -> Choice {
+        Choice {
+            needed: true,
             ..self
         }
     }
@@ -42,6 +55,7 @@ pub const fn valued(name: &'static str, value: &'static str, help: &'static str)
         name,
         short: None,
         value: Some(value),
+        needed: false,
         help,
     }
 }
@@ -52,6 +66,7 @@ pub const fn flag(name: &'static str, help: &'static str) -> Choice {
         name,
         short: None,
         value: None,
+        needed: false,
         help,
     }
 }
@@ -94,15 +109,20 @@ pub struct Command {
 impl Command {
     /// The command line in short.
     pub fn usage(&self) -> String {
-        let mut usage = format!("ruzkemp {}", self.name);
-        for operand in self.operands {
-            usage.push(' ');
-            usage.push_str(operand);
-        }
+        let needed = self.needed().map(|(name, value)| format!("{name} {value}"));
+        let mut words = vec![format!("ruzkemp {}", self.name)];
+        words.extend(self.operands.iter().map(|operand| operand.to_string()));
+        words.extend(needed);
         if !self.choices.is_empty() {
-            usage.push_str(" [OPTIONS]");
+            words.push("[OPTIONS]".into());
         }
-        usage
+        words.join(" ")
+    }
+
+    /// The options that have to be given, by their shortest names, with what their values stand for.
+    pub fn needed(&self) -> impl Iterator<Item = (&'static str, &'static str)> {
+        let needed = self.choices.iter().filter(|choice| choice.needed);
+        needed.filter_map(|choice| choice.names().next().zip(choice.value))
     }
 
     /// The page that `--help` prints.
@@ -133,8 +153,9 @@ impl Command {
 
     fn misused(&self, what: String) -> Failure {
         Failure::Usage(format!(
-            "{}: {what}\nUsage: {} (see ruzkemp {} --help)",
+            "{}: {}\nUsage: {} (see ruzkemp {} --help)",
             self.name,
+            visible_line(&what),
             self.usage(),
             self.name
         ))
@@ -158,12 +179,10 @@ impl Given {
         };
         let mut rest = arguments.iter();
         while let Some(argument) = rest.next() {
-            match argument.to_str() {
-                Some("--help" | "-h") => return Ok(None),
-                Some("--") => given.operands.extend(rest.by_ref().cloned()),
-                Some(option) if option.starts_with('-') && option != "-" => {
-                    given.option(option, &mut rest)?;
-                }
+            match argument.as_bytes() {
+                b"--help" | b"-h" => return Ok(None),
+                b"--" => given.operands.extend(rest.by_ref().cloned()),
+                [b'-', _, ..] => given.option(argument, &mut rest)?,
                 _ => given.operands.push(argument.clone()),
             }
         }
@@ -174,18 +193,20 @@ impl Given {
         Ok(Some(given))
     }
 
-    /// Takes in an option, as `--name`, `--name value` or `--name=value`.
-    fn option<'a>(&mut self, text: &str, rest: &mut impl Iterator<Item = &'a OsString>) -> Outcome {
+    /// Takes in an option, as `--name`, `--name value` or `--name=value`. A value may be any bytes, as
+    /// paths are.
+    fn option<'a>(
+        &mut self,
+        argument: &OsStr,
+        rest: &mut impl Iterator<Item = &'a OsString>,
+    ) -> Outcome {
         let misused = |what: String| self.command.misused(what);
-        let (name, attached) = match text.split_once('=') {
-            Some((name, value)) => (name, Some(OsString::from(value))),
-            None => (text, None),
-        };
+        let (name, attached) = divided(argument);
         let choice = self
             .command
             .choices
             .iter()
-            .find(|choice| choice.names().any(|known| known == name));
+            .find(|choice| choice.names().any(|known| *known == *name));
         let choice = choice.ok_or_else(|| misused(format!("there is no option {name}")))?;
         if self.flag(choice.name) {
             return Err(misused(format!("{name} is given twice")));
@@ -257,15 +278,14 @@ impl Given {
     }
 
     /// Refuses to write over the image, which the first operand is: a file, or what standard input
-    /// is read from.
+    /// is read from. `-` is standard output.
     pub fn not_the_image(&self, path: &Path) -> Outcome {
-        let image = self.path(0);
-        let same = match image == Path::new("-") {
-            true => is_standard_input(path),
-            false => is_same(path, image),
+        let called = match path == Path::new("-") {
+            true => "standard output".into(),
+            false => shown(path),
         };
-        match same {
-            true => Err(self.misused(format!("{} is the image itself", shown(path)))),
+        match is_image(self.path(0), path) {
+            true => Err(self.misused(format!("{called} is the image itself"))),
             false => Ok(()),
         }
     }
@@ -320,4 +340,13 @@ impl Given {
         }
         Ok(given)
     }
+}
+
+/// An option's name, and the value that stands behind it in the same word.
+fn divided(option: &OsStr) -> (Cow<'_, str>, Option<OsString>) {
+    let bytes = option.as_bytes();
+    let end = bytes.iter().position(|&byte| byte == b'=');
+    let value = end.map(|end| OsStr::from_bytes(&bytes[end + 1..]).to_os_string());
+    let name = &bytes[..end.unwrap_or(bytes.len())];
+    (String::from_utf8_lossy(name), value)
 }

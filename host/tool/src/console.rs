@@ -59,6 +59,11 @@ pub fn visible(text: &str) -> String {
     shown
 }
 
+/// The same for a text that a user gave, in one line.
+pub fn visible_line(text: &str) -> String {
+    visible(text).replace('\n', "\\n")
+}
+
 /// Writes bytes to standard output, at once.
 pub fn print_bytes(bytes: &[u8]) -> Outcome {
     if streams::is_output_closed() {

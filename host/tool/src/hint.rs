@@ -5,7 +5,8 @@ use reference::layout::{Kit, KIT, MAP_INDEX, SECTOR};
 use ruzkemp::ByteOrder;
 
 use crate::arguments::{LOW, OFFSET};
-use crate::host::Form;
+use crate::host::{Form, SECTOR_BYTES};
+use crate::values::count;
 
 /// The hints for the words read as a form says, in parentheses behind a message; empty if
 /// length and kit are right.
@@ -17,6 +18,14 @@ pub fn of(image: &[u16], form: Form) -> String {
     }
 }
 
+/// The length that the kit says, behind a message about another; empty if there is no kit.
+pub fn length(image: &[u16]) -> String {
+    kit_at(image, 0, false).map_or(String::new(), |kit| {
+        let (sectors, bytes) = (count(kit.n as u64, "sector"), kit.n * SECTOR_BYTES);
+        format!(", the kit says {sectors} ({bytes} bytes)")
+    })
+}
+
 /// The hints, one by one.
 pub fn list(image: &[u16], form: Form) -> Vec<String> {
     let sectors = image.len() / SECTOR;
@@ -26,7 +35,7 @@ pub fn list(image: &[u16], form: Form) -> Vec<String> {
         return Vec::new();
     }
     let mut hints = Vec::new();
-    if let Some(offset) = form.offset.filter(|_| !is_within) {
+    if let Some(offset) = form.offset.filter(|_| kit.is_some() && !is_within) {
         let sector = offset + KIT as u64;
         hints.push(format!("the kit is read at sector {sector} of the file"));
     }

@@ -34,6 +34,7 @@ mod view;
 
 use std::ffi::OsString;
 use std::io::Write;
+use std::path::Path;
 use std::process::ExitCode;
 
 use arguments::{Command, Given};
@@ -82,6 +83,7 @@ fn obeyed(command: &'static Command, arguments: &[OsString]) -> Outcome {
     let Some(given) = Given::new(command, arguments)? else {
         return console::print(&command.page());
     };
+    given.not_the_image(Path::new("-"))?;
     if given.is_dry_run() {
         console::in_dry_run();
     }
@@ -91,7 +93,7 @@ fn obeyed(command: &'static Command, arguments: &[OsString]) -> Outcome {
 fn command(name: &OsString) -> Outcome<&'static Command> {
     let found = COMMANDS.iter().find(|command| name == command.name);
     found.copied().ok_or_else(|| {
-        let name = name.to_string_lossy();
+        let name = console::visible_line(&name.to_string_lossy());
         Failure::Usage(format!("there is no command '{name}' (see ruzkemp help)"))
     })
 }

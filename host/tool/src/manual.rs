@@ -35,6 +35,9 @@ fn heading(command: &Command) -> String {
     for operand in command.operands {
         text += &format!(" \\fI{}\\fR", escaped(operand));
     }
+    for (name, value) in command.needed() {
+        text += &format!(" \\fB{}\\fR \\fI{}\\fR", escaped(name), escaped(value));
+    }
     text + if command.choices.is_empty() {
         "\""
     } else {

@@ -161,7 +161,7 @@ fn unsound(file: &ImageFile, image: &[u16]) -> Failure {
         Some(first) => {
             let number = first.rule.number();
             Failure::NotUnit(format!(
-                "{path}: not a sound unit: rule {number} (docs/RULES.md): {first}{} \
+                "{path}: not a sound unit: rule {number} (RULES.md): {first}{} \
                  (ruzkemp check --all says more)",
                 hint::of(image, file.form)
             ))

@@ -63,10 +63,12 @@ fn an_image_of_odd_length_is_no_unit() {
         for arguments in ON_IMAGE {
             // What is whole words and no whole sectors is judged by check.
             let words = match (arguments[0], bytes) {
-                ("check", 511 | 514..) => "a.img: not a sound unit".to_string(),
-                _ => format!("a.img: not a unit image: {bytes} bytes"),
+                ("check", 511 | 514..) => "a.img: not a sound unit",
+                (_, 1) => "a.img: not a unit image: it has 1 byte, no whole number of sectors",
+                (_, 513) => "a.img: not a unit image: it has 1 sector and one byte more (--unsound",
+                _ => &format!("a.img: not a unit image: it has {bytes} bytes, no whole number"),
             };
-            folder.bad(arguments, 4, &words);
+            folder.bad(arguments, 4, words);
         }
     }
     folder.write("a.img", &[]);

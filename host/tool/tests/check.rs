@@ -84,7 +84,7 @@ fn each_kind_of_rule_is_named_with_its_place() {
         assert_eq!(done.out, wanted);
         let (number, _) = rule.split_once(':').expect("a number");
         let words = format!(
-            "ruzkemp: b.img: not a sound unit: rule {number} (docs/RULES.md): {found} (ruzkemp \
+            "ruzkemp: b.img: not a sound unit: rule {number} (RULES.md): {found} (ruzkemp \
              check --all says more)\n"
         );
         folder.bad(&["ls", "b.img"], 4, &words);

@@ -17,7 +17,7 @@ fn told(folder: &Folder) -> String {
     let rule = lines[1].strip_prefix("  rule ").expect("a rule is named");
     let found = lines[2].strip_prefix("    found: ").expect("what is found");
     let number = rule.split(':').next().expect("its number");
-    let words = format!("a.img: not a sound unit: rule {number} (docs/RULES.md): {found} (");
+    let words = format!("a.img: not a sound unit: rule {number} (RULES.md): {found} (");
     for command in [&["ls", "a.img"][..], &["create", "a.img", "NEW"]] {
         folder.bad(command, 4, &words);
     }

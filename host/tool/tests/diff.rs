@@ -305,3 +305,11 @@ fn trouble_has_a_status_above_1() {
     let done = Done::from(command.stdout(full).output().expect("the tool runs"));
     assert_eq!(done.status, 3, "{done:?}");
 }
+
+/// The status 1 says that there is a difference.
+#[test]
+fn a_unit_that_cannot_be_is_no_difference() {
+    let folder = folder();
+    let words = "init of unit 4: refused with 1200h: the unit is not known: 4 is not 0 to 3";
+    folder.bad(&["diff", "a.img", "a.img", "--unit", "4"], 2, words);
+}

@@ -96,7 +96,10 @@ fn what_a_pipe_has_too_much_or_too_little_is_told() {
     let image = folder.read("a.img");
     for (bytes, words) in [
         (&b""[..], "/dev/stdin: not a unit image: the file is empty"),
-        (&image[..700], "/dev/stdin: not a unit image: 700 bytes"),
+        (
+            &image[..700],
+            "/dev/stdin: not a unit image: it has 700 bytes",
+        ),
         (&image[..5_120], "/dev/stdin: not a sound unit"),
     ] {
         let done = folder.run_with(&["ls", "/dev/stdin"], bytes);
@@ -104,7 +107,7 @@ fn what_a_pipe_has_too_much_or_too_little_is_told() {
         assert!(done.err.contains(words), "{done:?}");
     }
     // What has no end is read only as far as a unit can go.
-    let most = "/dev/zero: not a unit image: at least 32768 sectors";
+    let most = "/dev/zero: not a unit image: it has at least 32768 sectors";
     folder.bad(&["ls", "/dev/zero"], 4, most);
 }
 
@@ -235,6 +238,53 @@ fn a_picture_is_well_formed_whatever_the_image_is_called() {
     }
 }
 
+/// The value of an option is any bytes, apart from its name and behind it in the same word.
+#[test]
+fn a_value_need_not_be_utf_8() {
+    let folder = folder();
+    for (option, name) in [(&b"--into"[..], &b"d\xFFr"[..]), (b"--all", b"\xC3")] {
+        let attached = [option, b"=", name].concat();
+        let given: &[&[u8]] = match option {
+            b"--all" => &[b"get", b"a.img", &attached],
+            _ => &[b"get", b"a.img", b"PASS", &attached],
+        };
+        let done = run_bytes(&folder, given);
+        assert_eq!((done.status, done.err.as_str()), (0, ""));
+        let path = folder.path().join(OsStr::from_bytes(name)).join("PASS");
+        assert!(path.is_file(), "{done:?}");
+    }
+    let done = run_bytes(&folder, &[b"ls", b"a.img", b"--no\xFFne=1"]);
+    let words = "ls: there is no option --no\u{FFFD}ne\n";
+    assert!(done.status == 2 && done.err.contains(words), "{done:?}");
+}
+
+/// What is wrong about an argument is told in one line, and how it is used in another.
+#[test]
+fn arguments_are_printed_in_one_line() {
+    let folder = folder();
+    for (arguments, words) in [
+        (
+            &["no\nsuch\u{1b}"][..],
+            "there is no command 'no\\nsuch\\u{1b}' (see",
+        ),
+        (
+            &["ls", "a.img", "--\n"],
+            "ls: there is no option --\\n\nUsage: ",
+        ),
+        (
+            &["ls", "a.img", "--unit", "1\n2"],
+            "--unit: '1\\n2' is no number",
+        ),
+        (&["show", "a.img", "P\nQ"], "'P\\nQ' is no name: "),
+        (
+            &["show", "a.img", "1\n:2", "--unsound"],
+            "'1\\n' is no number",
+        ),
+    ] {
+        folder.bad(arguments, 2, words);
+    }
+}
+
 /// What a terminal would obey is not sent there as part of a path.
 #[test]
 fn paths_are_printed_without_control_characters() {
@@ -325,24 +375,49 @@ fn a_host_file_too_large_for_a_fixed_file_is_told_why() {
     folder.bad(&put, 1, "16380 more are needed and 0 are free\n");
 }
 
-/// A standard input that is not there is no empty one.
+/// Runs the tool as the shell does, with redirections; it has to fail and to change nothing.
+fn fails_in_shell(folder: &Folder, line: &str, status: i32, words: &str) {
+    let before = folder.snapshot();
+    let mut shell = Command::new("sh");
+    shell.args(["-c", &format!("'{TOOL}' {line}")]);
+    let done = shell.current_dir(folder.path()).output();
+    let done = done.expect("the shell runs").into();
+    folder.judge(&[line], &before, &done, status, words);
+}
+
+/// A standard input that is not there, or only open for writing, is no empty one.
 #[test]
 fn a_closed_standard_input_is_a_failure() {
     let folder = folder();
-    let tool = common::TOOL;
     for line in [
-        "put a.img PASS - --replace",
-        "put a.img NEW -",
-        "run a.img -",
-        "check -",
-        "ls -",
+        "put a.img PASS INPUT --replace",
+        "put a.img NEW INPUT",
+        "run a.img INPUT",
+        "check INPUT",
+        "ls INPUT",
     ] {
-        let before = folder.snapshot();
-        let mut shell = std::process::Command::new("sh");
-        shell.args(["-c", &format!("'{tool}' {line} <&-")]);
-        let done = shell.current_dir(folder.path()).output();
-        let done = done.expect("the shell runs").into();
-        let words = "standard input: it is closed";
-        folder.judge(&[line], &before, &done, 3, words);
+        for (path, input) in [("-", "standard input"), ("/dev/stdin", "/dev/stdin")] {
+            let line = line.replace("INPUT", path);
+            let words = format!("{input}: it is not open for reading");
+            for redirection in ["<&-", "0>/dev/null"] {
+                fails_in_shell(&folder, &format!("{line} {redirection}"), 3, &words);
+            }
+        }
+    }
+}
+
+/// What is printed does not go into the image that it is about.
+#[test]
+fn standard_output_is_not_the_image() {
+    let folder = folder();
+    for line in [
+        "get a.img PASS - >> a.img",
+        "map a.img --svg - 1<> a.img",
+        "report a.img -o - 1<> a.img",
+        "ls a.img >> a.img",
+        "ls - < a.img >> a.img",
+        "create a.img NEW >> a.img",
+    ] {
+        fails_in_shell(&folder, line, 2, "standard output is the image itself");
     }
 }

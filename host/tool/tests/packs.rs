@@ -188,8 +188,15 @@ fn a_pack_may_be_larger_than_any_unit() {
     // 70,000 sectors, 11170h, before the unit, and 40,000 from its first on.
     file.set_len(512 * 110_000).expect("a sparse file");
     std::os::unix::fs::FileExt::write_all_at(&file, &unit, 512 * 70_000).expect("written");
-    let refused = "pack: not a unit image: 110000 sectors, and a unit has at most 32767 (--offset";
+    let refused =
+        "pack: not a unit image: it has 110000 sectors, and a unit has at most 32767, the \
+                   kit says 0 sectors (0 bytes) (--offset SECTORS reads one unit of a pack)\n";
     folder.bad(&["ls", "pack"], 4, refused);
+    // A unit further down is found.
+    std::os::unix::fs::FileExt::write_all_at(&file, &unit, 512 * 300).expect("written");
+    let place = "(0 bytes) (a unit may begin at sector 300 of it: --offset 300) (--offset SECTORS";
+    folder.bad(&["check", "pack"], 4, place);
+    std::os::unix::fs::FileExt::write_all_at(&file, &[0; UNIT], 512 * 300).expect("written");
     let listed = folder.good(&["ls", "u.img"]);
     for offset in ["70000", "11170h", "0x11170"] {
         assert_eq!(folder.good(&["ls", "pack", "--offset", offset]), listed);
@@ -219,7 +226,7 @@ fn places_past_the_end_are_told() {
             4,
             "u.img: not a unit image: it has no sector 99999999999999",
         ),
-        ("15", 4, "(the kit is read at sector 23 of the file)"),
+        ("11", 4, "(the kit is read at sector 19 of the file)"),
         ("0x7FFFFFFFFFFFFFFF", 2, "is past the end of any file"),
         ("-1", 2, "--offset: '-1' is no number"),
         ("x", 2, "--offset: 'x' is no number"),
@@ -228,6 +235,9 @@ fn places_past_the_end_are_told() {
         let create = ["create", "u.img", "NEW", "--offset", offset];
         folder.bad(&create, status, words);
     }
+    // From sector 15 on there is no kit to be read.
+    let done = folder.bad(&["ls", "u.img", "--offset", "15"], 4, "rule 1");
+    assert!(!done.err.contains("the kit is read"), "{done:?}");
     let sample = ["sample", "u.img", "--force", "--offset", "99999999999999"];
     let room = "u.img: no room for 250 sectors from sector 99999999999999 on: the file has 20";
     folder.bad(&sample, 3, room);
@@ -263,6 +273,14 @@ fn the_other_byte_order_is_told() {
     for said in [lengths, &format!("note: {with}\n")] {
         assert!(checked.contains(said), "{checked}");
     }
+    // Of a file that is no whole number of sectors, too.
+    folder.write("low.img", &turned(&unit)[..512 * 19 + 2]);
+    let lengths = "it has 9730 bytes, no whole number of sectors of 512, the kit says 5120 sectors";
+    folder.bad(
+        &["ls", "low.img"],
+        4,
+        &format!("{lengths} (2621440 bytes) ({with})"),
+    );
     // In a pack, too.
     folder.write("pack", &packed(&turned(&unit)));
     let hint = "with --low-byte-first its kit is within limits: N = 20";

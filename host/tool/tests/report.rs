@@ -384,11 +384,16 @@ fn an_image_that_is_not_sound_has_a_report_that_says_so() {
     assert_eq!(done.status, 4);
     assert!(done.out.contains("<dt>Sectors of the image</dt><dd>5</dd>"));
     assert!(!done.out.contains("<dt>Keys"));
-    folder.write("odd.img", &image[..700]);
+    // One that is no whole number of sectors, too, with the kit's numbers if it has the kit.
+    folder.write("odd.img", &image[..9 * 512 + 10]);
+    let page = folder.run(&["report", "odd.img", "-o", "-"]).out;
+    assert!(page.contains("<dt>Sectors of the image</dt><dd>9</dd>"));
+    assert!(page.contains("<dt>Keys"));
+    folder.write("odd.img", &[]);
     folder.bad(
         &["report", "odd.img", "-o", "odd.html"],
         4,
-        "not a unit image",
+        "not a unit image: the file is empty",
     );
 }
 
@@ -426,7 +431,9 @@ fn what_is_found_is_told_by_rule_with_its_place() {
     folder.write("pack.img", &[vec![0; 3 * 512], image].concat());
     let pack = ["report", "pack.img", "--offset", "3", "-o", "-"];
     let place = "(sector 8 of the unit, byte 5638 of the file)";
-    assert!(folder.run(&pack).out.contains(place));
+    let page = folder.run(&pack).out;
+    assert!(page.contains(place));
+    assert!(page.contains("<h1><bdi>pack.img from sector 3 on</bdi></h1>"));
 }
 
 /// A unit of 59 slices with 29 files of one slice each, in every second one, and all of the map turned: there are

@@ -1031,19 +1031,34 @@ fn a_file_that_is_no_whole_number_of_sectors_is_judged_and_read() {
         "{done:?}"
     );
     all_there(&folder, "out");
-    let words = "127589 bytes are no whole number of sectors of 512 (ruzkemp check judges them, \
-                 --unsound reads them)";
+    let words = "it has 127589 bytes, no whole number of sectors of 512, the kit says 250 sectors \
+                 (128000 bytes) (ruzkemp check judges it, --unsound reads it)\n";
     folder.bad(&["ls", "a.img"], 4, words);
-    // The unit and half a word is not sound, and a byte alone is nothing.
+    let done = folder.run(&["report", "a.img", "-o", "a.html"]);
+    assert!(done.status == 4 && done.err.starts_with(half), "{done:?}");
+    let page = String::from_utf8(folder.read("a.html")).expect("UTF-8");
+    let found = "the image has 249 sectors and 50 words (127588 bytes), the kit says 250";
+    assert!(page.contains(found), "{page}");
+}
+
+/// The unit and one byte is not sound, and is read as the unit; a byte alone is nothing.
+#[test]
+fn a_byte_more_than_a_unit_is_told() {
+    let folder = damaged(&[]);
+    let bytes = folder.read("good.img");
     folder.write("a.img", &[&bytes[..], &[0]].concat());
-    folder.bad(&["check", "a.img"], 4, "128001 bytes are no whole number");
+    let words = "it has 250 sectors and one byte more, the kit says 250 sectors (128000 bytes) \
+                 (--unsound reads it)\n";
+    for command in ["check", "ls"] {
+        folder.bad(&[command, "a.img"], 4, words);
+    }
+    folder.bad(&["report", "a.img", "-o", "a.html"], 4, words);
     read_with_a_warning(&folder);
     folder.write("a.img", &[0]);
-    folder.bad(
-        &["ls", "a.img", "--unsound"],
-        4,
-        "1 bytes are no whole number",
-    );
+    let words = "it has 1 byte, no whole number of sectors of 512\n";
+    for more in [&["check"][..], &["ls"], &["ls", "--unsound"]] {
+        folder.bad(&[more, &["a.img"]].concat(), 4, words);
+    }
 }
 
 /// The unit and half a word is read as the unit, with a warning.

@@ -389,6 +389,25 @@ fn a_script_that_cannot_be_read_is_not_begun() {
     folder.bad(&["run", "a.img", "binary"], 3, "binary: ");
 }
 
+/// Whatever a name is, its answer is one line that a terminal prints and does not obey.
+#[test]
+fn an_answer_is_one_line() {
+    let folder = Folder::new();
+    folder.good(&["sample", "a.img"]);
+    let script = "init\nexpect 5000h look-up \"a\\nb\"\nexpect 5000h look-up \"\u{1b}[1m\"\n";
+    let done = run(&folder, script, &[]);
+    let lines: Vec<&str> = done.out.lines().collect();
+    assert_eq!((done.status, lines.len()), (0, 3), "{done:?}");
+    assert!(
+        lines[1].starts_with("2 look-up a\\nb: result=5000h "),
+        "{done:?}"
+    );
+    assert!(
+        lines[2].starts_with("3 look-up \\u{1b}[1m: result=5000h "),
+        "{done:?}"
+    );
+}
+
 #[test]
 fn the_sample_disc_is_sound_and_read_as_it_was_written() {
     let folder = Folder::new();

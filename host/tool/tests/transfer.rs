@@ -215,6 +215,12 @@ fn a_protected_file_is_got_and_not_replaced() {
         1,
         "output FILE: refused with 0C00h: the file is write protected",
     );
+    // Nothing is output of an empty host file, and it would take the words away all the same.
+    folder.write("empty", &[]);
+    for empty in ["empty", "-"] {
+        let put = ["put", "a.img", "FILE", empty, "--replace"];
+        folder.bad(&put, 2, "put FILE: the file is write protected");
+    }
 }
 
 #[test]

@@ -24,7 +24,7 @@ pub const CHECK: Command = Command {
         OFFSET,
     ],
     summary: "Say whether images are sound units, and if not, which rule is broken and where",
-    about: "The rules have the numbers of docs/RULES.md. They come from the second implementation;\n\
+    about: "The rules have the numbers of RULES.md. They come from the second implementation;\n\
             the proved library's verdict stands beside it. Exit status 4 if an image is not sound,\n\
             5 if the two disagree, 3 if an image cannot be read; of several images the highest.",
     run: check,
@@ -42,7 +42,7 @@ struct Checked {
 
 impl Checked {
     fn read(path: &Path, form: Form, unit: u16) -> Outcome<Checked> {
-        let image = ImageFile::read_to_judge(path, form)?;
+        let image = ImageFile::read_to_judge(path, form)?.words;
         // Soundness does not depend on the unit's number, and an image file has nothing open.
         Ok(Checked {
             form,

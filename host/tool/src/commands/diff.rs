@@ -46,7 +46,15 @@ pub const DIFF: Command = Command {
     run: diff,
 };
 
+/// The status 1 is for a difference: a refusal, as that of a unit's number, is wrong usage here.
 fn diff(given: &Given) -> Outcome {
+    compared(given).map_err(|failure| match failure {
+        refused @ Failure::Refused(..) => Failure::Usage(refused.to_string()),
+        other => other,
+    })
+}
+
+fn compared(given: &Given) -> Outcome {
     if [0, 1].map(|place| given.path(place)) == [Path::new("-"); 2] {
         return Err(given.misused("standard input can be one of the two only".into()));
     }

@@ -60,21 +60,29 @@ fn format(given: &Given) -> Outcome {
     let path = given.path(0);
     let there = fs::symlink_metadata(path).is_ok();
     let stays = there && given.flag("--force") && !given.flag("--new");
-    let wanted = wanted(given, stays)?;
-    let record = record(given, &wanted)?;
+    // Wrong usage is told before a file is locked. Only then its length is sure: another command may
+    // have replaced it meanwhile, so that the numbers are chosen once more.
+    let (_, mut record) = chosen(given, stays)?;
     if stays {
         let mut session = Session::to_format(given, record.sectors)?;
-        formatted(&mut session.unit, &record, &wanted)?;
+        record = formatted(given, stays, &mut session.unit)?;
         session.write_back()?;
     } else {
         make(given, || {
-            let mut unit = Explained::new(vec![0; record.image_words()], record.unit);
-            formatted(&mut unit, &record, &wanted)?;
+            let mut unit = Explained::new(Vec::new(), record.unit);
+            record = formatted(given, stays, &mut unit)?;
             Ok(unit)
         })?;
     }
     report(&described(path, &record));
     Ok(())
+}
+
+/// What is wanted, and the record with the numbers chosen so that they suit it.
+fn chosen(given: &Given, stays: bool) -> Outcome<(Wanted, Record)> {
+    let wanted = wanted(given, stays)?;
+    let record = record(given, &wanted)?;
+    Ok((wanted, record))
 }
 
 /// The numbers that are given, and the length of a file that stays. How much of a pack is the
@@ -136,10 +144,15 @@ fn record(given: &Given, wanted: &Wanted) -> Outcome<Record> {
     Ok(record)
 }
 
-/// Formats a unit.
-fn formatted(unit: &mut Explained, record: &Record, wanted: &Wanted) -> Outcome {
-    let result = unit.format(record);
-    result.map_err(|error| refused(unit, record, wanted, error))
+/// Formats the unit of a file that stays, or in its place a new one; the record.
+fn formatted(given: &Given, stays: bool, unit: &mut Explained) -> Outcome<Record> {
+    let (wanted, record) = chosen(given, stays)?;
+    if !stays {
+        *unit = Explained::new(vec![0; record.image_words()], record.unit);
+    }
+    let result = unit.format(&record);
+    result.map_err(|error| refused(unit, &record, &wanted, error))?;
+    Ok(record)
 }
 
 /// The refusal; where the numbers are the reason, with the limit that they break, named as an

@@ -18,7 +18,8 @@ pub const REPORT: Command = Command {
             "FILE",
             "write the report into FILE (- is standard output)",
         )
-        .or("-o"),
+        .or("-o")
+        .needed(),
         flag("--force", "replace FILE if it exists"),
         UNIT,
         LOW,

@@ -1,13 +1,12 @@
 //! `run`: the messages of a script, one after the other.
 
-use std::fs;
-use std::io::Read;
+use std::io;
 use std::path::Path;
 
 use ruzkemp::{Answer, Entry, Error, Message, Operation, Unit, ENTRY, SECTOR};
 
 use crate::arguments::{flag, Command, Given, DRY_RUN, LOW, OFFSET, UNIT};
-use crate::console::{print, report};
+use crate::console::{print, report, visible_line};
 use crate::explained::Explained;
 use crate::failure::{Failure, Outcome};
 use crate::host::{bytes_of, shown, streams};
@@ -36,7 +35,7 @@ pub const RUN: Command = Command {
     about: "The image is written back at the end, if no line failed. A refusal ends the script\n\
             unless its line begins with 'expect WORD'. Area processes live as long as the script:\n\
             one that leaves some open fails, because their lengths would not be booked.\n\
-            docs/TOOL.md describes the messages and the answers.",
+            TOOL.md describes the messages and the answers.",
     run,
 };
 
@@ -62,13 +61,12 @@ fn run(given: &Given) -> Outcome {
 }
 
 fn read(path: &Path) -> Outcome<String> {
-    if path != Path::new("-") {
-        return fs::read_to_string(path).map_err(|error| Failure::host(path, error));
+    if path == Path::new("-") {
+        let read = io::read_to_string(streams::input()?);
+        return read.map_err(|error| Failure::Host(format!("standard input: {error}")));
     }
-    let mut text = String::new();
-    let read = streams::input()?.read_to_string(&mut text);
-    read.map_err(|error| Failure::Host(format!("standard input: {error}")))?;
-    Ok(text)
+    let read = io::read_to_string(streams::open(path)?);
+    read.map_err(|error| Failure::host(path, error))
 }
 
 /// Does what a line asks for and hands its answer to `tell`.
@@ -182,10 +180,11 @@ fn answer_line(
         Some((_, reason)) => format!("  # {reason}"),
         None => String::new(),
     };
-    format!(
+    let line = format!(
         "{place} {title}: result={result:04X}h bytes={bytes} block={block} entries={entries}\
-         {handed}{meaning}\n"
-    )
+         {handed}{meaning}"
+    );
+    visible_line(&line) + "\n"
 }
 
 /// Releases all users and removes all area processes, which books their lengths.

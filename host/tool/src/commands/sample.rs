@@ -24,8 +24,7 @@ pub const SAMPLE: Command = Command {
         DRY_RUN,
     ],
     summary: "Make a sample disc to try the other commands on",
-    about: "The files of a small ski area, some of them in several stretches. The script that\n\
-            makes it is host/tool/src/sample.script.",
+    about: "The files of a small ski area, some of them in several stretches.",
     run: sample,
 };
 

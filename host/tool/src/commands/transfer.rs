@@ -1,6 +1,5 @@
 //! `put` and `get`: files' blocks from and to host files.
 
-use std::fs::File;
 use std::io::{BufRead, BufReader, Cursor, Read};
 use std::path::Path;
 
@@ -110,13 +109,18 @@ fn put(given: &Given) -> Outcome {
 
 /// Puts a host file's bytes into a file; how many blocks it has.
 fn put_file(given: &Given, session: &mut Session, name: Name, source: &mut Source) -> Outcome<u64> {
-    match given.flag("--replace") {
+    let attributes = match given.flag("--replace") {
         true => emptied(given, session, name, source)?,
         false => entered(session, name)?,
-    }
+    };
     open_area(session, name, Role::ExclusiveUser)?;
     let blocks = copy_in(session, name, source)?;
     close_area(session, name)?;
+    // The unit refuses output only, and there was none.
+    if blocks == 0 && attributes.contains(Attributes::WRITE_PROTECTED) {
+        let what = format!("put {name}: the file is write protected: its words stay as they are");
+        return Err(Failure::Usage(what));
+    }
     Ok(blocks)
 }
 
@@ -132,8 +136,9 @@ pub fn close_area(session: &mut Session, name: Name) -> Outcome {
     session.call(Call::RemoveArea, name, |unit| unit.remove_area(name))
 }
 
-/// Enters a new file to which blocks can be appended. SYS and MAP cannot be replaced either.
-fn entered(session: &mut Session, name: Name) -> Outcome {
+/// Enters a new file to which blocks can be appended; its attributes. SYS and MAP cannot be replaced
+/// either.
+fn entered(session: &mut Session, name: Name) -> Outcome<Attributes> {
     let attributes = Attributes::EXTENDABLE;
     let created = session.call(Call::Create, name, |unit| unit.create(name, 0, attributes));
     created.map_err(|failure| match failure {
@@ -145,12 +150,18 @@ fn entered(session: &mut Session, name: Name) -> Outcome {
             )
         }
         other => other,
-    })
+    })?;
+    Ok(attributes)
 }
 
 /// Gives an entered file a length from which all its blocks are going to be written: 0 if it
-/// is extendable, else that of the source.
-fn emptied(given: &Given, session: &mut Session, name: Name, source: &Source) -> Outcome {
+/// is extendable, else that of the source. Its attributes.
+fn emptied(
+    given: &Given,
+    session: &mut Session,
+    name: Name,
+    source: &Source,
+) -> Outcome<Attributes> {
     let current = match session.unit.look_up(name) {
         Err(Error::NoEntry) => return entered(session, name),
         looked_up => session.call(Call::LookUp, name, |_| looked_up)?,
@@ -167,7 +178,8 @@ fn emptied(given: &Given, session: &mut Session, name: Name, source: &Source) ->
         }
     };
     let entry = Entry::for_change(&current).with_size(size);
-    session.call(Call::Change, name, |unit| unit.change(name, &entry))
+    session.call(Call::Change, name, |unit| unit.change(name, &entry))?;
+    Ok(current.attributes())
 }
 
 /// Outputs the source's blocks one after the other; how many.
@@ -212,8 +224,9 @@ impl Source {
             let reader = Box::new(streams::input()?);
             return Ok(Source::new("standard input".into(), reader, None));
         }
-        let opened = File::open(path).and_then(|file| Ok((file.metadata()?, file)));
-        let (metadata, file) = opened.map_err(|error| Failure::host(path, error))?;
+        let file = streams::open(path)?;
+        let metadata = file.metadata();
+        let metadata = metadata.map_err(|error| Failure::host(path, error))?;
         let mut reader = BufReader::new(file);
         let bytes = match (metadata.is_file(), metadata.len()) {
             // A file of /proc says that it is empty, whatever it has.
@@ -269,8 +282,11 @@ impl Source {
             .read_to_end(&mut bytes);
         let read = read.map_err(|error| trouble(error.to_string()))?;
         self.taken += read as u64;
-        if read < SECTOR_BYTES && self.bytes.is_some_and(|bytes| bytes != self.taken) {
-            return Err(trouble("its length changed while it was read".into()));
+        if let Some(bytes) = self.bytes.filter(|bytes| *bytes != self.taken) {
+            if read < SECTOR_BYTES {
+                let (taken, bytes) = (self.taken, count(bytes, "byte"));
+                return Err(trouble(format!("{taken} of {bytes} could be read")));
+            }
         }
         bytes.resize(SECTOR_BYTES, 0);
         let words = words_of(&bytes);

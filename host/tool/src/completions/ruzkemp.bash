@@ -19,10 +19,10 @@ _ruzkemp_files() { # CURRENT ACTION
     mapfile -t -O ${#COMPREPLY[@]} COMPREPLY < <(compgen "$2" -- "$1")
 }
 
-# The names of the files of an image.
+# The names of the files of an image, which lies in its file as the options in form say.
 _ruzkemp_names() { # IMAGE
     local image=${1/#\~\//$HOME/}
-    ruzkemp ls -- "${image//[\\\"\']/}" 2> /dev/null < /dev/null | sed -n '1d; s/^\([A-Za-z][A-Za-z0-9]*\) .*/\1/p'
+    ruzkemp ls "${form[@]}" -- "${image//[\\\"\']/}" 2> /dev/null < /dev/null | sed -n '1d; s/^\([A-Za-z][A-Za-z0-9]*\) .*/\1/p'
 }
 
 # Completes to what a kind of word can be.
@@ -64,15 +64,20 @@ _ruzkemp() {
         return
     fi
     _ruzkemp_command "${COMP_WORDS[1]}" || return 0
-    # The operands so far, whether -- stood among them, and the kind of the value that an option waits for. Readline
-    # divides --name=value into three words.
-    local word image='' waits='' ended='' seen=0
+    # The operands so far, whether -- stood among them, the kind of the value that an option waits for, and the
+    # options that say how the image lies in its file. Readline divides --name=value into three words.
+    local word image='' waits='' option='' ended='' seen=0
+    local -a form=()
     for word in "${COMP_WORDS[@]:2:COMP_CWORD-2}"; do
         if [ -n "$waits" ]; then
-            [ "$word" = = ] || waits=''
+            [ "$word" != = ] || continue
+            [ "$option" != --offset ] || form+=(--offset "$word")
+            waits=''
         elif [ -z "$ended" ] && [ "$word" = -- ]; then
             ended=yes
         elif [ -z "$ended" ] && [[ $word == -?* ]]; then
+            option=$word
+            [ "$word" != --low-byte-first ] || form+=("$word")
             [[ " $valued " != *" $word:"* ]] || { waits=${valued#*"$word:"} && waits=${waits%% *}; }
         else
             image=${image:-$word} seen=$((seen + 1))

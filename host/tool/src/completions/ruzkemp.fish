@@ -35,10 +35,18 @@ function __ruzkemp_at # COMMAND PLACE OPTION...
     string match -q '*+' $argv[2]; and test $seen -gt $place
 end
 
+# The options given so far that say how the image lies in its file.
+function __ruzkemp_form
+    set -l words (commandline -opc)
+    string match -- --low-byte-first $words
+    string match -- '--offset=*' $words
+    set -l place (contains -i -- --offset $words); and printf '%s\n' --offset $words[(math $place + 1)]
+end
+
 # The names of the files of the image, which is the first operand.
 function __ruzkemp_names # OPTION...
     set -l image (__ruzkemp_operands $argv)[1]
-    test -n "$image"; and ruzkemp ls -- $image 2>/dev/null </dev/null | sed -n '1d; s/^\([A-Za-z][A-Za-z0-9]*\) .*/\1/p'
+    test -n "$image"; and ruzkemp ls (__ruzkemp_form) -- $image 2>/dev/null </dev/null | sed -n '1d; s/^\([A-Za-z][A-Za-z0-9]*\) .*/\1/p'
 end
 
 complete -c ruzkemp -f

@@ -1,10 +1,12 @@
 #compdef ruzkemp
 # Completion of ruzkemp for zsh, made by `ruzkemp help --completions zsh`.
 
-# The names of the files of the image, which is the first operand.
+# The names of the files of the image, which is the first operand and lies in its file as two options say.
 _ruzkemp_names() {
-    local -a names
-    names=(${(f)"$(ruzkemp ls -- ${(Q)line[1]} 2> /dev/null < /dev/null | sed -n '1d; s/^\([A-Za-z][A-Za-z0-9]*\) .*/\1/p')"})
+    local -a names form
+    (( $+opt_args[--low-byte-first] )) && form+=(--low-byte-first)
+    (( $+opt_args[--offset] )) && form+=(--offset ${(Q)opt_args[--offset]})
+    names=(${(f)"$(ruzkemp ls $form -- ${(Q)line[1]} 2> /dev/null < /dev/null | sed -n '1d; s/^\([A-Za-z][A-Za-z0-9]*\) .*/\1/p')"})
     compadd -a names
 }
 

@@ -26,7 +26,10 @@ fn arguments(command: &Command) -> String {
     words.extend(command.choices.iter().flat_map(options));
     let operands = operands(command);
     let places = operands.iter().enumerate();
-    words.extend(places.map(|(place, operand)| argument(place + 1, operand)));
+    words.extend(places.map(|(place, operand)| {
+        let before = operands[..place].iter().find(|before| before.many);
+        argument(place + 1, operand, before)
+    }));
     format!(
         "    {})\n        _arguments {}\n        ;;\n",
         command.name,
@@ -58,16 +61,20 @@ fn option(choice: &Choice, name: &str) -> String {
     }
 }
 
-fn argument(place: usize, operand: &Operand) -> String {
+/// An operand; behind one of which there may be more, its place may be that of one more.
+fn argument(place: usize, operand: &Operand, before: Option<&Operand>) -> String {
     let place = match operand.many {
         true => "*".into(),
         false => place.to_string(),
     };
-    quoted(&format!(
-        "{place}:{}:{}",
-        plain(operand.called),
-        action(operand.kind)
-    ))
+    let (called, action) = (plain(operand.called), action(operand.kind));
+    quoted(&match before {
+        None => format!("{place}:{called}:{action}"),
+        Some(before) => {
+            let (other, first) = (plain(before.called), self::action(before.kind));
+            format!("{place}:{other} or {called}:{{{first}; {action}}}")
+        }
+    })
 }
 
 fn action(kind: Kind) -> &'static str {

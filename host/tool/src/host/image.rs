@@ -1,6 +1,5 @@
 //! An image file: the words of a unit, which is the whole file or a part of a pack.
 
-use std::fs::File;
 use std::io::{self, Read, Seek, SeekFrom};
 use std::path::{Path, PathBuf};
 
@@ -10,6 +9,8 @@ use super::lock::Old;
 use super::{irregular, regular, shown, streams, Form, Replacement, MOST_SECTORS, SECTOR_BYTES};
 use crate::console::warn;
 use crate::failure::{Failure, Outcome};
+use crate::hint;
+use crate::values::count;
 
 const SECTOR: u64 = SECTOR_BYTES as u64;
 
@@ -31,13 +32,17 @@ impl ImageFile {
     /// end; `-` is standard input.
     pub fn read(shown: &Path, form: Form) -> Outcome<ImageFile> {
         let (words, _) = words_of(shown, form, false)?;
-        Ok(ImageFile {
+        Ok(ImageFile::unchanged(shown, form, words))
+    }
+
+    fn unchanged(shown: &Path, form: Form, words: Vec<u16>) -> ImageFile {
+        ImageFile {
             shown: shown.into(),
             path: shown.into(),
             form,
             old: None,
             words,
-        })
+        }
     }
 
     /// Reads the words of an image that need not be whole sectors, to read what can be read of
@@ -50,18 +55,18 @@ impl ImageFile {
         Ok(words)
     }
 
-    /// As `read_to_rescue`, to judge the words. A file of whole sectors and half a word is refused
-    /// as by `read`: the words alone could be a sound unit, and the file is none.
-    pub fn read_to_judge(shown: &Path, form: Form) -> Outcome<Vec<u16>> {
+    /// As `read_to_rescue`, to judge the words. A file of whole sectors and half a word is refused:
+    /// the words alone could be a sound unit, and the file is none.
+    pub fn read_to_judge(shown: &Path, form: Form) -> Outcome<ImageFile> {
         let (words, odd) = words_of(shown, form, true)?;
         if odd && words.len().is_multiple_of(SECTOR_BYTES / 2) {
-            let wrong = no_sectors(2 * words.len() as u64 + 1);
-            return Err(no_image(shown, &wrong));
+            let (wrong, remedy) = ragged(2 * words.len() + 1);
+            return Err(wrong_length(shown, &wrong, &words, form, remedy));
         }
         if odd {
             warn_of_half(shown);
         }
-        Ok(words)
+        Ok(ImageFile::unchanged(shown, form, words))
     }
 
     /// Reads an image that may be changed, and holds off other changes of it until dropped. A
@@ -111,8 +116,9 @@ fn words_of(shown: &Path, form: Form, loose: bool) -> Outcome<(Vec<u16>, bool)> 
         let source = Source::new(shown, streams::input()?.lock(), None);
         return source.words(form, None, loose);
     }
-    let opened = File::open(shown).and_then(|file| Ok((file.metadata()?, file)));
-    let (metadata, file) = opened.map_err(|error| Failure::host(shown, error))?;
+    let file = streams::open(shown)?;
+    let metadata = file.metadata();
+    let metadata = metadata.map_err(|error| Failure::host(shown, error))?;
     if metadata.is_dir() {
         return Err(irregular(shown));
     }
@@ -159,7 +165,7 @@ impl<'a, R: Read> Source<'a, R> {
     /// is left.
     fn words(mut self, form: Form, sectors: Option<u16>, loose: bool) -> Outcome<(Vec<u16>, bool)> {
         let mut bytes = match form.offset {
-            None => self.whole(loose)?,
+            None => self.whole(form, loose)?,
             Some(offset) => self.part(offset, form, sectors)?,
         };
         let odd = !bytes.len().is_multiple_of(2);
@@ -175,35 +181,32 @@ impl<'a, R: Read> Source<'a, R> {
         Ok(read)
     }
 
-    /// The bytes of a file that is a unit; loosely of one that has a word at least.
-    fn whole(&mut self, loose: bool) -> Outcome<Vec<u8>> {
-        if let Some(bytes) = self.bytes {
-            self.whole_sectors(bytes, loose)?;
-        }
+    /// The bytes of a file that is a unit: whole sectors, and no more than a unit can have; loosely a
+    /// word at least.
+    fn whole(&mut self, form: Form, loose: bool) -> Outcome<Vec<u8>> {
         let bytes = self.next(SECTOR * (MOST_SECTORS as u64 + 1))?;
-        self.whole_sectors(bytes.len() as u64, loose)?;
-        Ok(bytes)
+        let length = bytes.len();
+        if length == 0 {
+            return Err(no_image(self.shown, "the file is empty"));
+        }
+        let (wrong, remedy) = if length / SECTOR_BYTES > MOST_SECTORS {
+            (self.too_long(), BY_OFFSET)
+        } else if loose && length > 1 || length.is_multiple_of(SECTOR_BYTES) {
+            return Ok(bytes);
+        } else {
+            ragged(length)
+        };
+        let words = form.words(&bytes[..length - length % 2]);
+        Err(wrong_length(self.shown, &wrong, &words, form, remedy))
     }
 
-    /// An image file has whole sectors, or loosely a word, and no more than a unit can have.
-    fn whole_sectors(&self, bytes: u64, loose: bool) -> Outcome {
-        let wrong = if bytes == 0 {
-            "the file is empty".to_string()
-        } else if bytes / SECTOR > MOST_SECTORS as u64 {
-            let sectors = match self.bytes {
-                Some(_) => (bytes / SECTOR).to_string(),
-                None => format!("at least {}", bytes / SECTOR),
-            };
-            format!(
-                "{sectors} sectors, and a unit has at most {MOST_SECTORS} (--offset SECTORS reads \
-                 one unit of a pack)"
-            )
-        } else if loose && bytes > 1 || bytes.is_multiple_of(SECTOR) {
-            return Ok(());
-        } else {
-            no_sectors(bytes)
+    /// What is wrong with a file that has more sectors than a unit can have.
+    fn too_long(&self) -> String {
+        let sectors = match self.bytes {
+            Some(bytes) => (bytes / SECTOR).to_string(),
+            None => format!("at least {}", MOST_SECTORS + 1),
         };
-        Err(no_image(self.shown, &wrong))
+        format!("it has {sectors} sectors, and a unit has at most {MOST_SECTORS}")
     }
 
     /// The bytes of a unit in a pack: as many sectors as are wanted, or as its kit says, or, if
@@ -249,12 +252,29 @@ impl<'a, R: Read> Source<'a, R> {
     }
 }
 
-/// What is wrong with a file of so many bytes, and which commands read it all the same.
-fn no_sectors(bytes: u64) -> String {
-    format!(
-        "{bytes} bytes are no whole number of sectors of {SECTOR} (ruzkemp check judges them, \
-         --unsound reads them)"
-    )
+/// How a file of the wrong length is read all the same.
+const BY_CHECK: &str = " (ruzkemp check judges it, --unsound reads it)";
+const BY_UNSOUND: &str = " (--unsound reads it)";
+const BY_OFFSET: &str = " (--offset SECTORS reads one unit of a pack)";
+
+/// What is wrong with a file of so many bytes, no whole number of sectors, and how it is read all the
+/// same.
+fn ragged(bytes: usize) -> (String, &'static str) {
+    if bytes > 1 && bytes % SECTOR_BYTES == 1 {
+        let sectors = count((bytes / SECTOR_BYTES) as u64, "sector");
+        return (format!("it has {sectors} and one byte more"), BY_UNSOUND);
+    }
+    let remedy = if bytes > 1 { BY_CHECK } else { "" };
+    let bytes = count(bytes as u64, "byte");
+    let wrong = format!("it has {bytes}, no whole number of sectors of {SECTOR}");
+    (wrong, remedy)
+}
+
+/// The failure that a file of the wrong length is: what is wrong, the length that its kit says, what
+/// else is to be known, and how it is read all the same.
+fn wrong_length(shown: &Path, wrong: &str, words: &[u16], form: Form, remedy: &str) -> Failure {
+    let (length, hints) = (hint::length(words), hint::of(words, form));
+    no_image(shown, &format!("{wrong}{length}{hints}{remedy}"))
 }
 
 fn no_image(shown: &Path, wrong: &str) -> Failure {

@@ -10,11 +10,11 @@ pub mod streams;
 
 use std::fs::{self, File, Metadata};
 use std::io;
-use std::os::fd::AsFd;
+use std::os::fd::{AsFd, BorrowedFd};
 use std::os::unix::fs::MetadataExt;
 use std::path::{Path, PathBuf};
 
-use crate::console::visible;
+use crate::console::visible_line;
 use crate::failure::{Failure, Outcome};
 
 pub use form::Form;
@@ -38,7 +38,7 @@ pub fn bytes_of(words: &[u16]) -> Vec<u8> {
 
 /// A path as it is told to users: with no character that a terminal would obey.
 pub fn shown(path: &Path) -> String {
-    visible(&path.to_string_lossy()).replace('\n', "\\n")
+    visible_line(&path.to_string_lossy())
 }
 
 /// The file that a path leads to, links followed. Anything but a regular file is refused:
@@ -56,21 +56,24 @@ pub fn irregular(path: &Path) -> Failure {
     Failure::host(path, "this is no regular file")
 }
 
-/// Whether two paths lead to one file.
-pub fn is_same(one: &Path, other: &Path) -> bool {
-    are_one(fs::metadata(one), fs::metadata(other))
-}
-
-/// Whether a path leads to the file from which standard input is read.
-pub fn is_standard_input(path: &Path) -> bool {
-    let input = io::stdin().as_fd().try_clone_to_owned();
-    let input = input.and_then(|input| File::from(input).metadata());
-    are_one(fs::metadata(path), input)
-}
-
-fn are_one(one: io::Result<Metadata>, other: io::Result<Metadata>) -> bool {
-    match (one, other) {
-        (Ok(one), Ok(other)) => (one.dev(), one.ino()) == (other.dev(), other.ino()),
+/// Whether an image and a file to be written are one file; `-` is standard input for the image, and
+/// standard output for the other.
+pub fn is_image(image: &Path, written: &Path) -> bool {
+    let image = found(image, io::stdin().as_fd());
+    let written = found(written, io::stdout().as_fd());
+    match (image, written) {
+        // A terminal is both input and output, and no image.
+        (Ok(one), Ok(other)) => {
+            one.is_file() && (one.dev(), one.ino()) == (other.dev(), other.ino())
+        }
         _ => false,
+    }
+}
+
+/// What a path leads to; `-` is a standard stream.
+fn found(path: &Path, stream: BorrowedFd) -> io::Result<Metadata> {
+    match path == Path::new("-") {
+        true => File::from(stream.try_clone_to_owned()?).metadata(),
+        false => fs::metadata(path),
     }
 }

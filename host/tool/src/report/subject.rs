@@ -2,7 +2,7 @@
 
 use std::path::Path;
 
-use reference::layout::{Kit, MAP_SECTOR, SECTOR};
+use reference::layout::{Kit, KIT, SECTOR};
 use reference::Finding;
 use ruzkemp::State;
 
@@ -17,7 +17,7 @@ use super::text::visible;
 
 /// An image.
 pub struct Subject {
-    /// Its file name, to be read by people; not yet escaped.
+    /// Its file name, and where in a pack it begins, to be read by people; not yet escaped.
     pub name: String,
     /// What is in it.
     pub content: Content,
@@ -48,17 +48,18 @@ pub struct Unsound {
 impl Subject {
     /// Reads the command's image, once: it may come from a pipe.
     pub fn of(given: &Given) -> Outcome<Subject> {
-        let file = ImageFile::read(given.path(0), given.form()?)?;
+        let file = ImageFile::read_to_judge(given.path(0), given.form()?)?;
         let image = file.words.clone();
         let content = match Session::to_read_file(given, file) {
             Ok(mut session) => Content::Sound(View::of(&mut session)?),
             Err(Failure::NotUnit(_)) => Content::Unsound(unsound(given, &image)?),
             Err(failure) => return Err(failure),
         };
-        Ok(Subject {
-            name: name(given.path(0)),
-            content,
-        })
+        let mut name = name(given.path(0));
+        if let Some(offset) = given.form()?.offset {
+            name += &format!(" from sector {offset} on");
+        }
+        Ok(Subject { name, content })
     }
 }
 
@@ -81,7 +82,7 @@ fn unsound(given: &Given, image: &[u16]) -> Outcome<Unsound> {
     Ok(Unsound {
         form,
         sectors: image.len() / SECTOR,
-        kit: (image.len() >= (MAP_SECTOR + 1) * SECTOR).then(|| Kit::read(image)),
+        kit: (image.len() >= (KIT + 1) * SECTOR).then(|| Kit::read(image)),
         findings,
         hints: hint::list(image, form),
     })

@@ -82,13 +82,13 @@ fn space(view: &View) -> String {
     let (all, free) = (view.slices(), view.free_slices());
     let catalog = sys.map_or(0, Holder::slices);
     let files = all - free - catalog;
-    let (sectors, percent) = (free * view.kit.s, 100.0 * free as f64 / all as f64);
+    let (sectors, percent) = (free * view.kit.s, percent(free, all));
     let bytes = sectors * SECTOR_BYTES;
     let slices = |number: usize| count(number as u64, "slice");
     format!(
         "<section class=\"card space\" aria-labelledby=\"space-title\">\n\
          <h2 id=\"space-title\">Free space</h2>\n\
-         <p class=\"figure\"><b>{percent:.0}&#8202;%</b> {free} of {} free</p>\n\
+         <p class=\"figure\"><b>{percent}&#8202;%</b> {free} of {} free</p>\n\
          <p class=\"muted\">{} &middot; {bytes} bytes</p>\n\
          <svg class=\"bar\" viewBox=\"0 0 {all} 10\" preserveAspectRatio=\"none\" role=\"img\" \
          aria-label=\"{free} of {all} slices are free\">\
@@ -104,6 +104,15 @@ fn space(view: &View) -> String {
         slices(files),
         slices(free)
     )
+}
+
+/// How much of all there is, in per cent: 0 and 100 are said only of nothing and of all.
+fn percent(some: usize, all: usize) -> String {
+    match (200 * some + all) / (2 * all) {
+        0 if some > 0 => "under 1".into(),
+        100 if some < all => "over 99".into(),
+        rounded => rounded.to_string(),
+    }
 }
 
 /// How much the files and the free slices are broken up.
@@ -153,4 +162,26 @@ pub fn longest(stretches: &[Stretch]) -> usize {
 
 fn fact(label: &str, value: &str) -> String {
     format!("<div><dt>{label}</dt><dd>{value}</dd></div>\n")
+}
+
+#[cfg(test)]
+mod tests {
+    use super::*;
+
+    #[test]
+    fn only_nothing_is_0_per_cent_and_only_all_100() {
+        for (some, all, told) in [
+            (0, 4, "0"),
+            (1, 4_094, "under 1"),
+            (20, 4_096, "under 1"),
+            (21, 4_096, "1"),
+            (1, 3, "33"),
+            (1, 8, "13"),
+            (995, 1_000, "over 99"),
+            (994, 1_000, "99"),
+            (4_096, 4_096, "100"),
+        ] {
+            assert_eq!(percent(some, all), told, "{some} of {all}");
+        }
+    }
 }

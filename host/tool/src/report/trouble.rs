@@ -34,7 +34,7 @@ pub fn cards(image: &Unsound) -> String {
          <section class=\"card\" aria-labelledby=\"next-title\">\n\
          <h2 id=\"next-title\">How to go on</h2>\n\
          <p><code>ruzkemp ls IMAGE --unsound</code> reads what can be read; the rules are in \
-         docs/RULES.md. The image was not changed.</p>\n</section>\n",
+         RULES.md. The image was not changed.</p>\n</section>\n",
         tiles(image)
     )
 }
