@@ -7,7 +7,7 @@ use std::fs;
 use std::os::unix::fs::{symlink, PermissionsExt};
 use std::process::{Command, Stdio};
 
-use common::{Done, Folder, TOOL};
+use common::{Done, Folder, NUMBERS, TOOL};
 
 /// Every command that works on an image, with operands that suit the small unit with PASS.
 const ON_IMAGE: [&[&str]; 11] = [
@@ -180,18 +180,7 @@ fn on_a_full_host_disc_nothing_is_lost() {
         &["sample", "new.img"],
         &["sample", "a.img", "--force"],
         &["map", "a.img", "--svg", "map.svg"],
-        &[
-            "format",
-            "new.img",
-            "--sectors",
-            "20",
-            "--first",
-            "10",
-            "--slice",
-            "2",
-            "--keys",
-            "1",
-        ],
+        &[&["format", "new.img"], &NUMBERS[..]].concat(),
         &[
             "format",
             "a.img",
@@ -267,19 +256,7 @@ fn unit_number_4_is_refused_by_the_unit() {
     }
     let run = ["run", "a.img", "script", "--unit", "4"];
     folder.bad(&run, 1, "line 1, init: refused with 1200h");
-    let format = [
-        "format",
-        "b.img",
-        "--sectors",
-        "20",
-        "--first",
-        "10",
-        "--slice",
-        "2",
-        "--keys",
-        "1",
-    ];
-    let format = [&format[..], &["--unit", "4"]].concat();
+    let format = [&["format", "b.img", "--unit", "4"], &NUMBERS[..]].concat();
     folder.bad(&format, 1, "format of unit 4: refused with 1200h");
     folder.bad(&["sample", "b.img", "--unit", "4"], 1, "refused with 1200h");
     folder.bad(&["ls", "a.img", "--unit", "256"], 2, "--unit: unit 256");
@@ -383,31 +360,8 @@ fn a_file_that_exists_is_replaced_by_force_only() {
         &["sample", "a.img"][..],
         &["get", "a.img", "PASS", "out"],
         &["map", "a.img", "--svg", "out"],
-        &[
-            "format",
-            "a.img",
-            "--sectors",
-            "20",
-            "--first",
-            "10",
-            "--slice",
-            "2",
-            "--keys",
-            "1",
-        ],
-        &[
-            "format",
-            "a.img",
-            "--sectors",
-            "20",
-            "--first",
-            "10",
-            "--slice",
-            "2",
-            "--keys",
-            "1",
-            "--new",
-        ],
+        &[&["format", "a.img"], &NUMBERS[..]].concat(),
+        &[&["format", "a.img", "--new"], &NUMBERS[..]].concat(),
     ] {
         folder.bad(
             arguments,

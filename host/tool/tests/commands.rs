@@ -2,7 +2,7 @@
 
 mod common;
 
-use common::{sector, Folder};
+use common::{sector, Folder, NUMBERS};
 
 /// The words of 'PASS', 'SYS' and 'MAP' by hand.
 const PASS: [u16; 3] = [0x5041, 0x5353, 0x0000];
@@ -29,26 +29,13 @@ fn format_writes_the_unit_of_p5() {
 fn format_by_force_keeps_the_words_that_format_does_not_write() {
     let folder = Folder::new();
     folder.write("a.img", &[0xA5; 512 * 20]);
-    let format = [
-        "format",
-        "a.img",
-        "--sectors",
-        "20",
-        "--first",
-        "10",
-        "--slice",
-        "2",
-        "--keys",
-        "1",
-        "--words",
-        "7,0x8",
-    ];
-    folder.good(&[&format[..], &["--force"]].concat());
+    let format = ["format", "a.img", "--words", "7,0x8", "--force"];
+    folder.good(&[&format[..], &NUMBERS].concat());
     let words = folder.words("a.img");
     assert_eq!(sector(&words, 8, 0, 9), [1, 2, 20, 8, 10, 20, 7, 8, 0]);
     assert_eq!(sector(&words, 5, 255, 1), [0xA5A5]);
     assert_eq!(sector(&words, 11, 0, 1), [0xA5A5]);
-    folder.good(&[&format[..], &["--force", "--new"]].concat());
+    folder.good(&[&format[..], &NUMBERS, &["--new"]].concat());
     let words = folder.words("a.img");
     assert_eq!(sector(&words, 8, 0, 9), [1, 2, 20, 8, 10, 20, 7, 8, 0]);
     assert_eq!(sector(&words, 5, 255, 1), [0]);

@@ -4,7 +4,7 @@ mod common;
 
 use std::process::{Command, Stdio};
 
-use common::{Done, Folder, TOOL};
+use common::{Done, Folder, NUMBERS, TOOL};
 
 /// Commands that change a.img, the small unit with PASS, with the numbers of a unit as `N` for
 /// short.
@@ -21,16 +21,6 @@ const COMMANDS: [&[&str]; 12] = [
     &["format", "pack", "N", "--force", "--offset", "3"],
     &["sample", "new.img"],
     &["sample", "a.img", "--force"],
-];
-const NUMBERS: [&str; 8] = [
-    "--sectors",
-    "20",
-    "--first",
-    "10",
-    "--slice",
-    "2",
-    "--keys",
-    "2",
 ];
 
 fn written_out(short: &[&'static str]) -> Vec<&'static str> {

@@ -14,7 +14,7 @@ use std::process::{Child, ChildStdin, Command, Stdio};
 use std::thread::sleep;
 use std::time::Duration;
 
-use common::{wait_for_lock, Done, Folder, TOOL};
+use common::{wait_for_lock, Done, Folder, NUMBERS, TOOL};
 
 extern "C" {
     fn setxattr(
@@ -27,18 +27,6 @@ extern "C" {
     fn getxattr(path: *const c_char, name: *const c_char, value: *mut c_void, size: usize)
         -> isize;
 }
-
-/// The numbers of document 01's small unit.
-const NUMBERS: [&str; 8] = [
-    "--sectors",
-    "20",
-    "--first",
-    "10",
-    "--slice",
-    "2",
-    "--keys",
-    "1",
-];
 
 /// Two small units, a.img empty and b.img with PASS, whose two sectors are full of 7s.
 fn folder() -> Folder {

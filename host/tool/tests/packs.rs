@@ -4,19 +4,8 @@ mod common;
 
 use std::fs;
 
-use common::Folder;
+use common::{Folder, NUMBERS};
 
-/// The numbers of document 01's small unit.
-const NUMBERS: [&str; 8] = [
-    "--sectors",
-    "20",
-    "--first",
-    "10",
-    "--slice",
-    "2",
-    "--keys",
-    "1",
-];
 /// The bytes of a unit of 20 sectors.
 const UNIT: usize = 512 * 20;
 /// The sector of the packs here at which the unit begins, and the bytes before it.

@@ -13,6 +13,18 @@ use std::time::{Duration, Instant};
 /// The tool.
 pub const TOOL: &str = env!("CARGO_BIN_EXE_ruzkemp");
 
+/// The numbers of document 01's small unit: N = 20, F = 10, s = 2, H = 1.
+pub const NUMBERS: [&str; 8] = [
+    "--sectors",
+    "20",
+    "--first",
+    "10",
+    "--slice",
+    "2",
+    "--keys",
+    "1",
+];
+
 static FOLDERS: AtomicUsize = AtomicUsize::new(0);
 
 /// A temporary folder; the tool runs in it.
@@ -144,20 +156,9 @@ impl Folder {
         assert!(*before == self.snapshot(), "{arguments:?} changed a file");
     }
 
-    /// Document 01's small unit: H = 1, s = 2, N = 20, F = 10.
+    /// Document 01's small unit.
     pub fn small(&self, name: &str) {
-        self.good(&[
-            "format",
-            name,
-            "--sectors",
-            "20",
-            "--first",
-            "10",
-            "--slice",
-            "2",
-            "--keys",
-            "1",
-        ]);
+        self.good(&[&["format", name], &NUMBERS[..]].concat());
     }
 }
 
