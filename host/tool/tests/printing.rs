@@ -5,7 +5,7 @@ mod common;
 
 use std::collections::BTreeMap;
 use std::fs::File;
-use std::io::{self, Read};
+use std::io::{self, Read, Write};
 use std::process::{Command, Stdio};
 use std::sync::OnceLock;
 
@@ -122,8 +122,11 @@ fn full() -> Stdio {
 
 /// A pipe that nobody reads.
 fn closed() -> Stdio {
-    let (reader, writer) = io::pipe().expect("a pipe");
+    let (reader, mut writer) = io::pipe().expect("a pipe");
     drop(reader);
+    // A process that another thread is starting has a copy of the reader until it becomes its
+    // program.
+    while writer.write_all(&[0]).is_ok() {}
     writer.into()
 }
 

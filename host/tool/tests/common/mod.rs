@@ -168,11 +168,16 @@ impl Drop for Folder {
     }
 }
 
-/// Waits until a running tool has locked a file.
+/// Waits until a running tool has locked a file. A tool that meets the lock with which this asks
+/// only waits for it.
 pub fn wait_for_lock(path: &Path, child: &mut Child) {
     let is_locked = || {
         let file = File::open(path).expect("it is there");
-        matches!(file.try_lock(), Err(TryLockError::WouldBlock))
+        let asked = file.try_lock_shared();
+        // To close the file would not do: a process that another thread is starting has a copy of
+        // the descriptor, with the lock, until it becomes its program.
+        let _ = file.unlock();
+        matches!(asked, Err(TryLockError::WouldBlock))
     };
     let began = Instant::now();
     while !is_locked() {
