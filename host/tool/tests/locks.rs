@@ -5,6 +5,7 @@ mod common;
 
 use std::ffi::{c_char, c_int, c_void, CString};
 use std::fs;
+use std::io::ErrorKind::{InvalidInput, PermissionDenied};
 use std::io::{self, Write};
 use std::os::unix::ffi::OsStrExt;
 use std::os::unix::fs::{chown, MetadataExt, PermissionsExt};
@@ -12,7 +13,7 @@ use std::os::unix::process::CommandExt;
 use std::path::Path;
 use std::process::{Child, ChildStdin, Command, Stdio};
 use std::thread::sleep;
-use std::time::Duration;
+use std::time::{Duration, Instant};
 
 use common::{wait_for_lock, Done, Folder, NUMBERS, TOOL};
 
@@ -49,6 +50,35 @@ fn slow_put(folder: &Folder) -> (Child, ChildStdin) {
     (child, stdin)
 }
 
+/// Whether the system lists a process as one that has a lock or, with an arrow, waits for one.
+fn is_listed(child: &Child, waits: bool) -> bool {
+    let process = child.id().to_string();
+    let is_its = |line: &str| {
+        let words: Vec<&str> = line.split_whitespace().collect();
+        words.contains(&"FLOCK") && words.contains(&&*process) && words.contains(&"->") == waits
+    };
+    let listed = fs::read_to_string("/proc/locks").unwrap_or_default();
+    listed.lines().any(is_its)
+}
+
+/// Waits until a process is seen to wait for the lock that another has. Where the system does not
+/// list locks, it has not ended after a while.
+fn wait_for_waiting(holder: &Child, child: &mut Child) {
+    let is_told = is_listed(holder, false);
+    let began = Instant::now();
+    let waits = |child: &Child| match is_told {
+        true => is_listed(child, true),
+        false => began.elapsed() > Duration::from_millis(400),
+    };
+    while !waits(child) {
+        let ended = child.try_wait().expect("it is a child");
+        assert!(ended.is_none(), "it does not wait: {ended:?}");
+        let is_late = began.elapsed() > Duration::from_secs(60);
+        assert!(!is_late, "it is not seen to wait");
+        sleep(Duration::from_millis(1));
+    }
+}
+
 /// Runs a command while a slow `put` has the lock, and lets that end only when the command has
 /// been seen to wait; how the command ended.
 fn after_slow_put(folder: &Folder, arguments: &[&str]) -> Done {
@@ -57,9 +87,7 @@ fn after_slow_put(folder: &Folder, arguments: &[&str]) -> Done {
     command.stdin(Stdio::null());
     command.stdout(Stdio::piped()).stderr(Stdio::piped());
     let mut second = command.spawn().expect("the tool runs");
-    sleep(Duration::from_millis(400));
-    let ended = second.try_wait().expect("it is a child");
-    assert!(ended.is_none(), "{arguments:?} does not wait");
+    wait_for_waiting(&first, &mut second);
     stdin.write_all(&[5; 100]).expect("the tool reads");
     drop(stdin);
     assert!(first.wait().expect("it ends").success());
@@ -136,6 +164,15 @@ fn a_file_that_appears_is_replaced_by_force() {
 /// A user and a group that are nobody's.
 const STRANGER: u32 = 54_321;
 
+/// A copy of the tool that all may run: its own folder may be closed to others. A file that this
+/// process itself writes may still be open in one that another thread is starting, and cannot be run
+/// then.
+fn copy_tool(path: &Path) {
+    let copied = Command::new("cp").arg(TOOL).arg(path).status();
+    assert!(copied.expect("cp runs").success());
+    fs::set_permissions(path, fs::Permissions::from_mode(0o755)).expect("it is ours");
+}
+
 /// Runs `create a.img NEW` as a user without privileges, where a.img has an owner, a group and a
 /// mode; what is warned of, and what it has then. None where users cannot be changed.
 fn by_a_stranger(
@@ -145,22 +182,22 @@ fn by_a_stranger(
     let (image, tool) = (folder.file("a.img"), folder.file("tool"));
     let open = fs::Permissions::from_mode(0o777);
     fs::set_permissions(folder.path(), open).expect("it is ours");
-    // The tool's own folder may be closed to others.
-    fs::copy(TOOL, &tool).expect("copied");
+    copy_tool(&tool);
     fs::set_permissions(&image, fs::Permissions::from_mode(mode)).expect("it is ours");
-    let stranger = |arguments: &[&str]| {
-        let mut command = Command::new(&tool);
-        command.args(arguments).current_dir(folder.path());
-        command.uid(STRANGER).gid(STRANGER).output()
+    let mut stranger = Command::new(&tool);
+    stranger.args(["create", "a.img", "NEW"]);
+    stranger.current_dir(folder.path());
+    stranger.uid(STRANGER).gid(STRANGER);
+    let ran = chown(&image, Some(owner), Some(group)).and_then(|()| stranger.output());
+    let done: Done = match ran {
+        Ok(output) => output.into(),
+        // The user is not privileged, or the system has no such user.
+        Err(error) if [PermissionDenied, InvalidInput].contains(&error.kind()) => {
+            eprintln!("skipped: how another's file is replaced cannot be tried: {error}");
+            return None;
+        }
+        Err(error) => panic!("{error}"),
     };
-    let can_run = stranger(&["--version"]).is_ok_and(|output| output.status.success());
-    if chown(&image, Some(owner), Some(group)).is_err() || !can_run {
-        eprintln!("skipped: only a privileged user can try how another's file is replaced");
-        return None;
-    }
-    let done: Done = stranger(&["create", "a.img", "NEW"])
-        .expect("it runs")
-        .into();
     assert_eq!(done.status, 0, "{done:?}");
     let now = fs::metadata(&image).expect("it is there");
     Some((done.err, (now.uid(), now.gid(), now.mode() & 0o7777)))
