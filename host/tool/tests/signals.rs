@@ -179,25 +179,45 @@ fn a_signal_that_was_ignored_stays_so() {
     }
 }
 
+/// Sends a `create` a signal after a while; whether the image is changed, which the end has to tell.
+/// Then the image is as it was.
+fn is_created(folder: &Folder, before_signal: Duration) -> bool {
+    let original = folder.read("a.img");
+    let mut command = folder.command(&["create", "a.img", "NEW"]);
+    command.stdin(Stdio::null()).stdout(Stdio::null());
+    let mut child = command.spawn().expect("the tool runs");
+    sleep(before_signal);
+    send(&child, TERMINATE);
+    let ended = child.wait().expect("it ends");
+    let is_changed = folder.read("a.img") != original;
+    let told = match is_changed {
+        true => ended.code() == Some(0),
+        false => ended.signal() == Some(TERMINATE),
+    };
+    assert!(told, "{ended:?}, changed: {is_changed}");
+    assert!(!has_temporary(folder));
+    folder.write("a.img", &original);
+    is_changed
+}
+
 /// Whenever a signal comes, status 0 stands for a changed image and the signal for an old one.
 #[test]
 fn the_end_tells_whether_the_image_is_changed() {
     let folder = Folder::new();
     folder.small("a.img");
-    let original = folder.read("a.img");
     let mut ends = [0; 2];
-    for number in 0..200 {
-        let mut command = folder.command(&["create", "a.img", "NEW"]);
-        command.stdin(Stdio::null()).stdout(Stdio::null());
-        let mut child = command.spawn().expect("the tool runs");
-        sleep(Duration::from_micros(number % 100 * 40));
-        send(&child, TERMINATE);
-        let ended = child.wait().expect("it ends");
-        let is_changed = folder.read("a.img") != original;
-        assert_eq!(ended.code() == Some(0), is_changed, "{ended:?}");
-        assert!(!has_temporary(&folder));
+    // It comes sooner after a change and later after none, so that most come near the commit,
+    // however long the machine takes until then.
+    let mut before_signal = Duration::from_millis(1);
+    for _ in 0..200 {
+        let is_changed = is_created(&folder, before_signal);
         ends[usize::from(is_changed)] += 1;
-        folder.write("a.img", &original);
+        before_signal = match is_changed {
+            true => before_signal * 3 / 4,
+            false => before_signal * 5 / 4 + Duration::from_micros(10),
+        };
     }
-    println!("{} ended by the signal, {} changed", ends[0], ends[1]);
+    let [signalled, changed] = ends;
+    println!("{signalled} ended by the signal, {changed} changed");
+    assert!(signalled > 0 && changed > 0, "only one end is seen");
 }
