@@ -1,4 +1,4 @@
-//! The worked session of docs/TOOL.md prints what stands in the document.
+//! The worked sessions of docs/TOOL.md and README.md print what stands there.
 
 mod common;
 
@@ -15,42 +15,32 @@ struct Step {
     printed: String,
 }
 
-/// The lines of the document's `console` blocks: `$ ` begins a command, `> ` goes on with it,
-/// all others are what it prints.
-fn steps(document: &str) -> Vec<Step> {
+/// The lines of a session: `$ ` begins a command, `> ` goes on with it, all others are what it
+/// prints.
+fn steps<'a>(lines: impl Iterator<Item = &'a str>) -> Vec<Step> {
     let mut steps: Vec<Step> = Vec::new();
-    let mut inside = false;
-    for line in document.lines() {
-        match (inside, line) {
-            (_, "```console") => inside = true,
-            (_, "```") => inside = false,
-            (false, _) => {}
-            (true, line) => match (line.strip_prefix("$ "), line.strip_prefix("> ")) {
-                (Some(command), _) => steps.push(Step {
-                    command: command.to_string(),
-                    printed: String::new(),
-                }),
-                (None, Some(more)) => {
-                    let step = steps.last_mut().expect("a command goes before");
-                    step.command += &format!("\n{more}");
-                }
-                (None, None) => {
-                    let step = steps.last_mut().expect("a command goes before");
-                    step.printed += &format!("{line}\n");
-                }
-            },
+    for line in lines {
+        match (line.strip_prefix("$ "), line.strip_prefix("> ")) {
+            (Some(command), _) => steps.push(Step {
+                command: command.to_string(),
+                printed: String::new(),
+            }),
+            (None, Some(more)) => {
+                let step = steps.last_mut().expect("a command goes before");
+                step.command += &format!("\n{more}");
+            }
+            (None, None) => {
+                let step = steps.last_mut().expect("a command goes before");
+                step.printed += &format!("{line}\n");
+            }
         }
     }
     steps
 }
 
-#[test]
-fn the_document_tells_what_the_tool_prints() {
-    let docs = Path::new(env!("CARGO_MANIFEST_DIR")).join("../../docs");
-    let document = fs::read_to_string(docs.join("TOOL.md")).expect("the document");
-    let steps = steps(&document);
-    assert!(steps.len() > 30, "{} commands are found", steps.len());
-    let folder = Folder::new();
+/// Runs a session of more than `least` commands in a folder.
+fn prints_what_stands_there(folder: &Folder, steps: &[Step], least: usize) {
+    assert!(steps.len() > least, "{} commands are found", steps.len());
     let tools = Path::new(TOOL).parent().expect("a folder").to_path_buf();
     let old = env::var_os("PATH").unwrap_or_default();
     let paths = env::join_paths([tools].into_iter().chain(env::split_paths(&old)));
@@ -61,17 +51,46 @@ fn the_document_tells_what_the_tool_prints() {
         shell.current_dir(folder.path()).env("PATH", &paths);
         let output = shell.stdin(Stdio::null()).output().expect("sh runs");
         let said = String::from_utf8(output.stdout).expect("UTF-8");
-        assert_eq!(said, printed, "$ {command}");
+        assert_eq!(said, *printed, "$ {command}");
     }
-    let picture = fs::read(docs.join("sample-disc.svg")).expect("the picture");
-    assert!(folder.read("disc.svg") == picture, "the picture is another");
+}
+
+fn document(name: &str) -> String {
+    let path = Path::new(env!("CARGO_MANIFEST_DIR"))
+        .join("../..")
+        .join(name);
+    fs::read_to_string(path).expect("the document")
+}
+
+/// The session of docs/TOOL.md is that of its `console` blocks.
+#[test]
+fn the_document_tells_what_the_tool_prints() {
+    let text = document("docs/TOOL.md");
+    let blocks = text.split("\n```console\n").skip(1);
+    let blocks = blocks.map(|rest| rest.split("\n```").next().expect("a block"));
+    let folder = Folder::new();
+    prints_what_stands_there(&folder, &steps(blocks.flat_map(str::lines)), 30);
+    let is_the_same = folder.read("disc.svg") == document("docs/sample-disc.svg").as_bytes();
+    assert!(is_the_same, "the picture is another");
+}
+
+/// The session of README.md is what is indented in its section about the tool, from the first command
+/// on.
+#[test]
+fn the_readme_tells_what_the_tool_prints() {
+    let readme = document("README.md");
+    let sections = readme.split("\n## ");
+    let section = sections.skip_while(|section| !section.starts_with("The tool\n"));
+    let section = section.take(1).flat_map(str::lines);
+    let indented = section.filter_map(|line| line.strip_prefix("    "));
+    let session = indented.skip_while(|line| !line.starts_with("$ "));
+    prints_what_stands_there(&Folder::new(), &steps(session), 5);
 }
 
 /// Every command and every message of a script is in the document.
 #[test]
 fn the_document_names_every_command() {
-    let document = Path::new(env!("CARGO_MANIFEST_DIR")).join("../../docs/TOOL.md");
-    let document = fs::read_to_string(document).expect("the document");
+    let document = document("docs/TOOL.md");
     let help = Folder::new().good(&["help"]);
     let commands = help.lines().skip_while(|line| *line != "Commands:").skip(1);
     for line in commands.take_while(|line| !line.is_empty()) {
