@@ -628,16 +628,6 @@ fn files_of_the_host_are_kept() {
     folder.write("elsewhere", b"kept");
     symlink(folder.file("elsewhere"), folder.file("out/SKI")).expect("a link");
     folder.bad(&forced, 3, "out/SKI: this is a link, which is not followed");
-    // The image is not written over, under whatever name.
-    fs::remove_dir_all(folder.file("out")).expect("removed");
-    fs::create_dir(folder.file("out")).expect("a folder");
-    fs::hard_link(folder.file("a.img"), folder.file("out/SKI")).expect("linked");
-    folder.bad(&forced, 2, "out/SKI is the image itself");
-    folder.bad(
-        &["get", "a.img", "SKI", "a.img", "--unsound", "--force"],
-        2,
-        "is the image itself",
-    );
     folder.bad(
         &["get", "a.img", "SKI", "elsewhere", "--unsound"],
         3,
@@ -645,6 +635,26 @@ fn files_of_the_host_are_kept() {
     );
     folder.write("file", b"no folder");
     folder.bad(&["get", "a.img", "--all", "file", "--unsound"], 3, "file: ");
+}
+
+#[test]
+fn the_image_is_not_written_over_under_whatever_name() {
+    let folder = damaged(&[(entry(12, 2, 7), 40)]);
+    fs::create_dir(folder.file("out")).expect("a folder");
+    fs::hard_link(folder.file("a.img"), folder.file("out/SKI")).expect("linked");
+    for (line, words) in [
+        (
+            ["get", "a.img", "--all", "out"],
+            "out/SKI is the image itself",
+        ),
+        (
+            ["get", "a.img", "SKI", "a.img"],
+            "a.img is the image itself",
+        ),
+    ] {
+        let forced = [&line[..], &["--unsound", "--force"]].concat();
+        folder.bad(&forced, 2, words);
+    }
 }
 
 /// Options that do not go together, or without `--unsound`.
