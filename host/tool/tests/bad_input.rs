@@ -7,7 +7,7 @@ use std::fs;
 use std::os::unix::fs::{symlink, PermissionsExt};
 use std::process::{Command, Stdio};
 
-use common::{Done, Folder, NUMBERS, TOOL};
+use common::{numbers, Done, Folder, NUMBERS, TOOL};
 
 /// Every command that works on an image, with operands that suit the small unit with PASS.
 const ON_IMAGE: [&[&str]; 11] = [
@@ -176,24 +176,13 @@ fn on_full_disc(folder: &Folder, blocks: usize, arguments: &[&str]) -> Done {
 fn on_a_full_host_disc_nothing_is_lost() {
     let folder = folder();
     let changing: Vec<&[&str]> = ON_IMAGE[CHANGING..].to_vec();
+    let other = numbers(["20", "10", "5", "1"]);
     let others: [&[&str]; 5] = [
         &["sample", "new.img"],
         &["sample", "a.img", "--force"],
         &["map", "a.img", "--svg", "map.svg"],
         &[&["format", "new.img"], &NUMBERS[..]].concat(),
-        &[
-            "format",
-            "a.img",
-            "--sectors",
-            "20",
-            "--first",
-            "10",
-            "--slice",
-            "5",
-            "--keys",
-            "1",
-            "--force",
-        ],
+        &[&["format", "a.img", "--force"], &other[..]].concat(),
     ];
     for arguments in changing.into_iter().chain(others) {
         let before = folder.snapshot();
@@ -387,7 +376,7 @@ fn the_image_itself_is_not_written_over_even_by_force() {
 #[test]
 fn the_limits_of_format_are_told() {
     let folder = folder();
-    for (numbers, why) in [
+    for (given, why) in [
         (["20", "10", "2", "0"], "H (--keys) has to be 1 to 64"),
         (["20", "10", "2", "65"], "H (--keys) has to be 1 to 64"),
         (["20", "10", "1", "1"], "s (--slice) has to be 2 to 64"),
@@ -399,37 +388,14 @@ fn the_limits_of_format_are_told() {
         (["8204", "10", "2", "1"], "there are more than 4096 slices"),
         (["20", "10", "2", "11"], "there are too few slices for SYS"),
     ] {
-        let [sectors, first, slice, keys] = numbers;
-        let arguments = [
-            "format",
-            "b.img",
-            "--sectors",
-            sectors,
-            "--first",
-            first,
-            "--slice",
-            slice,
-            "--keys",
-            keys,
-        ];
-        let done = folder.bad(&arguments, 1, "refused with 1200h");
+        let format = [&["format", "b.img"], &numbers(given)[..]].concat();
+        let done = folder.bad(&format, 1, "refused with 1200h");
         assert!(done.err.contains(why), "{done:?}");
     }
     // An old image of another length.
-    let arguments = [
-        "format",
-        "a.img",
-        "--sectors",
-        "22",
-        "--first",
-        "10",
-        "--slice",
-        "2",
-        "--keys",
-        "1",
-        "--force",
-    ];
-    folder.bad(&arguments, 1, "the file has 20 sectors, and N is 22");
+    let longer = numbers(["22", "10", "2", "1"]);
+    let format = [&["format", "a.img", "--force"], &longer[..]].concat();
+    folder.bad(&format, 1, "the file has 20 sectors, and N is 22");
 }
 
 #[test]

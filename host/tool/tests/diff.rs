@@ -2,7 +2,7 @@
 
 mod common;
 
-use common::{Done, Folder};
+use common::{numbers, Done, Folder};
 
 /// A folder with the small unit twice, `a.img` with PASS and GATE, and a copy of it.
 fn folder() -> Folder {
@@ -159,23 +159,9 @@ fn the_length_of_the_catalog_is_a_difference_of_the_layout() {
 #[test]
 fn the_numbers_of_the_unit_are_compared() {
     let folder = folder();
-    let format = [
-        "format",
-        "b.img",
-        "--sectors",
-        "32",
-        "--first",
-        "11",
-        "--slice",
-        "3",
-        "--keys",
-        "2",
-        "--words",
-        "1,0xF",
-        "--force",
-        "--new",
-    ];
-    folder.good(&format);
+    let format = ["format", "b.img", "--words", "1,0xF", "--force", "--new"];
+    let others = numbers(["32", "11", "3", "2"]);
+    folder.good(&[&format[..], &others].concat());
     let numbers = "a.img and b.img differ in the unit's numbers and 2 files\n";
     let said = differences(&folder, &[], numbers);
     let wanted = "\

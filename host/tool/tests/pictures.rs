@@ -5,7 +5,7 @@ mod common;
 
 use std::collections::BTreeMap;
 
-use common::Folder;
+use common::{numbers, Folder};
 use reference::layout::stretches;
 use reference::plain::Plain;
 use reference::random::Random;
@@ -124,18 +124,8 @@ fn slices(plain: &Plain, name: &str) -> Vec<usize> {
 
 /// A unit with many files in many stretches.
 fn crowded(folder: &Folder) {
-    folder.good(&[
-        "format",
-        "a.img",
-        "--sectors",
-        "2010",
-        "--first",
-        "10",
-        "--slice",
-        "2",
-        "--keys",
-        "7",
-    ]);
+    let numbers = numbers(["2010", "10", "2", "7"]);
+    folder.good(&[&["format", "a.img"], &numbers[..]].concat());
     let random = &mut Random::new(5);
     let mut script = String::from("init\n");
     for round in 0..9 {

@@ -9,7 +9,7 @@ use std::io::{self, Read, Write};
 use std::process::{Command, Stdio};
 use std::sync::OnceLock;
 
-use common::{Done, Folder, TOOL};
+use common::{numbers, Done, Folder, TOOL};
 
 /// Commands that write a file and then print what they have done.
 const WRITING: [&[&str]; 24] = [
@@ -76,16 +76,7 @@ const PRINTING: [&[&str]; 20] = [
 fn arguments(short: &[&'static str]) -> Vec<&'static str> {
     match short {
         ["format", image, sectors, first, slice, keys, rest @ ..] => {
-            let numbers = [
-                "--sectors",
-                sectors,
-                "--first",
-                first,
-                "--slice",
-                slice,
-                "--keys",
-                keys,
-            ];
+            let numbers = numbers([sectors, first, slice, keys]);
             [&["format", image], &numbers[..], rest].concat()
         }
         other => other.to_vec(),

@@ -11,7 +11,7 @@ use std::process::{Child, ExitStatus, Stdio};
 use std::thread::sleep;
 use std::time::{Duration, Instant};
 
-use common::{wait_for_lock, Folder, TOOL};
+use common::{numbers, wait_for_lock, Folder, TOOL};
 
 extern "C" {
     fn kill(process: c_int, signal: c_int) -> c_int;
@@ -94,18 +94,8 @@ fn is_undone(folder: &Folder, arguments: &[&str], again: impl Fn(&Folder, ExitSt
 /// A unit of 32,767 sectors with BIG, of 30,000 sectors.
 fn large() -> Folder {
     let folder = Folder::new();
-    folder.good(&[
-        "format",
-        "a.img",
-        "--sectors",
-        "32767",
-        "--first",
-        "15",
-        "--slice",
-        "8",
-        "--keys",
-        "1",
-    ]);
+    let numbers = numbers(["32767", "15", "8", "1"]);
+    folder.good(&[&["format", "a.img"], &numbers[..]].concat());
     folder.good(&["create", "a.img", "BIG", "--size", "30000"]);
     folder
 }

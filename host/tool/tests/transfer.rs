@@ -6,7 +6,7 @@ use std::fs;
 use std::process::Stdio;
 use std::thread;
 
-use common::{sector, Folder, TOOL};
+use common::{numbers, sector, Folder, TOOL};
 
 /// Bytes in which every block differs from every other.
 fn bytes(number: usize) -> Vec<u8> {
@@ -18,18 +18,8 @@ fn bytes(number: usize) -> Vec<u8> {
 /// A unit with 63 slices of 8 sectors.
 fn folder() -> Folder {
     let folder = Folder::new();
-    folder.good(&[
-        "format",
-        "a.img",
-        "--sectors",
-        "514",
-        "--first",
-        "10",
-        "--slice",
-        "8",
-        "--keys",
-        "3",
-    ]);
+    let numbers = numbers(["514", "10", "8", "3"]);
+    folder.good(&[&["format", "a.img"], &numbers[..]].concat());
     folder
 }
 

@@ -13,17 +13,22 @@ use std::time::{Duration, Instant};
 /// The tool.
 pub const TOOL: &str = env!("CARGO_BIN_EXE_ruzkemp");
 
-/// The numbers of document 01's small unit: N = 20, F = 10, s = 2, H = 1.
-pub const NUMBERS: [&str; 8] = [
-    "--sectors",
-    "20",
-    "--first",
-    "10",
-    "--slice",
-    "2",
-    "--keys",
-    "1",
-];
+/// The options of `format` for N, F, s and H.
+pub const fn numbers([sectors, first, slice, keys]: [&str; 4]) -> [&str; 8] {
+    [
+        "--sectors",
+        sectors,
+        "--first",
+        first,
+        "--slice",
+        slice,
+        "--keys",
+        keys,
+    ]
+}
+
+/// Those of document 01's small unit.
+pub const NUMBERS: [&str; 8] = numbers(["20", "10", "2", "1"]);
 
 static FOLDERS: AtomicUsize = AtomicUsize::new(0);
 
