@@ -10,7 +10,7 @@ use std::os::unix::ffi::OsStrExt;
 use std::os::unix::fs::{symlink, PermissionsExt};
 use std::process::{Command, Stdio};
 
-use common::{Folder, TOOL};
+use common::{Done, Folder, TOOL};
 
 /// A page that the tool makes of `disc.img`.
 fn page(folder: &Folder) -> String {
@@ -519,24 +519,64 @@ fn a_table_of_many_rows_is_a_long_one() {
     assert!(page.contains("<table id=\"free\">"));
 }
 
-/// A browser that ends at once is none that could show the page: the browser test says so in a line.
-#[test]
-fn without_a_browser_that_works_the_browser_test_is_skipped() {
-    let folder = Folder::new();
-    folder.write("chromium", b"#!/bin/sh\nexit 1\n");
-    let mode = fs::Permissions::from_mode(0o755);
-    fs::set_permissions(folder.file("chromium"), mode).expect("a program");
+/// Makes a program in a folder. A file that this process itself writes may still be open in one that
+/// another thread is starting, and cannot be run then.
+fn program(folder: &Folder, name: &str, script: &str) {
+    let mut shell = Command::new("sh");
+    let make = "printf '#!/bin/sh\\n%s' \"$1\" > \"$0\" && chmod 755 \"$0\"";
+    shell.arg("-c").arg(make).arg(folder.file(name)).arg(script);
+    assert!(shell.status().expect("sh runs").success());
+}
+
+/// Runs the browser test with the programs of a folder.
+fn browser_test(folder: &Folder) -> Done {
     let path = std::env::var("PATH").expect("a path");
     let path = format!("{}:{path}", folder.path().display());
     let run = concat!(env!("CARGO_MANIFEST_DIR"), "/tests/browser/run");
     let output = Command::new(run).arg(TOOL).env("PATH", path).output();
-    let output = output.expect("the test's program runs");
-    let out = String::from_utf8(output.stdout).expect("UTF-8");
-    assert!(output.status.success(), "{out}");
-    assert!(
-        out.starts_with("browser test skipped: ") && out.lines().count() == 1,
-        "{out}"
+    output.expect("the test's program runs").into()
+}
+
+/// One line says that the browser test is skipped, and the status is 0.
+fn is_skipped(done: &Done) -> bool {
+    let Done { status, out, .. } = done;
+    *status == 0 && out.starts_with("browser test skipped: ") && out.lines().count() == 1
+}
+
+/// A browser that ends at once is none that could show the page.
+#[test]
+fn without_a_browser_that_works_the_browser_test_is_skipped() {
+    let folder = Folder::new();
+    program(&folder, "chromium", "exit 1\n");
+    let done = browser_test(&folder);
+    assert!(is_skipped(&done), "{done:?}");
+}
+
+/// How the browser test ends where the checks of the reports end with a status, and the browser is
+/// tried once more with another: here a program in the place of python3 says so.
+fn after_checks(checks: i32, again: i32) -> Done {
+    let folder = Folder::new();
+    program(&folder, "chromium", "exit 1\n");
+    let script = format!(
+        "case $1 in\n\
+         */checks.py) : > \"$0.checked\"; echo silent; exit {checks} ;;\n\
+         */chromium.py) [ ! -e \"$0.checked\" ] || exit {again} ;;\n\
+         esac\n"
     );
+    program(&folder, "python3", &script);
+    browser_test(&folder)
+}
+
+/// A browser that works before a report is opened and after it is none to be excused.
+#[test]
+fn a_report_with_which_the_browser_does_not_answer_makes_the_browser_test_fail() {
+    for checks in [77, 124, 137] {
+        let done = after_checks(checks, 0);
+        assert_eq!(done.status, 1, "{done:?}");
+        assert!(done.err.starts_with("browser test failed: "), "{done:?}");
+        let done = after_checks(checks, 77);
+        assert!(is_skipped(&done), "{done:?}");
+    }
 }
 
 #[test]

@@ -431,7 +431,7 @@ def check_speed(page, disc):
 
 def main():
     made = discs()
-    page = Page(CHROMIUM, 280)
+    page = Page(CHROMIUM, 580)
     try:
         sample, many = made["sample"], made["many"]
         checks = [

@@ -28,6 +28,8 @@ FLAGS = [
 
 # The status of a program that the browser let down.
 UNUSABLE = 77
+# How many seconds a browser that works may be silent while something is waited for.
+SILENCE = 60
 
 
 class Trouble(Exception):
@@ -92,7 +94,7 @@ class Page:
     def message(self):
         """The next message of the browser; messages end with a zero byte."""
         while b"\0" not in self.rest:
-            left = self.deadline - time.monotonic()
+            left = min(self.deadline - time.monotonic(), SILENCE)
             if left <= 0 or not select.select([self.answers], [], [], left)[0]:
                 raise Trouble("the browser does not answer")
             read = os.read(self.answers, 1 << 16)
