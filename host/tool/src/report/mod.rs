@@ -19,8 +19,8 @@ const PAGE: &str = include_str!("page.html");
 const STYLE: &str = include_str!("page.css");
 const SCRIPT: &str = include_str!("page.js");
 /// The sums of the style and of the script, by which the policy allows these two alone.
-const STYLE_SUM: &str = "sha256-eetgeFph62rOve1u/ReaokFsg2Mvtt3daekCObOZyMU=";
-const SCRIPT_SUM: &str = "sha256-RrKi1CRm5JwOyjr61BVDGuZlEF9V/4MFnFudIgfAuEw=";
+const STYLE_SUM: &str = "sha256-AWMI90TGZcxkdjkCzndRDekk77eR6FmpKhHPlz5EOfY=";
+const SCRIPT_SUM: &str = "sha256-hA9mqMpNqTX0K93QxUd7FaRXmnAPMcy9v2G5iuMrTV0=";
 
 /// The page.
 pub fn page(subject: &Subject) -> String {

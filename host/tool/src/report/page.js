@@ -251,14 +251,14 @@
       this.part("lines").setAttribute("d", columns.map((x) => `M${x} 0V${this.bottom}`).join(""));
     }
 
-    /* Marks an owner, everything else fading under a veil with holes, and a slice. */
+    /* Marks an owner, by dimming everything but its bars, and a slice. */
     mark(owner, slice) {
       const { left, height } = this.unit;
       this.over.replaceChildren();
       if (owner && owner.slices) {
         const bars = owner.stretches.map((stretch) => this.path(stretch)).join("");
-        const veil = `M${left} -2H${this.width}V${this.bottom + 2}H${left}z${bars}`;
-        this.make("path", { class: "veil", "fill-rule": "evenodd", d: veil }, this.over);
+        const others = `M${left} -2H${this.width}V${this.bottom + 2}H${left}z${bars}`;
+        this.make("path", { class: "dim", "fill-rule": "evenodd", d: others }, this.over);
         this.make("path", { class: "lit", d: bars }, this.over);
       }
       if (slice) this.make("rect", { class: "cell", ...this.corner(slice), width: this.cell, height, rx: 2 }, this.over);
@@ -306,7 +306,7 @@
 
   /* The map and the tables together: what is pointed at is marked in both, a click keeps it. */
 
-  class Desk {
+  class View {
     constructor(map) {
       this.map = map;
       this.unit = read(map);
@@ -411,72 +411,72 @@
     }
   }
 
-  function followPointer(desk) {
-    desk.map.addEventListener("pointermove", (event) => {
-      const slice = desk.picture.sliceAt(event);
-      if (slice) desk.visit(slice, { x: event.clientX, y: event.clientY });
-      else desk.leave();
+  function followPointer(view) {
+    view.map.addEventListener("pointermove", (event) => {
+      const slice = view.picture.sliceAt(event);
+      if (slice) view.visit(slice, { x: event.clientX, y: event.clientY });
+      else view.leave();
     });
-    desk.map.addEventListener("pointerleave", (event) => {
-      if (event.pointerType === "mouse") desk.leave();
+    view.map.addEventListener("pointerleave", (event) => {
+      if (event.pointerType === "mouse") view.leave();
     });
-    desk.map.addEventListener("click", (event) => {
-      const slice = desk.picture.sliceAt(event);
+    view.map.addEventListener("click", (event) => {
+      const slice = view.picture.sliceAt(event);
       if (!slice) return;
-      desk.cursor = slice;
+      view.cursor = slice;
       /* A tap has no pointermove. */
-      desk.visit(slice, { x: event.clientX, y: event.clientY });
-      desk.choose(slice);
+      view.visit(slice, { x: event.clientX, y: event.clientY });
+      view.choose(slice);
     });
   }
 
   /* The page moves below a tip: that of the keyboard follows its slice, any other goes. */
-  function followScroll(desk) {
+  function followScroll(view) {
     addEventListener("scroll", () => {
-      const { y } = desk.picture.below(desk.cursor);
-      if (desk.byKeys && y > 0 && y < innerHeight) desk.showCursor();
-      else if (!desk.tip.element.hidden) desk.leave();
+      const { y } = view.picture.below(view.cursor);
+      if (view.byKeys && y > 0 && y < innerHeight) view.showCursor();
+      else if (!view.tip.element.hidden) view.leave();
     }, { passive: true });
   }
 
-  function followKeys(desk) {
-    desk.map.tabIndex = 0;
-    desk.map.addEventListener("focus", () => {
-      if (desk.map.matches(":focus-visible")) desk.stand(desk.cursor);
+  function followKeys(view) {
+    view.map.tabIndex = 0;
+    view.map.addEventListener("focus", () => {
+      if (view.map.matches(":focus-visible")) view.stand(view.cursor);
     });
-    desk.map.addEventListener("blur", () => desk.leave());
-    desk.map.addEventListener("keydown", (event) => {
-      const slice = desk.next(event.key);
+    view.map.addEventListener("blur", () => view.leave());
+    view.map.addEventListener("keydown", (event) => {
+      const slice = view.next(event.key);
       if (slice === undefined && !isEnter(event)) return;
       event.preventDefault();
-      if (isEnter(event)) desk.choose(desk.cursor);
-      else desk.stand(slice);
+      if (isEnter(event)) view.choose(view.cursor);
+      else view.stand(slice);
     });
     document.addEventListener("keydown", (event) => {
       if (event.key !== "Escape") return;
-      desk.keep(null);
-      desk.leave();
-      desk.point(null, 0);
+      view.keep(null);
+      view.leave();
+      view.point(null, 0);
     });
   }
 
-  function followRows(desk, body) {
-    const owner = (event) => desk.unit.owners.get(event.target.closest("tr").dataset.of);
-    for (const kind of ["pointerover", "focusin"]) body.addEventListener(kind, (event) => desk.point(owner(event), 0));
-    body.addEventListener("pointerleave", () => desk.leave());
-    body.addEventListener("focusout", () => desk.point(null, 0));
-    body.addEventListener("click", (event) => desk.keep(owner(event)));
+  function followRows(view, body) {
+    const owner = (event) => view.unit.owners.get(event.target.closest("tr").dataset.of);
+    for (const kind of ["pointerover", "focusin"]) body.addEventListener(kind, (event) => view.point(owner(event), 0));
+    body.addEventListener("pointerleave", () => view.leave());
+    body.addEventListener("focusout", () => view.point(null, 0));
+    body.addEventListener("click", (event) => view.keep(owner(event)));
     body.addEventListener("keydown", (event) => {
       if (!isEnter(event)) return;
       event.preventDefault();
-      desk.keep(owner(event));
+      view.keep(owner(event));
     });
   }
 
-  function followWidth(desk) {
+  function followWidth(view) {
     new ResizeObserver(() => {
-      if (desk.map.parentNode.clientWidth !== desk.picture.width) desk.redraw();
-    }).observe(desk.map.parentNode);
+      if (view.map.parentNode.clientWidth !== view.picture.width) view.redraw();
+    }).observe(view.map.parentNode);
   }
 
   document.documentElement.classList.add("scripted");
@@ -487,10 +487,10 @@
   }
   if (!byId("map")) return;
   filterable(byId("files"), byId("filter"), byId("count"));
-  const desk = new Desk(byId("map"));
-  followPointer(desk);
-  followScroll(desk);
-  followKeys(desk);
-  followWidth(desk);
-  for (const table of tables) followRows(desk, table.tBodies[0]);
+  const view = new View(byId("map"));
+  followPointer(view);
+  followScroll(view);
+  followKeys(view);
+  followWidth(view);
+  for (const table of tables) followRows(view, table.tBodies[0]);
 })();
