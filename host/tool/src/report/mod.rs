@@ -19,7 +19,7 @@ const PAGE: &str = include_str!("page.html");
 const STYLE: &str = include_str!("page.css");
 const SCRIPT: &str = include_str!("page.js");
 /// The sums of the style and of the script, by which the policy allows these two alone.
-const STYLE_SUM: &str = "sha256-AWMI90TGZcxkdjkCzndRDekk77eR6FmpKhHPlz5EOfY=";
+const STYLE_SUM: &str = "sha256-axTnIcyM9qzY4nEKOiTwZ9hG5B7u5fAENhubGH4Nqu0=";
 const SCRIPT_SUM: &str = "sha256-hA9mqMpNqTX0K93QxUd7FaRXmnAPMcy9v2G5iuMrTV0=";
 
 /// The page.

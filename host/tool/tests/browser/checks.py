@@ -3,6 +3,7 @@
 What has to stand in the page is worked out here from `ruzkemp ls --json` of the same disc.
 """
 
+import base64
 import json
 import os
 import random
@@ -11,6 +12,7 @@ import sys
 import time
 
 from chromium import Page, guarded
+from pdf import Document
 
 CHROMIUM, TOOL = sys.argv[1:]
 # A file name with markup, a template's mark, a control character and a byte that is no UTF-8.
@@ -94,6 +96,9 @@ def discs():
     for name in names:
         script.append(f"change {name} size={chance.randint(0, 16)}")
     tool("run", "many.img", "-", "--keep-going", script="\n".join(script).encode())
+    # The longest texts that a row of the files can have.
+    tool("format", "wide.img", *"--sectors 32767 --first 15 --slice 8 --keys 1".split())
+    tool("create", "wide.img", *"WWWWW --size 30000 --permanent --write-protected --extendable".split())
     with open("sample.img", "rb") as file:
         image = bytearray(file.read())
     with open(HOSTILE, "wb") as file:
@@ -101,7 +106,7 @@ def discs():
     image[4608] ^= 0x7F
     with open("hurt.img", "wb") as file:
         file.write(image)
-    made = {name: Disc(f"{name}.img") for name in ("sample", "empty", "many")}
+    made = {name: Disc(f"{name}.img") for name in ("sample", "empty", "many", "wide")}
     return {**made, "hostile": Disc(HOSTILE), "hurt": Disc("hurt.img", status=4)}
 
 
@@ -384,18 +389,42 @@ def stretches(disc):
     return [[tip[0], tip[-1]] for tip in disc.slices().values()]
 
 
+# How many pixels of a browser an A4 page is wide without its margins.
+PAPER = 688
+
+
 def check_print(page, disc):
-    """On paper the page is light, as wide as the sheet, and has all rows."""
-    page.open(disc.page, 760, 900, dark=True)
+    """On paper the page is light, as wide as the sheet, and has all rows, each table within its frame."""
+    page.open(disc.page, PAPER, 900, dark=True)
     dark = {"name": "prefers-color-scheme", "value": "dark"}
     page.call("Emulation.setEmulatedMedia", media="print", features=[dark])
     frame(page)
-    equal(page.value("document.documentElement.scrollWidth"), 760, "the width on paper")
+    equal(page.value("document.documentElement.scrollWidth"), PAPER, "the width on paper")
+    wide = "[...document.querySelectorAll('.scroll')].filter((frame) => frame.scrollWidth > frame.clientWidth).length"
+    equal(page.value(wide), 0, "tables that are wider than their frame")
     equal(page.value("getComputedStyle(document.body).backgroundColor"), "rgb(255, 255, 255)", "the paper")
     window, whole = page.value("(() => { const s = document.querySelector('.scroll'); return [s.clientHeight, s.scrollHeight]; })()")
     equal(window, whole, "the rows on paper")
     equal(page.value("getComputedStyle(document.querySelector('#files tbody tr:last-child')).contentVisibility"), "visible", "the last row on paper")
     page.call("Emulation.setEmulatedMedia", media="")
+
+
+def check_paper(page, disc):
+    """On paper the heading of the files stands on every page that has some of them."""
+    page.open(disc.page)
+    made = page.call("Page.printToPDF", paperWidth=8.27, paperHeight=11.69)
+    pages = Document(base64.b64decode(made["data"])).pages()
+    # The files without attributes have a word that stands nowhere else.
+    rows = [texts.count("none") for texts in pages]
+    if not any(rows):
+        print("browser test: the text of this browser's PDF cannot be read: the headings on paper are not tried")
+        return
+    equal(sum(rows), sum(file["attribute_names"] == [] for file in disc.listing["files"]), "files on paper")
+    assert len(pages) > 10, f"{len(pages)} pages"
+    heads = page.value("[...document.querySelectorAll('#files thead th')].map((head) => head.textContent)")
+    for number, texts in enumerate(pages, 1):
+        missing = [head for head in heads if head not in texts]
+        assert "none" not in texts or not missing, f"page {number} of the PDF has no heading {missing}"
 
 
 def check_hostile(page, disc):
@@ -452,6 +481,8 @@ def main():
             lambda: check_tables(page, sample, many),
             lambda: check_print(page, sample),
             lambda: check_print(page, many),
+            lambda: check_print(page, made["wide"]),
+            lambda: check_paper(page, many),
             lambda: check_hostile(page, made["hostile"]),
             lambda: check_unsound(page, made["hurt"]),
             lambda: check_speed(page, many),
