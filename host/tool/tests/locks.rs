@@ -51,8 +51,8 @@ fn slow_put(folder: &Folder) -> (Child, ChildStdin) {
 }
 
 /// Whether the system lists a process as one that has a lock or, with an arrow, waits for one.
-fn is_listed(child: &Child, waits: bool) -> bool {
-    let process = child.id().to_string();
+fn is_listed(process: u32, waits: bool) -> bool {
+    let process = process.to_string();
     let is_its = |line: &str| {
         let words: Vec<&str> = line.split_whitespace().collect();
         words.contains(&"FLOCK") && words.contains(&&*process) && words.contains(&"->") == waits
@@ -63,11 +63,11 @@ fn is_listed(child: &Child, waits: bool) -> bool {
 
 /// Waits until a process is seen to wait for the lock that another has. Where the system does not
 /// list locks, it has not ended after a while.
-fn wait_for_waiting(holder: &Child, child: &mut Child) {
+fn wait_for_waiting(holder: u32, child: &mut Child) {
     let is_told = is_listed(holder, false);
     let began = Instant::now();
     let waits = |child: &Child| match is_told {
-        true => is_listed(child, true),
+        true => is_listed(child.id(), true),
         false => began.elapsed() > Duration::from_millis(400),
     };
     while !waits(child) {
@@ -87,7 +87,7 @@ fn after_slow_put(folder: &Folder, arguments: &[&str]) -> Done {
     command.stdin(Stdio::null());
     command.stdout(Stdio::piped()).stderr(Stdio::piped());
     let mut second = command.spawn().expect("the tool runs");
-    wait_for_waiting(&first, &mut second);
+    wait_for_waiting(first.id(), &mut second);
     stdin.write_all(&[5; 100]).expect("the tool reads");
     drop(stdin);
     assert!(first.wait().expect("it ends").success());
@@ -123,6 +123,28 @@ fn format_works_on_what_a_slow_put_wrote() {
     assert!(image[..12 * 512] == new[..12 * 512]);
     assert!(image[13 * 512..13 * 512 + 800] == [5; 800]);
     assert!(image[13 * 512 + 800..15 * 512] == [0; 224]);
+}
+
+/// While format waits, the unit of 20 sectors is replaced by one of 250.
+#[test]
+fn format_keeps_the_length_that_the_file_has_when_it_is_locked() {
+    for more in [&[][..], &["--new"]] {
+        let folder = folder();
+        folder.good(&["sample", "sample.img"]);
+        let held = fs::File::open(folder.file("a.img")).expect("it is there");
+        held.lock().expect("nobody has it");
+        let mut command = folder.command(&[&["format", "a.img", "--force"], more].concat());
+        command.stdout(Stdio::piped()).stderr(Stdio::piped());
+        let mut child = command.spawn().expect("the tool runs");
+        wait_for_waiting(std::process::id(), &mut child);
+        fs::rename(folder.file("sample.img"), folder.file("a.img")).expect("replaced");
+        // Closing would not do where another test's child has a copy of the descriptor.
+        held.unlock().expect("it was locked");
+        let done: Done = child.wait_with_output().expect("it ends").into();
+        assert_eq!((done.status, done.err.as_str()), (0, ""), "{more:?}");
+        assert!(done.out.contains("formatted: 250 sectors, "), "{done:?}");
+        assert_eq!(folder.read("a.img").len(), 512 * 250);
+    }
 }
 
 #[test]
