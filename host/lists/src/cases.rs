@@ -1,7 +1,8 @@
 //! How often calls met names that differ in case only.
 
-use reference::generate::{differ_in_case, open_names, Unit};
+use reference::generate::{open_names, Unit};
 use reference::pairs::call_name;
+use reference::text::differ_in_case;
 use reference::{entered, Message, Name};
 
 use crate::side::named;

@@ -4,8 +4,9 @@ use std::collections::HashSet;
 
 use super::index::{self, Index};
 use super::kit::Usable;
-use super::{count, sector, Found, Rule};
+use super::{sector, Found, Rule};
 use crate::layout::*;
+use crate::text::{count, name_text};
 use crate::types::Name;
 
 /// The most blocks that SYS can have: its length is a word.
@@ -221,7 +222,7 @@ fn check_map(image: &[u16], kit: &Usable, catalog: &Catalog, found: &mut Found) 
 /// SYS or MAP is not entered.
 fn missing(found: &mut Found, rule: Rule, name: Name, h: usize, blocks: &[Block]) {
     found.add(rule, |finding| {
-        let (key, shown) = (key(name, h), super::name_text(name));
+        let (key, shown) = (key(name, h), name_text(name));
         // Where SYS ends is known by its own entry.
         let end = match name {
             MAP => ", before the end of SYS",
@@ -244,7 +245,7 @@ fn check_words(
     wanted: &[u16; ENTRY],
     unknown: usize,
 ) {
-    let name = super::name_text([wanted[0], wanted[1], wanted[2]]);
+    let name = name_text([wanted[0], wanted[1], wanted[2]]);
     let words = (3..ENTRY).filter(|&word| word != unknown);
     for word in words.filter(|&word| entry.words[word] != wanted[word]) {
         let (is, wants) = (entry.words[word], wanted[word]);

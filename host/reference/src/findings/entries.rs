@@ -4,8 +4,9 @@ use std::collections::HashMap;
 
 use super::catalog::Catalog;
 use super::kit::Usable;
-use super::{name_text, sector, Found, Rule};
+use super::{sector, Found, Rule};
 use crate::layout::*;
+use crate::text::name_text;
 use crate::types::Name;
 
 /// A used entry.

@@ -5,8 +5,9 @@ use std::collections::HashMap;
 
 use super::entries::{Entries, Entry};
 use super::index::{self, Index};
-use super::{count, name_text, names_text, slices_begin, Finding, Found, Rule};
+use super::{slices_begin, Finding, Found, Rule};
 use crate::layout::*;
+use crate::text::{count, name_text, names_text};
 use crate::types::Name;
 
 /// An index block and the files whose entries name it.

@@ -1,7 +1,8 @@
 //! Rules 12 to 16: index blocks.
 
-use super::{count, names_text, sector, slices_begin, Finding, Found, Rule};
+use super::{sector, slices_begin, Finding, Found, Rule};
 use crate::layout::*;
+use crate::text::{count, names_text};
 use crate::types::Name;
 
 /// What could be read of an index block.

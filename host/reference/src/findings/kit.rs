@@ -1,7 +1,8 @@
 //! Rules 1 to 11: the image's length, the kit, and the map by itself.
 
-use super::{count, sector, Found, Rule};
+use super::{sector, Found, Rule};
 use crate::layout::*;
+use crate::text::count;
 
 /// The kit of an image in which slices can be found.
 pub(super) struct Usable {

@@ -16,15 +16,13 @@ use std::fmt;
 
 use crate::layout::{Kit, SECTOR};
 use crate::sound::soundness;
+use crate::text::{name_text, NAMED};
 use crate::types::{Name, State};
 
-pub(crate) use crate::rescue::shown as name_text;
 pub use rule::Rule;
 
 /// The most findings of one rule that are kept; the rest are counted.
 const MOST: usize = 1_000;
-/// The most files that a finding names.
-const NAMED: usize = 16;
 
 /// A broken rule, and where it is broken.
 #[derive(Clone, PartialEq, Eq, Debug)]
@@ -190,31 +188,9 @@ fn sector(image: &[u16], number: usize) -> Option<&[u16]> {
     image.get(number * SECTOR..(number + 1) * SECTOR)
 }
 
-/// Names in a line; `more` are counted only.
-pub(crate) fn names_text(names: &[Name], more: usize) -> String {
-    let shown = &names[..names.len().min(NAMED)];
-    let more = more + names.len() - shown.len();
-    let mut text: Vec<String> = shown.iter().map(|&name| name_text(name)).collect();
-    if more > 0 {
-        text.push(format!("{more} more"));
-    }
-    match text.split_last() {
-        Some((last, before)) if !before.is_empty() => format!("{} and {last}", before.join(", ")),
-        _ => text.concat(),
-    }
-}
-
 /// The numbers that say where slices begin.
 fn slices_begin(kit: &Kit) -> String {
     format!("F is {}, s is {}, N is {}", kit.f, kit.s, kit.n)
-}
-
-/// A number of things, in words.
-pub(crate) fn count(number: usize, thing: &str) -> String {
-    match number {
-        1 => format!("1 {thing}"),
-        many => format!("{many} {thing}s"),
-    }
 }
 
 /// Slices in a line, with their sectors.

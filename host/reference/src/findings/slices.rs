@@ -5,8 +5,9 @@ use std::collections::BTreeMap;
 use super::catalog::Catalog;
 use super::files::Files;
 use super::index::Index;
-use super::{name_text, names_text, slices_text, Found, Rule, NAMED};
+use super::{slices_text, Found, Rule};
 use crate::layout::*;
+use crate::text::{name_text, names_text, NAMED};
 use crate::types::Name;
 
 /// An index block with the files whose it is: SYS's, or that of one file or of some that share it.

@@ -41,7 +41,7 @@ pub use areas::{fill_vacant, open_areas};
 pub use calls::{open_names, Call, Caller};
 pub use damage::damage;
 pub use formats::{format_call, FormatCall};
-pub use names::{differ_in_case, name, name_in_capitals, names, other_case};
+pub use names::{name, name_in_capitals, names, other_case};
 pub use past::{aged, crowded};
 pub use raw::{raw, RawCall};
 pub use records::{formatted, fresh, large_record, record, unformatted, with_entries_only};

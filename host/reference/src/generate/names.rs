@@ -4,6 +4,7 @@ use std::collections::HashMap;
 
 use crate::layout::{key, MAP, SYS};
 use crate::random::Random;
+use crate::text::characters_of;
 use crate::types::Name;
 
 /// Capitals and digits, the capitals first.
@@ -45,12 +46,6 @@ pub fn other_case(random: &mut Random, name: Name) -> Name {
         }
     }
     words_of(characters)
-}
-
-/// Whether two names differ, and in case only; sixth characters are not looked at.
-pub fn differ_in_case(one: Name, other: Name) -> bool {
-    let (one, other) = (characters_of(one), characters_of(other));
-    one[..5] != other[..5] && one[..5].eq_ignore_ascii_case(&other[..5])
 }
 
 /// Those of the names beside which another one stands that differs in case only.
@@ -125,15 +120,6 @@ fn name_of(random: &mut Random, h: usize, crowded_key: usize) -> Name {
     candidate
 }
 
-/// The six characters of a name.
-fn characters_of(name: Name) -> [u8; 6] {
-    let mut characters = [0; 6];
-    for (pair, word) in characters.chunks_exact_mut(2).zip(name) {
-        pair.copy_from_slice(&word.to_be_bytes());
-    }
-    characters
-}
-
 /// The name of six characters.
 fn words_of(characters: [u8; 6]) -> Name {
     let mut name = [0; 3];
@@ -172,6 +158,7 @@ pub(super) fn in_message(random: &mut Random, name: Name, unit: u16) -> Name {
 mod tests {
     use super::*;
     use crate::layout::legal;
+    use crate::text::differ_in_case;
 
     #[test]
     fn names_are_legal_and_in_both_cases() {
@@ -200,10 +187,6 @@ mod tests {
             assert_eq!(legal(other), Some(other));
             assert!(!differ_in_case(one, one));
         }
-        assert!(!differ_in_case([0x4100, 0, 0], [0x4200, 0, 0]));
-        // 40h and 60h, 5Bh and 7Bh differ in the same bit, and are no letters.
-        assert!(!differ_in_case([0x4140, 0, 0], [0x4160, 0, 0]));
-        assert!(!differ_in_case([0x415B, 0, 0], [0x417B, 0, 0]));
         assert_eq!(other_case(random, [0x3131, 0, 7]), [0x3131, 0, 7]);
     }
 

@@ -2,11 +2,11 @@
 
 use super::catalog::Place;
 use super::claims::{Cell, Claimer};
-use super::file::{is_legal, shown, File, Kind};
+use super::file::{is_legal, File, Kind};
 use super::index::{Fault, Pair};
 use super::Rescue;
-use crate::findings::count;
 use crate::layout::{key, legal_attributes, system_entry, ENTRY, MAP, MAP_INDEX, SYS, SYS_INDEX};
+use crate::text::{count, name_text};
 use crate::types::Name;
 
 /// So many lines at most are said of stretches that are claimed or marked wrongly.
@@ -248,10 +248,10 @@ impl Rescue<'_> {
             .get(&place.name())
             .is_none_or(|all| all.len() == 1);
         match alone && place.name() != asking && is_legal(place.name()) {
-            true => shown(place.name()),
+            true => name_text(place.name()),
             false => format!(
                 "{} in {}:{}",
-                shown(place.name()),
+                name_text(place.name()),
                 place.sector,
                 place.place
             ),

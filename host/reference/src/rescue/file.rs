@@ -6,6 +6,7 @@ use std::ops::Range;
 use super::index::Pair;
 pub(super) use crate::layout::is_legal;
 use crate::layout::{ENTRY, MAP, SYS};
+use crate::text::name_text;
 use crate::types::Name;
 
 /// What an entry is about.
@@ -64,7 +65,7 @@ impl File {
 
     /// The name in letters and digits, with all else as `%` and two digits of base 16.
     pub fn shown(&self) -> String {
-        shown(self.name())
+        name_text(self.name())
     }
 
     /// Whether this is neither SYS nor MAP.
@@ -126,17 +127,4 @@ impl File {
     pub fn block_at(&self, position: usize) -> Option<usize> {
         position.checked_sub(self.kind.ahead())
     }
-}
-
-/// A name in letters and digits, with all else as `%` and two digits of base 16; the zeros at its
-/// end are left out.
-pub fn shown(name: Name) -> String {
-    let characters: Vec<u8> = name.iter().flat_map(|word| word.to_be_bytes()).collect();
-    let used = characters.iter().rposition(|&character| character != 0);
-    let characters = &characters[..used.map_or(1, |last| last + 1)];
-    let escaped = |&character: &u8| match character.is_ascii_alphanumeric() {
-        true => (character as char).to_string(),
-        false => format!("%{character:02X}"),
-    };
-    characters.iter().map(escaped).collect()
 }

@@ -43,7 +43,7 @@ use index::{Fault, Index};
 use numbers::KitRead;
 
 pub use claims::Claimer;
-pub use file::{shown, File, Kind};
+pub use file::{File, Kind};
 pub use index::Pair;
 pub use numbers::{Layout, Numbers, F_LIMITS, H_LIMITS, S_LIMITS};
 pub use uses::{Data, Held, Slice, Use};

@@ -2,8 +2,8 @@
 
 use std::ops::{Range, RangeInclusive};
 
-use crate::findings::count;
 use crate::layout::{marked_free, ones_in_map, Kit, KIT, MAP_SECTOR, SECTOR};
+use crate::text::count;
 
 /// The first sector that can belong to a slice, whatever F is.
 pub(super) const FIRST_POSSIBLE: usize = 10;

@@ -3,11 +3,12 @@
 
 use std::collections::BTreeMap;
 
-use reference::generate::{differ_in_case, Call, Caller, Unit};
+use reference::generate::{Call, Caller, Unit};
 use reference::layout::{name_of, stretches};
 use reference::pairs::{call_name, Counts};
 use reference::plain::{image_after, state_after, File, Plain};
 use reference::random::Random;
+use reference::text::differ_in_case;
 use reference::{explain, soundness, Answer, Message, Operation, Question, State};
 
 /// Counts of what came up: words, questions, and what accepted calls have done.

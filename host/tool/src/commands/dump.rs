@@ -3,7 +3,8 @@
 use std::ops::RangeInclusive;
 
 use reference::layout::{marked_free, Kit, ENTRY, SECTOR, STRETCHES};
-use reference::rescue::{shown, Data, Held, Rescue, Use};
+use reference::rescue::{Data, Held, Rescue, Use};
+use reference::text::name_text;
 
 use super::rescue::{numbers, FIRST, KEYS, SLICE};
 use crate::arguments::{Command, Given, LOW, OFFSET, UNIT};
@@ -170,7 +171,7 @@ fn entries(words: &[u16]) -> String {
         if entry.iter().all(|&word| word == 0) {
             continue;
         }
-        let name = shown([entry[0], entry[1], entry[2]]);
+        let name = name_text([entry[0], entry[1], entry[2]]);
         let [attributes, length, index, reserved] = [entry[6], entry[7], entry[8], entry[9]];
         text += &format!(
             "  place {place}: {name}, attributes {attributes:04X}h, length {length}, \

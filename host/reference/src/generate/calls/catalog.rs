@@ -3,9 +3,10 @@
 use super::choice::{any_attributes, any_unit, entry_lent, needless_lent};
 use super::{open_names, Call, Caller, Kind, Mix};
 use crate::generate::builder::attributes;
-use crate::generate::names::{differ_in_case, in_message, other_case};
+use crate::generate::names::{in_message, other_case};
 use crate::random::Random;
 use crate::sound::{survey, Entry};
+use crate::text::differ_in_case;
 use crate::types::{Area, Message, Name, State};
 
 impl Caller {

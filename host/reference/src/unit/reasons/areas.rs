@@ -1,8 +1,8 @@
 //! Reasons of area create and remove and of the messages to area processes.
 
 use super::{few_lent, in_other_case, Asked};
-use crate::generate::differ_in_case;
 use crate::layout::{legal, SECTOR};
+use crate::text::differ_in_case;
 use crate::types::{Area, Message, Name, Operation, Role, User};
 use crate::unit::{open, Question};
 

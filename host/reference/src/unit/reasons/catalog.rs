@@ -1,9 +1,9 @@
 //! Reasons of the catalog messages, the listing and the unit description.
 
 use super::{few_lent, Asked};
-use crate::findings::name_text;
 use crate::layout::*;
 use crate::sound::{Entry, Survey};
+use crate::text::name_text;
 use crate::types::{Message, Name};
 use crate::unit::change::{changed, Changed};
 use crate::unit::slices::{chosen, demand, Demand};

@@ -1,8 +1,8 @@
 //! Reasons of Format.
 
 use super::{areas_open, few_lent, unknown, Reason};
-use crate::findings::count;
 use crate::layout::*;
+use crate::text::count;
 use crate::types::State;
 use crate::unit::{explain_format, Question};
 

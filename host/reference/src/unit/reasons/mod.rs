@@ -7,10 +7,10 @@ mod formatting;
 use std::fmt;
 
 use super::{explain, Question};
-use crate::findings::{findings, name_text, names_text};
-use crate::generate::differ_in_case;
+use crate::findings::findings;
 use crate::layout::{legal, unit_of};
 use crate::sound::{survey, Survey};
+use crate::text::{differ_in_case, name_text, names_text};
 use crate::types::{Message, Name, State};
 
 pub use formatting::format_reason;
