@@ -764,6 +764,59 @@ fn far_more_than_the_image_is_not_written() {
     assert_eq!(folder.read("out").len(), 249 * 512);
 }
 
+/// Two files of a slice each, A in slice 2 and B in slice 3 (H 1, s 4, N 250, F 10), that also share
+/// so many stretches of one slice: every other slice from 10 on. Nothing else is wrong.
+fn sharing(stretches: usize) -> Folder {
+    let folder = Folder::new();
+    let unit = ["format", "a.img", "--sectors", "250", "--first", "10"];
+    folder.good(&[&unit[..], &["--slice", "4", "--keys", "1"]].concat());
+    folder.good(&["create", "a.img", "A", "--size", "3"]);
+    folder.good(&["create", "a.img", "B", "--size", "3"]);
+    let mut words = folder.words("a.img");
+    let shared: Vec<usize> = (0..stretches).map(|number| 10 + 2 * number).collect();
+    for (place, index) in [(2, slice(2)), (3, slice(3))] {
+        let pairs = shared.iter().flat_map(|&k| [4, slice(k) as u16]);
+        let pairs: Vec<u16> = pairs.collect();
+        words[256 * index] = 1 + stretches as u16;
+        words[256 * index + 3..][..pairs.len()].copy_from_slice(&pairs);
+        let total = 4 * (1 + stretches as u16);
+        words[256 * 10 + 16 * place + 7] = total - 1;
+        words[256 * 10 + 16 * place + 9] = total;
+    }
+    mark_used(&mut words, &shared);
+    let bytes: Vec<u8> = words.iter().flat_map(|word| word.to_be_bytes()).collect();
+    folder.write("a.img", &bytes);
+    folder
+}
+
+/// Marks slices of 4 sectors used in the map, and counts their sectors as no longer free.
+fn mark_used(words: &mut [u16], slices: &[usize]) {
+    for k in slices {
+        words[256 * 9 + (k - 1) / 16] &= !(0x8000 >> ((k - 1) % 16));
+        words[256 * 8 + 3] -= 4;
+    }
+}
+
+/// More than eight stretches of a kind are told as such, and eight are all told.
+#[test]
+fn that_there_is_more_is_told_only_if_there_is() {
+    for (stretches, more) in [(8, false), (9, true)] {
+        let folder = sharing(stretches);
+        let shown = read(&folder, &["show", "a.img", "A", "--unsound"]);
+        let told = shown
+            .lines()
+            .filter_map(|line| line.strip_prefix("doubtful    "));
+        // Block 3 is the first of slice 10: the index block and blocks 0 to 2 are in slice 2.
+        let shared = (0..8).map(|number| {
+            let (block, slice) = (3 + 4 * number, 10 + 2 * number);
+            format!("block {block} on: slice {slice} is claimed by B too")
+        });
+        let more = more.then(|| "there is more of this kind, which is not listed".to_string());
+        let wanted: Vec<String> = shared.chain(more).collect();
+        assert_eq!(told.collect::<Vec<_>>(), wanted);
+    }
+}
+
 /// Damages a disc: some words anywhere or in the catalog, or whole sectors.
 fn hurt(random: &mut Random, words: &mut [u16]) {
     let sectors = words.len() / 256;

@@ -1,9 +1,11 @@
 //! What is doubtful about an entry and its file.
 
+use std::iter::successors;
+
 use super::catalog::Place;
-use super::claims::{Cell, Claimer};
+use super::claims::Claimer;
 use super::file::{is_legal, File, Kind};
-use super::index::{Fault, Pair};
+use super::index::{Fault, Pair, MORE};
 use super::Rescue;
 use crate::layout::{key, legal_attributes, system_entry, ENTRY, MAP, MAP_INDEX, SYS, SYS_INDEX};
 use crate::text::{count, name_text};
@@ -149,37 +151,41 @@ impl Rescue<'_> {
 
     /// What is doubtful about the sectors that a file claims.
     pub(super) fn claim_doubts(&self, file: &File, me: Option<Claimer>) -> Vec<String> {
-        let mut doubts = self.repeated(file);
-        let mut position = 0;
-        for pair in &file.pairs {
-            let mut sector = pair.start;
-            while sector < pair.sectors().end && doubts.len() < MOST_LINES {
-                let run = self.claims.run(sector).min(pair.sectors().end - sector);
-                let run = Pair {
-                    start: sector,
-                    length: run,
-                };
-                let at = position + sector - pair.start;
-                let said = self.cell_doubts(file, self.claims.cell(sector), run, me);
-                doubts.extend(said.map(|said| format!("{}{said}", from_block(file, at))));
-                sector += run.length;
-            }
-            position += pair.length;
-        }
-        if doubts.len() >= MOST_LINES {
-            doubts.push("there is more of this kind, which is not listed".into());
+        let runs = file.placed().flat_map(|(position, pair)| {
+            let runs = self.runs(pair);
+            runs.map(move |run| (position + run.start - pair.start, run))
+        });
+        let claimed = runs.flat_map(|(position, run)| {
+            let said = self.run_doubts(file, run, me);
+            said.map(move |said| format!("{}{said}", from_block(file, position)))
+        });
+        // One more than are said tells that there is more.
+        let all = self.repeated(file).chain(claimed);
+        let mut doubts: Vec<String> = all.take(MOST_LINES + 1).collect();
+        if doubts.len() > MOST_LINES {
+            doubts[MOST_LINES] = MORE.into();
         }
         doubts
     }
 
+    /// A pair in the longest parts that have one cell each.
+    fn runs(&self, pair: Pair) -> impl Iterator<Item = Pair> + '_ {
+        let end = pair.sectors().end;
+        let run = move |start: usize| {
+            let length = self.claims.run(start).min(end.checked_sub(start)?);
+            (length > 0).then_some(Pair { start, length })
+        };
+        successors(run(pair.start), move |last| run(last.sectors().end))
+    }
+
     /// What is doubtful about a stretch of sectors with one cell.
-    fn cell_doubts(
+    fn run_doubts(
         &self,
         file: &File,
-        cell: Cell,
         run: Pair,
         me: Option<Claimer>,
     ) -> impl Iterator<Item = String> {
+        let cell = self.claims.cell(run.start);
         let (what, many) = self.stretch(run);
         let verb = if many { "are" } else { "is" };
         let claimed = cell.others(me).map(|(other, number)| {
@@ -209,31 +215,24 @@ impl Rescue<'_> {
     }
 
     /// The stretches that come twice in a file.
-    fn repeated(&self, file: &File) -> Vec<String> {
+    fn repeated<'a>(&'a self, file: &'a File) -> impl Iterator<Item = String> + 'a {
         let index = match file.kind {
             Kind::Sys => SYS_INDEX,
             _ => file.words[8] as usize,
         };
-        if !self.claims.repeats(index) {
-            return Vec::new();
-        }
-        let mut doubts = Vec::new();
-        let mut position = 0;
-        for (number, pair) in file.pairs.iter().enumerate() {
-            let before = file.pairs[..number].iter();
-            if doubts.len() >= MOST_LINES {
-                break;
-            }
-            let overlap = before.filter_map(|other| overlap(*pair, *other)).next();
-            if let Some(twice) = overlap {
-                let (what, many) = self.stretch(twice);
-                let verb = if many { "come" } else { "comes" };
-                let at = from_block(file, position + twice.start - pair.start);
-                doubts.push(format!("{at}{what} {verb} twice in it"));
-            }
-            position += pair.length;
-        }
-        doubts
+        let pairs = match self.claims.repeats(index) {
+            true => file.pairs.len(),
+            false => 0,
+        };
+        let placed = file.placed().enumerate().take(pairs);
+        placed.filter_map(|(number, (position, pair))| {
+            let mut before = file.pairs[..number].iter();
+            let twice = before.find_map(|other| overlap(pair, *other))?;
+            let (what, many) = self.stretch(twice);
+            let verb = if many { "come" } else { "comes" };
+            let at = from_block(file, position + twice.start - pair.start);
+            Some(format!("{at}{what} {verb} twice in it"))
+        })
     }
 
     /// Who claims something, for one of the name `asking`; with the place where the name is not

@@ -91,20 +91,27 @@ impl File {
         blocks.take(self.length())
     }
 
+    /// The pairs, each with its place in the joined stretches.
+    pub fn placed(&self) -> impl Iterator<Item = (usize, Pair)> + '_ {
+        let mut end = 0;
+        self.pairs.iter().map(move |&pair| {
+            end += pair.length;
+            (end - pair.length, pair)
+        })
+    }
+
     /// The blocks that cannot be read, in stretches of first and last. They are found pair by pair,
     /// so that a wrong length costs no time.
     pub fn missing(&self) -> Vec<(usize, usize)> {
         let mut unread: Vec<Range<usize>> = Vec::new();
-        let mut position = 0;
-        for pair in &self.pairs {
+        for (position, pair) in self.placed() {
             let sectors = pair.sectors();
             let within = |sector: usize| sector.clamp(sectors.start, sectors.end) - sectors.start;
             let readable = within(self.readable.start)..within(self.readable.end);
             unread.push(position..position + readable.start);
             unread.push(position + readable.end.max(readable.start)..position + pair.length);
-            position += pair.length;
         }
-        unread.push(position..usize::MAX);
+        unread.push(self.total()..usize::MAX);
         self.in_blocks(&unread)
     }
 

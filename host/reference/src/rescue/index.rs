@@ -5,6 +5,8 @@ use crate::layout::{SECTOR, STRETCHES};
 
 /// So many faults of an index block are said at most.
 const MOST_FAULTS: usize = 16;
+/// What is said behind the last of many.
+pub(super) const MORE: &str = "there is more of this kind, which is not listed";
 
 /// A pair of an index block: a stretch of sectors.
 #[derive(Clone, Copy, PartialEq, Eq, Debug)]
@@ -70,6 +72,32 @@ impl Index {
         self.faults.push(Fault { position, text });
     }
 
+    /// Follows pairs until they give more sectors than there are, so that what is followed is never
+    /// longer than the unit or the image.
+    fn follow(&mut self, layout: &Layout, pairs: &[u16]) {
+        let mut total = 0;
+        for words in pairs.chunks_exact(2) {
+            let (length, start) = (words[0] as usize, words[1] as usize);
+            if total + length > layout.most() {
+                let number = self.pairs.len() + 1;
+                let text = format!(
+                    "pair {number} has {length} sectors, more than there are: it and those behind \
+                     it are not followed"
+                );
+                self.fault(total, text);
+                break;
+            }
+            let pair = Pair { start, length };
+            self.judge(layout, pair, total);
+            self.pairs.push(pair);
+            total += length;
+        }
+        if self.faults.len() > MOST_FAULTS {
+            self.faults.truncate(MOST_FAULTS);
+            self.fault(total, MORE.into());
+        }
+    }
+
     /// Says what is wrong with the next pair, at a place in the joined stretches.
     fn judge(&mut self, layout: &Layout, pair: Pair, position: usize) {
         let number = self.pairs.len() + 1;
@@ -116,45 +144,27 @@ fn beyond(layout: &Layout, number: usize, pair: Pair) -> String {
     }
 }
 
-/// Reads the index block in a sector of the image. Pairs are followed until they give more sectors
-/// than there are, so that what is followed is never longer than the unit or the image.
+/// Reads the index block in a sector of the image.
 pub(super) fn read_index(image: &[u16], layout: &Layout, sector: usize) -> Index {
     let mut index = Index::default();
-    let Some(block) = image.get(sector * SECTOR..(sector + 1) * SECTOR) else {
-        let text = format!("the index block, sector {sector}, lies past the end of the file");
-        index.fault(0, text);
-        return index;
-    };
-    let count = block[0] as usize;
-    if !(1..=STRETCHES).contains(&count) {
-        let text =
-            format!("the index block in sector {sector} has the count {count}, not 1 to 127");
-        index.fault(0, text);
-        return index;
-    }
-    let mut total = 0;
-    for words in block[1..1 + 2 * count].chunks_exact(2) {
-        let (length, start) = (words[0] as usize, words[1] as usize);
-        let number = index.pairs.len() + 1;
-        if total + length > layout.most() {
-            let text = format!(
-                "pair {number} has {length} sectors, more than there are: it and those behind it \
-                 are not followed"
-            );
-            index.fault(total, text);
-            break;
-        }
-        let pair = Pair { start, length };
-        index.judge(layout, pair, total);
-        index.pairs.push(pair);
-        total += length;
-    }
-    if index.faults.len() > MOST_FAULTS {
-        index.faults.truncate(MOST_FAULTS);
-        index.fault(
-            total,
-            "there is more of this kind, which is not listed".into(),
-        );
+    match pairs_in(image, sector) {
+        Ok(pairs) => index.follow(layout, pairs),
+        Err(text) => index.fault(0, text),
     }
     index
+}
+
+/// The words of the pairs of an index block, or why there are none.
+fn pairs_in(image: &[u16], sector: usize) -> Result<&[u16], String> {
+    let block = image.get(sector * SECTOR..(sector + 1) * SECTOR);
+    let block = block.ok_or_else(|| {
+        format!("the index block, sector {sector}, lies past the end of the file")
+    })?;
+    let count = block[0] as usize;
+    match (1..=STRETCHES).contains(&count) {
+        true => Ok(&block[1..1 + 2 * count]),
+        false => Err(format!(
+            "the index block in sector {sector} has the count {count}, not 1 to 127"
+        )),
+    }
 }

@@ -108,19 +108,13 @@ impl Rescue<'_> {
         };
         let (file, _) = self.read_file(self.catalog.places.get(number)?);
         let name = self.claimer(claimer, [0; 3]);
-        let mut ahead = 0;
-        for pair in &file.pairs {
-            if pair.sectors().contains(&sector) {
-                let position = ahead + sector - pair.start;
-                return Some(match file.block_at(position) {
-                    None => Held::Index(name),
-                    Some(block) if block < file.length() => Held::Block(name, block),
-                    Some(_) => Held::Slack(name),
-                });
-            }
-            ahead += pair.length;
-        }
-        None
+        let has = |(_, pair): &(usize, Pair)| pair.sectors().contains(&sector);
+        let (position, pair) = file.placed().find(has)?;
+        Some(match file.block_at(position + sector - pair.start) {
+            None => Held::Index(name),
+            Some(block) if block < file.length() => Held::Block(name, block),
+            Some(_) => Held::Slack(name),
+        })
     }
 
     /// A slice by who claims it and how the map marks it; none if there is no such slice.
