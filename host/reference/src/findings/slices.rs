@@ -52,36 +52,47 @@ pub(super) fn check(image: &[u16], kit: &Kit, catalog: &Catalog, files: &Files, 
 /// All slices of the unit in parts, from the first on.
 fn parts(kit: &Kit, owners: &[Owner]) -> Vec<Part> {
     let slices = kit.slices();
-    // Which owners have one stretch more from a slice on, and which one less.
-    let mut changes: BTreeMap<usize, Vec<(usize, bool)>> = BTreeMap::new();
-    for (number, owner) in owners.iter().enumerate() {
-        for &(first, count) in &owner.index.stretches {
-            changes.entry(first).or_default().push((number, true));
-            let behind = changes.entry(first + count).or_default();
-            behind.push((number, false));
-        }
-    }
     let mut having: BTreeMap<usize, usize> = BTreeMap::new();
     let mut parts = Vec::new();
     let mut first = 1;
-    for (&from, changed) in &changes {
+    for (from, changed) in changes(owners) {
         if from > first {
             parts.push(part(owners, &having, first, from - 1));
         }
         first = from;
-        for &(owner, more) in changed {
-            let times = having.entry(owner).or_default();
-            match more {
-                true => *times += 1,
-                false => *times -= 1,
-            }
-        }
-        having.retain(|_, times| *times != 0);
+        change(&mut having, &changed);
     }
     if first <= slices {
         parts.push(part(owners, &having, first, slices));
     }
     parts
+}
+
+/// By slices, which owners have one stretch more from there on, and which one less.
+fn changes(owners: &[Owner]) -> BTreeMap<usize, Vec<(usize, bool)>> {
+    let all = owners.iter().enumerate();
+    let all = all.flat_map(|(owner, Owner { index, .. })| {
+        let stretches = index.stretches.iter();
+        stretches.map(move |&(first, count)| (owner, first, first + count))
+    });
+    let mut changes: BTreeMap<usize, Vec<(usize, bool)>> = BTreeMap::new();
+    for (owner, first, behind) in all {
+        changes.entry(first).or_default().push((owner, true));
+        changes.entry(behind).or_default().push((owner, false));
+    }
+    changes
+}
+
+/// Counts how often owners have the slices from here on.
+fn change(having: &mut BTreeMap<usize, usize>, changed: &[(usize, bool)]) {
+    for &(owner, more) in changed {
+        let times = having.entry(owner).or_default();
+        match more {
+            true => *times += 1,
+            false => *times -= 1,
+        }
+    }
+    having.retain(|_, times| *times != 0);
 }
 
 /// The part of slices that these owners have, each so often.

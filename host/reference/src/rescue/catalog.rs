@@ -136,12 +136,11 @@ fn without_blocks_of_files(
         .iter()
         .filter(|place| Kind::of(place.name()) == Kind::Ordinary);
     let indexes: BTreeSet<usize> = ordinary.map(|place| place.words[8] as usize).collect();
+    let indexes = indexes.into_iter();
     let mut held = vec![false; layout.most()];
-    for index in indexes {
-        for pair in followed(image, layout, index).pairs {
-            let end = pair.sectors().end.min(held.len());
-            held[pair.start.min(end)..end].fill(true);
-        }
+    for pair in indexes.flat_map(|index| followed(image, layout, index).pairs) {
+        let end = pair.sectors().end.min(held.len());
+        held[pair.start.min(end)..end].fill(true);
     }
     found.retain(|one| one.block.is_some() || !held[one.sector]);
     found

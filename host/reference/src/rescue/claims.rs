@@ -110,16 +110,11 @@ impl Stretches {
             |sector: usize| sector.clamp(FIRST_POSSIBLE, layout.most().max(FIRST_POSSIBLE));
         let all = pairs.iter().map(Pair::sectors);
         let all = all.map(|sectors| within(sectors.start)..within(sectors.end));
-        let mut all: Vec<Range<usize>> = all.filter(|sectors| !sectors.is_empty()).collect();
-        all.sort_unstable_by_key(|sectors| sectors.start);
-        let mut all = all.into_iter().peekable();
-        while let Some(mut sectors) = all.next() {
-            while let Some(next) = all.next_if(|next| next.start <= sectors.end) {
-                if next.start < sectors.end {
-                    self.twice.insert(index);
-                }
-                sectors.end = sectors.end.max(next.end);
-            }
+        let (joined, twice) = joined(all.filter(|sectors| !sectors.is_empty()).collect());
+        if twice {
+            self.twice.insert(index);
+        }
+        for sectors in joined {
             self.changes[sectors.start].push((group, true));
             self.changes[sectors.end].push((group, false));
         }
@@ -127,32 +122,58 @@ impl Stretches {
 
     /// The cells with the claims besides their marks.
     fn cells(&self, mut cells: Vec<Cell>) -> Vec<Cell> {
-        let mut now: BTreeSet<u32> = BTreeSet::new();
-        let mut number = 0;
+        let mut now = Claiming::default();
         for (cell, changes) in cells.iter_mut().zip(&self.changes) {
-            for &(group, begins) in changes {
-                let claimers = self.groups[group as usize].len();
-                match begins {
-                    true => {
-                        now.insert(group);
-                        number += claimers;
-                    }
-                    false => {
-                        now.remove(&group);
-                        number -= claimers;
-                    }
-                }
-            }
-            let groups = now
-                .iter()
-                .take(2)
-                .map(|&group| &self.groups[group as usize]);
+            self.change(&mut now, changes);
+            let groups = now.groups.iter().take(2);
+            let groups = groups.map(|&group| &self.groups[group as usize]);
             let mut first = groups.flatten().copied();
             cell.claimers = [first.next(), first.next()];
-            cell.number = number;
+            cell.number = now.number;
         }
         cells
     }
+
+    /// Goes on to a sector with changes.
+    fn change(&self, now: &mut Claiming, changes: &[(u32, bool)]) {
+        for &(group, begins) in changes {
+            let claimers = self.groups[group as usize].len();
+            match begins {
+                true => {
+                    now.groups.insert(group);
+                    now.number += claimers;
+                }
+                false => {
+                    now.groups.remove(&group);
+                    now.number -= claimers;
+                }
+            }
+        }
+    }
+}
+
+/// The groups that claim a sector, and how many claim it with them.
+#[derive(Default)]
+struct Claiming {
+    groups: BTreeSet<u32>,
+    number: usize,
+}
+
+/// Stretches in order, joined where they touch, and whether a sector is in two of them.
+fn joined(mut all: Vec<Range<usize>>) -> (Vec<Range<usize>>, bool) {
+    all.sort_unstable_by_key(|sectors| sectors.start);
+    let mut joined: Vec<Range<usize>> = Vec::new();
+    let mut twice = false;
+    for sectors in all {
+        match joined.last_mut() {
+            Some(last) if sectors.start <= last.end => {
+                twice |= sectors.start < last.end;
+                last.end = last.end.max(sectors.end);
+            }
+            _ => joined.push(sectors),
+        }
+    }
+    (joined, twice)
 }
 
 /// What SYS claims: the pairs of its index, and the slices of the sectors found by their looks.

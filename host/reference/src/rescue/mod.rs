@@ -73,26 +73,20 @@ impl<'a> Rescue<'a> {
     /// Reads an image, by what is read of its kit.
     fn by(image: &'a [u16], kit: KitRead) -> Rescue<'a> {
         let catalog = read_catalog(image, &kit.layout);
-        let mut numbers: HashMap<Name, Vec<usize>> = HashMap::new();
-        for (number, place) in catalog.places.iter().enumerate() {
-            numbers.entry(place.name()).or_default().push(number);
-        }
         let mut rescue = Rescue {
             image,
             kit: kit.kit,
             layout: kit.layout,
             claims: Claims::gather(image, &kit.layout, &catalog),
+            numbers: by_name(&catalog.places),
             catalog,
-            numbers,
             lost: Vec::new(),
             lost_of: HashMap::new(),
             doubts: kit.doubts,
         };
         rescue.lost = rescue.look_for_lost();
-        for &sector in rescue.lost.iter().rev() {
-            let total = rescue.lost_total(sector);
-            rescue.lost_of.insert(total, sector);
-        }
+        let lost = rescue.lost.iter().rev();
+        rescue.lost_of = lost.map(|&at| (rescue.lost_total(at), at)).collect();
         rescue.doubts.extend_from_slice(&rescue.catalog.doubts);
         let more = rescue.unit_doubts();
         rescue.doubts.extend(more);
@@ -261,4 +255,13 @@ impl<'a> Rescue<'a> {
         };
         self.read_file(&place).0
     }
+}
+
+/// The numbers of the entries of each name.
+fn by_name(places: &[Place]) -> HashMap<Name, Vec<usize>> {
+    let mut numbers: HashMap<Name, Vec<usize>> = HashMap::new();
+    for (number, place) in places.iter().enumerate() {
+        numbers.entry(place.name()).or_default().push(number);
+    }
+    numbers
 }
