@@ -9,7 +9,7 @@ use ruzkemp::Name;
 
 use crate::arguments::{valued, Choice, Given};
 use crate::failure::{Failure, Outcome};
-use crate::host::{irregular, shown, Replacement};
+use crate::host::{irregular, not_a_link, shown, Replacement};
 
 /// The option for all files of unit or folder.
 pub const ALL: Choice = valued("--all", "DIR", "all files, to or from the folder DIR");
@@ -138,9 +138,7 @@ pub fn may_be_written(given: &Given, path: &Path) -> Outcome {
         return Ok(());
     };
     given.not_the_image(path)?;
-    if there.is_symlink() {
-        return Err(Failure::host(path, "this is a link, which is not followed"));
-    }
+    not_a_link(path)?;
     match (there.is_file(), given.flag("--force")) {
         (false, _) => Err(irregular(path)),
         (true, false) => Err(Replacement::exists(path)),

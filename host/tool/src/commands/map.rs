@@ -2,11 +2,11 @@
 
 use std::path::Path;
 
+use super::output::output;
 use super::rescue::{self, FIRST, KEYS, SLICE, UNSOUND};
 use crate::arguments::{flag, valued, Command, Given, LOW, OFFSET, UNIT};
-use crate::console::{colours, print, report};
+use crate::console::{colours, print};
 use crate::failure::Outcome;
-use crate::host::{shown, Replacement};
 use crate::session::Session;
 use crate::view::View;
 use crate::{json, picture, terminal};
@@ -55,15 +55,7 @@ fn map(given: &Given) -> Outcome {
     };
     let image = given.path(0).file_name().unwrap_or_default();
     let drawn = picture::svg(&view, &image.to_string_lossy());
-    if path == Path::new("-") {
-        return print(&drawn);
-    }
-    given.not_the_image(path)?;
-    let mut file = Replacement::of(path, given.flag("--force"))?;
-    file.write(drawn.as_bytes())?;
-    file.commit()?;
-    report(&format!("{}: picture written\n", shown(path)));
-    Ok(())
+    output(given, path, &drawn, "picture")
 }
 
 fn in_json(given: &Given, view: &View) -> Outcome {

@@ -8,6 +8,7 @@ mod format;
 mod listing;
 mod many;
 mod map;
+mod output;
 mod report;
 mod rescue;
 mod run;

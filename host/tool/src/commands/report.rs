@@ -2,10 +2,10 @@
 
 use std::path::Path;
 
+use super::output::output;
 use crate::arguments::{flag, valued, Command, Given, LOW, OFFSET, UNIT};
-use crate::console::{self, print};
 use crate::failure::{Failure, Outcome};
-use crate::host::{shown, Replacement};
+use crate::host::shown;
 use crate::report::{page, Content, Subject};
 
 /// `report`.
@@ -36,7 +36,7 @@ fn report(given: &Given) -> Outcome {
         return Err(given.misused("-o FILE has to be given".into()));
     };
     let subject = Subject::of(given)?;
-    write(given, path, &page(&subject))?;
+    output(given, path, &page(&subject), "report")?;
     match subject.content {
         Content::Sound(_) => Ok(()),
         Content::Unsound(_) => {
@@ -47,16 +47,4 @@ fn report(given: &Given) -> Outcome {
             Err(Failure::NotUnit(format!("{image}: not a sound unit")))
         }
     }
-}
-
-fn write(given: &Given, path: &Path, page: &str) -> Outcome {
-    if path == Path::new("-") {
-        return print(page);
-    }
-    given.not_the_image(path)?;
-    let mut file = Replacement::of(path, given.flag("--force"))?;
-    file.write(page.as_bytes())?;
-    file.commit()?;
-    console::report(&format!("{}: report written\n", shown(path)));
-    Ok(())
 }

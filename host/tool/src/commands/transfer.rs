@@ -364,7 +364,7 @@ fn all_written(given: &Given, folder: &Path, files: &[(Name, Vec<u8>)]) -> Outco
     let mut lines = String::new();
     for (done, (name, content)) in files.iter().enumerate() {
         let path = beside(folder, *name);
-        let file = Replacement::of(&path, given.flag("--force"));
+        let file = Replacement::in_folder(&path, given.flag("--force"));
         let line = file.and_then(|file| written(*name, file, content, &path));
         lines += &line.map_err(|failure| {
             Failure::Host(format!("{failure}; {done} of {total} were written before"))
@@ -376,9 +376,8 @@ fn all_written(given: &Given, folder: &Path, files: &[(Name, Vec<u8>)]) -> Outco
 }
 
 /// Writes a file's content to a host file; what is to be said of it.
-fn written(name: Name, mut file: Replacement, content: &[u8], path: &Path) -> Outcome<String> {
-    file.write(content)?;
-    file.commit()?;
+fn written(name: Name, file: Replacement, content: &[u8], path: &Path) -> Outcome<String> {
+    file.commit(content)?;
     let bytes = count(content.len() as u64, "byte");
     Ok(format!("{name}: {bytes} written to {}\n", shown(path)))
 }

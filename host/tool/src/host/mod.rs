@@ -51,6 +51,16 @@ fn regular(path: &Path) -> Outcome<PathBuf> {
     fs::canonicalize(path).map_err(|error| Failure::host(path, error))
 }
 
+/// Refuses a link, which could lead out of the folder in which it stands.
+pub fn not_a_link(path: &Path) -> Outcome {
+    match fs::symlink_metadata(path) {
+        Ok(there) if there.is_symlink() => {
+            Err(Failure::host(path, "this is a link, which is not followed"))
+        }
+        _ => Ok(()),
+    }
+}
+
 /// The failure to use anything but a regular file.
 pub fn irregular(path: &Path) -> Failure {
     Failure::host(path, "this is no regular file")

@@ -8,13 +8,35 @@ use std::process;
 
 use super::lock::Old;
 use super::signals::{self, Temporary};
-use super::{extended, regular, shown};
+use super::{extended, not_a_link, regular, shown};
 use crate::console::warn;
 use crate::failure::{Failure, Outcome};
 
 /// The bits of a mode that lend a program its owner's and its group's rights.
 const SET_USER: u32 = 0o4000;
 const SET_GROUP: u32 = 0o2000;
+
+/// What is done with a link under the path.
+#[derive(Clone, Copy, PartialEq, Eq)]
+enum Link {
+    /// The file to which it leads is replaced.
+    Followed,
+    /// It is refused.
+    Refused,
+}
+
+impl Link {
+    /// The file under a path that is to be replaced.
+    fn target(self, path: &Path) -> Outcome<PathBuf> {
+        if self == Link::Followed {
+            return regular(path);
+        }
+        not_a_link(path)?;
+        regular(path)?;
+        // Should a link appear now, the new file takes its place and not that of another file.
+        Ok(path.into())
+    }
+}
 
 /// A file in the making beside the one whose place it takes. Dropped without
 /// [`Replacement::commit`] it leaves nothing behind.
@@ -24,6 +46,7 @@ pub struct Replacement {
     target: PathBuf,
     /// Whether a file that is there may be replaced.
     force: bool,
+    link: Link,
     /// The file to be replaced, locked; none if none was there.
     old: Option<Old>,
     /// The file's path for now; none once it has been renamed.
@@ -36,17 +59,28 @@ impl Replacement {
     /// and to be replaced by force. That one is locked: whoever changes it comes before this or
     /// after it.
     pub fn of(shown: &Path, force: bool) -> Outcome<Replacement> {
-        if fs::symlink_metadata(shown).is_err() {
-            let mut new = Replacement::begin(shown, shown, None)?;
-            new.force = force;
-            return Ok(new);
-        }
-        if !force {
-            return Err(Replacement::exists(shown));
-        }
-        let target = regular(shown)?;
-        let old = Old::locked(shown, &target, false)?;
-        Replacement::begin(shown, &target, Some(old))
+        Replacement::by(shown, force, Link::Followed)
+    }
+
+    /// The same in a folder out of which no link may lead: one under the path is refused, also if it
+    /// appears while the file is in the making.
+    pub fn in_folder(shown: &Path, force: bool) -> Outcome<Replacement> {
+        not_a_link(shown)?;
+        Replacement::by(shown, force, Link::Refused)
+    }
+
+    fn by(shown: &Path, force: bool, link: Link) -> Outcome<Replacement> {
+        let mut new = match (fs::symlink_metadata(shown).is_ok(), force) {
+            (false, _) => Replacement::begin(shown, shown, None)?,
+            (true, false) => return Err(Replacement::exists(shown)),
+            (true, true) => {
+                let target = link.target(shown)?;
+                let old = Old::locked(shown, &target, false)?;
+                Replacement::begin(shown, &target, Some(old))?
+            }
+        };
+        (new.force, new.link) = (force, link);
+        Ok(new)
     }
 
     /// The failure to write over a file that is there without force.
@@ -64,6 +98,7 @@ impl Replacement {
             shown: shown.into(),
             target: target.into(),
             force: old.is_some(),
+            link: Link::Followed,
             old,
             temporary: Some((path, entered)),
             file: BufWriter::with_capacity(1 << 16, file),
@@ -94,12 +129,13 @@ impl Replacement {
         Ok(())
     }
 
-    /// Makes the file safe on the disc and puts it under its path.
-    pub fn commit(self) -> Outcome {
+    /// Writes the file's bytes, makes it safe on the disc and puts it under its path.
+    pub fn commit(mut self, bytes: &[u8]) -> Outcome {
+        self.write(bytes)?;
         self.put(false)
     }
 
-    /// The same for an image, the last thing that a command changes.
+    /// Does so with what is written, an image: the last thing that a command changes.
     pub fn commit_image(self) -> Outcome {
         self.put(true)
     }
@@ -111,11 +147,14 @@ impl Replacement {
     }
 
     fn put(mut self, last: bool) -> Outcome {
+        if self.link == Link::Refused {
+            not_a_link(&self.shown)?;
+        }
         let mut published = self.publish(last);
         let appeared = |error: &io::Error| error.kind() == ErrorKind::AlreadyExists;
         if self.force && self.old.is_none() && published.as_ref().is_err_and(appeared) {
             // Another command has made the file since this one began.
-            self.target = regular(&self.shown)?;
+            self.target = self.link.target(&self.shown)?;
             self.old = Some(Old::locked(&self.shown, &self.target, false)?);
             published = self.publish(last);
         }
@@ -275,15 +314,15 @@ fn temporary_beside(target: &Path, mode: u32) -> io::Result<(PathBuf, Temporary,
 #[cfg(test)]
 mod tests {
     use super::*;
+    use std::os::unix::fs::symlink;
 
     /// What a file holds that appeared while another was in the making under its path.
     fn appeared(name: &str, force: bool) -> (Outcome, Vec<u8>) {
         let name = format!("ruzkemp-{}-{name}", process::id());
         let path = std::env::temp_dir().join(name);
-        let mut new = Replacement::of(&path, force).expect("nothing is there");
-        new.write(b"new").expect("written");
+        let new = Replacement::of(&path, force).expect("nothing is there");
         fs::write(&path, b"other").expect("written");
-        let ended = new.commit();
+        let ended = new.commit(b"new");
         let there = fs::read(&path).expect("it is there");
         fs::remove_file(&path).expect("removed");
         (ended, there)
@@ -298,6 +337,44 @@ mod tests {
         let failure = ended.expect_err("it is kept");
         assert!(failure.to_string().ends_with("(--force replaces it)"));
         assert_eq!(there, b"other");
+    }
+
+    /// How it ends, and what the file `other` has then, if a link to it appears under the path of a
+    /// file in the making, in the place of an old file if there is one.
+    fn linked(
+        begin: fn(&Path, bool) -> Outcome<Replacement>,
+        has_old: bool,
+    ) -> (Outcome, Vec<u8>, usize) {
+        let folder = std::env::temp_dir().join(format!("ruzkemp-{}-linked", process::id()));
+        fs::create_dir(&folder).expect("a folder");
+        let (path, other) = (folder.join("path"), folder.join("other"));
+        fs::write(&other, b"other").expect("written");
+        if has_old {
+            fs::write(&path, b"old").expect("written");
+        }
+        let new = begin(&path, true).expect("it may be replaced");
+        let _ = fs::remove_file(&path);
+        symlink(&other, &path).expect("a link");
+        let ended = new.commit(b"new");
+        let there = fs::read(&other).expect("it is there");
+        let files = fs::read_dir(&folder).expect("a folder").count();
+        fs::remove_dir_all(&folder).expect("removed");
+        (ended, there, files)
+    }
+
+    #[test]
+    fn a_link_that_appears_in_a_folder_is_not_followed() {
+        for has_old in [false, true] {
+            let (ended, there, files) = linked(Replacement::in_folder, has_old);
+            let failure = ended.expect_err("it is refused").to_string();
+            let told = failure.ends_with("path: this is a link, which is not followed");
+            assert!(told, "{failure}");
+            // The link and the file are there, and no temporary file.
+            assert_eq!((&there[..], files), (&b"other"[..], 2));
+        }
+        let (ended, there, _) = linked(Replacement::of, false);
+        ended.expect("a link that is named is followed");
+        assert_eq!(there, b"new");
     }
 
     #[test]

@@ -76,7 +76,7 @@ fn one(given: &Given, rescue: &Rescue) -> Outcome {
         true => print_bytes(&bytes)?,
         false => {
             given.not_the_image(path)?;
-            write(path, &bytes, given.flag("--force"))?;
+            Replacement::of(path, given.flag("--force"))?.commit(&bytes)?;
             let done = found.written(&bytes, path);
             report(&format!("{done}, read without guarantee\n"));
         }
@@ -146,12 +146,6 @@ fn blocks_written(rescue: &Rescue, file: &File) -> usize {
     }
 }
 
-fn write(path: &Path, bytes: &[u8], force: bool) -> Outcome {
-    let mut file = Replacement::of(path, force)?;
-    file.write(bytes)?;
-    file.commit()
-}
-
 /// All files but SYS and MAP, those without an entry too, each under its name in a folder.
 fn all(given: &Given, rescue: &Rescue, folder: &Path) -> Outcome {
     not_with(given, &["--bytes"])?;
@@ -215,7 +209,7 @@ fn saved(given: &Given, rescue: &Rescue, found: &Found, path: &Path) -> Outcome<
         return Ok(format!("{label}: not written, no block can be read"));
     }
     let bytes = contents(rescue, file);
-    write(path, &bytes, given.flag("--force"))?;
+    Replacement::in_folder(path, given.flag("--force"))?.commit(&bytes)?;
     Ok(found.written(&bytes, path))
 }
 
