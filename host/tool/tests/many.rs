@@ -6,9 +6,8 @@ use std::collections::BTreeMap;
 use std::fs;
 use std::os::unix::fs::symlink;
 use std::path::Path;
-use std::process::{Command, Stdio};
 
-use common::{Done, Folder, TOOL};
+use common::{Done, Folder};
 
 /// The files of a folder with their bytes.
 fn files(path: &Path) -> BTreeMap<String, Vec<u8>> {
@@ -287,10 +286,12 @@ fn host_files_and_folders_that_are_missing_are_told() {
         3,
         "a.img: Not a directory",
     );
-    let beyond = ["get", "a.img", "--all", "no/out"];
-    folder.bad(&beyond, 3, "no/out: no folder can be made: No such file");
-    let file = ["get", "a.img", "--all", "a.img"];
-    folder.bad(&file, 3, "a.img: no folder can be made: File exists");
+    for options in [&[][..], &["--unsound"]] {
+        let beyond = [&["get", "a.img", "--all", "no/out"][..], options].concat();
+        folder.bad(&beyond, 3, "no/out: no folder can be made: No such file");
+        let file = [&["get", "a.img", "--all", "a.img"][..], options].concat();
+        folder.bad(&file, 3, "a.img: no folder can be made: File exists");
+    }
 }
 
 #[test]
@@ -345,33 +346,43 @@ fn the_image_in_the_folder_is_not_written_over() {
     bad(&folder, "out", &get, 2, "out/B is the image itself");
 }
 
-/// Runs the tool where no file may grow past 4 blocks of 512 bytes.
-fn with_little_room(folder: &Folder, arguments: &[&str]) -> Done {
-    let mut shell = Command::new("sh");
-    shell.arg("-c").arg("ulimit -f 4; exec \"$0\" \"$@\"");
-    shell.arg(TOOL).args(arguments).current_dir(folder.path());
-    shell.stdin(Stdio::null()).output().expect("sh runs").into()
-}
-
+/// No file may grow past 4 blocks of 512 bytes, and C has 5.
 #[test]
 fn a_host_file_that_cannot_be_written_is_told_with_those_that_were() {
     let folder = folder(&[("A", 100), ("B", 512 * 4), ("C", 512 * 5), ("D", 100)]);
     folder.good(&["put", "a.img", "--all", "in"]);
-    let done = with_little_room(&folder, &["get", "a.img", "--all", "out"]);
-    assert_eq!(done.status, 3, "{done:?}");
-    let told = "out/C: not written: File too large (os error 27); 2 of 4 files were written before";
-    assert!(done.err.contains(told), "{done:?}");
-    let lengths = files(&folder.file("out"));
-    let lengths: Vec<_> = lengths
-        .iter()
-        .map(|(name, bytes)| (name.as_str(), bytes.len()))
-        .collect();
-    assert_eq!(lengths, [("A", 512), ("B", 2_048)]);
-    // A folder that was made for nothing goes again.
-    let get = ["get", "a.img", "C", "--into", "new"];
-    let done = with_little_room(&folder, &get);
-    assert_eq!(done.status, 3, "{done:?}");
-    assert!(!folder.file("new").exists());
+    for (out, options) in [("out", &[][..]), ("unsound", &["--unsound"])] {
+        let get = [&["get", "a.img", "--all", out][..], options].concat();
+        let done = folder.limited("-f 4", &get);
+        assert_eq!(done.status, 3, "{done:?}");
+        let why = "not written: File too large (os error 27)";
+        let told = format!("{out}/C: {why}; 2 of 4 files were written before\n");
+        assert!(done.err.ends_with(&told), "{done:?}");
+        // The files that are there were reported.
+        let told = format!("B: 2048 bytes written to {out}/B\n");
+        assert!(done.out.ends_with(&told), "{done:?}");
+        let lengths = files(&folder.file(out));
+        let lengths: Vec<_> = lengths
+            .iter()
+            .map(|(name, bytes)| (name.as_str(), bytes.len()))
+            .collect();
+        assert_eq!(lengths, [("A", 512), ("B", 2_048)]);
+    }
+}
+
+#[test]
+fn a_folder_that_was_made_for_nothing_goes_again() {
+    let folder = folder(&[("C", 512 * 5)]);
+    folder.good(&["put", "a.img", "--all", "in"]);
+    for get in [
+        &["get", "a.img", "C", "--into", "new"][..],
+        &["get", "a.img", "--all", "new"],
+        &["get", "a.img", "--all", "new", "--unsound"],
+    ] {
+        let done = folder.limited("-f 4", get);
+        assert_eq!(done.status, 3, "{done:?}");
+        assert!(!folder.file("new").exists(), "{get:?}");
+    }
 }
 
 #[test]

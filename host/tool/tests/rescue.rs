@@ -585,6 +585,7 @@ fn all_files_go_into_the_folder_and_nowhere_else() {
         (entry(11, 1, 1), 0),
     ]);
     let before = folder.snapshot();
+    fs::create_dir(folder.file("new")).expect("a folder");
     doubtful(&folder, &["get", "a.img", "--all", "new/out", "--unsound"]);
     let wanted = [
         "%00",
@@ -764,6 +765,63 @@ fn far_more_than_the_image_is_not_written() {
     assert_eq!(folder.read("out").len(), 249 * 512);
 }
 
+/// A disc (H 1, s 2, F 10) with a SYS of so many sectors, and so many entries of files besides its
+/// own. Their index block, in the last slice, has 127 pairs that are all faulty.
+fn full_of_entries(sys: u16, files: usize, length: u16) -> Vec<u16> {
+    let n = 10 + sys + 2;
+    let mut words = vec![0; 256 * usize::from(n)];
+    words[8 * 256..][..6].copy_from_slice(&[1, 2, n, 0, 10, n]);
+    words[7 * 256..][..3].copy_from_slice(&[1, 1, 9]);
+    words[6 * 256..][..3].copy_from_slice(&[1, sys, 10]);
+    let pairs = (0..127).flat_map(|pair| [1, 11 + pair]);
+    let index: Vec<u16> = [127].into_iter().chain(pairs).collect();
+    words[256 * usize::from(n - 2)..][..255].copy_from_slice(&index);
+    let own = [
+        [0x5359, 0x5300, 0, 0, 0, 0, 0x8010, sys, 6, sys],
+        [0x4D41, 0x5000, 0, 0, 0, 0, 0x8010, 1, 7, 1],
+    ];
+    let other = |number: usize| {
+        let letter = |place: u32| 65 + (number / 26usize.pow(place) % 26) as u16;
+        let name = [letter(0) << 8 | letter(1), letter(2) << 8 | letter(3)];
+        [name[0], name[1], 0, 0, 0, 0, 1, length, n - 2, 0]
+    };
+    let entries = own.into_iter().chain((0..files).map(other));
+    for (entry, place) in entries.zip(words[10 * 256..].chunks_exact_mut(16)) {
+        place[..10].copy_from_slice(&entry);
+    }
+    words
+}
+
+fn write_words(folder: &Folder, words: &[u16]) {
+    let bytes: Vec<u8> = words.iter().flat_map(|word| word.to_be_bytes()).collect();
+    folder.write("a.img", &bytes);
+}
+
+/// Files without blocks take no room on the disc but their entries, and yet a host file each. Here
+/// the folder cannot be made, so that none is written where so many are allowed either.
+#[test]
+fn more_than_4096_files_are_not_written() {
+    let folder = Folder::new();
+    let line = ["get", "a.img", "--all", "no/out", "--unsound"];
+    write_words(&folder, &full_of_entries(258, 4_097, 0));
+    let words = "a.img: there are 4097 files, more than 4096: get them one by one";
+    folder.bad(&line, 4, words);
+    write_words(&folder, &full_of_entries(258, 4_096, 0));
+    folder.bad(&line, 3, "no/out: no folder can be made");
+}
+
+/// What is judged of 64000 files together would take twice as much room as there is.
+#[test]
+fn very_many_files_are_refused_in_little_room() {
+    let folder = Folder::new();
+    write_words(&folder, &full_of_entries(4_010, 64_000, 100));
+    let line = ["get", "a.img", "--all", "out", "--unsound"];
+    let done = folder.limited("-v 150000", &line);
+    assert_eq!(done.status, 4, "{done:?}");
+    let told = "a.img: there are 64000 files, more than 4096: get them one by one\n";
+    assert!(done.err.ends_with(told), "{done:?}");
+}
+
 /// Two files of a slice each, A in slice 2 and B in slice 3 (H 1, s 4, N 250, F 10), that also share
 /// so many stretches of one slice: every other slice from 10 on. Nothing else is wrong.
 fn sharing(stretches: usize) -> Folder {
@@ -784,8 +842,7 @@ fn sharing(stretches: usize) -> Folder {
         words[256 * 10 + 16 * place + 9] = total;
     }
     mark_used(&mut words, &shared);
-    let bytes: Vec<u8> = words.iter().flat_map(|word| word.to_be_bytes()).collect();
-    folder.write("a.img", &bytes);
+    write_words(&folder, &words);
     folder
 }
 

@@ -161,6 +161,12 @@ impl<'a> Rescue<'a> {
         (0..self.entries()).filter_map(|number| self.file(number))
     }
 
+    /// The numbers of the entries but SYS's and MAP's, each with the name.
+    pub fn ordinary(&self) -> impl Iterator<Item = (usize, Name)> + '_ {
+        let all = self.catalog.places.iter().map(Place::name).enumerate();
+        all.filter(|(_, name)| Kind::of(*name) == Kind::Ordinary)
+    }
+
     /// The numbers of all entries by name and place.
     pub fn sorted(&self) -> Vec<usize> {
         let mut numbers: Vec<usize> = (0..self.entries()).collect();

@@ -1,6 +1,7 @@
 //! Which files a `put` or `get` is about, and the folder in which the host's stand.
 
 use std::collections::BTreeMap;
+use std::fmt::Display;
 use std::fs;
 use std::io;
 use std::path::{Path, PathBuf};
@@ -8,8 +9,10 @@ use std::path::{Path, PathBuf};
 use ruzkemp::Name;
 
 use crate::arguments::{valued, Choice, Given};
+use crate::console::report;
 use crate::failure::{Failure, Outcome};
 use crate::host::{irregular, not_a_link, shown, Replacement};
+use crate::values::count;
 
 /// The option for all files of unit or folder.
 pub const ALL: Choice = valued("--all", "DIR", "all files, to or from the folder DIR");
@@ -146,16 +149,52 @@ pub fn may_be_written(given: &Given, path: &Path) -> Outcome {
     }
 }
 
+/// Writes files into a folder, each complete or not at all, and reports each. `write` writes one: it
+/// answers the line about it, and whether there is a host file now.
+pub fn fill<T>(
+    folder: &Path,
+    total: usize,
+    files: impl Iterator<Item = T>,
+    mut write: impl FnMut(T) -> Outcome<(String, bool)>,
+) -> Outcome {
+    let made = Folder::at(folder)?;
+    let mut done = 0_u64;
+    for file in files {
+        let (line, is_written) = write(file).map_err(|failure| {
+            let total = count(total as u64, "file");
+            Failure::Host(format!("{failure}; {done} of {total} were written before"))
+        })?;
+        report(&format!("{line}\n"));
+        done += u64::from(is_written);
+    }
+    made.keep();
+    let done = count(done, "file");
+    report(&format!("{done} written to {}\n", shown(folder)));
+    Ok(())
+}
+
+/// Writes a host file that is begun; the line about it.
+pub fn written(
+    name: impl Display,
+    file: Replacement,
+    bytes: &[u8],
+    path: &Path,
+) -> Outcome<String> {
+    file.commit(bytes)?;
+    let bytes = count(bytes.len() as u64, "byte");
+    Ok(format!("{name}: {bytes} written to {}", shown(path)))
+}
+
 /// A folder into which files are written: made if it is missing, and taken away again if none
 /// was written.
-pub struct Folder<'a> {
+struct Folder<'a> {
     path: &'a Path,
     made: bool,
 }
 
 impl Folder<'_> {
     /// The folder of a path.
-    pub fn at(path: &Path) -> Outcome<Folder<'_>> {
+    fn at(path: &Path) -> Outcome<Folder<'_>> {
         if fs::metadata(path).is_ok_and(|metadata| metadata.is_dir()) {
             return Ok(Folder { path, made: false });
         }
@@ -165,7 +204,7 @@ impl Folder<'_> {
     }
 
     /// Keeps the folder, whatever stands in it.
-    pub fn keep(mut self) {
+    fn keep(mut self) {
         self.made = false;
     }
 }

@@ -1,7 +1,7 @@
 //! `put` and `get`: files' blocks from and to host files.
 
 use std::io::{BufRead, BufReader, Cursor, Read};
-use std::path::Path;
+use std::path::{Path, PathBuf};
 
 use reference::layout::Kit;
 use ruzkemp::{Attributes, Block, Call, Entry, Error, Name, Role};
@@ -9,7 +9,7 @@ use ruzkemp::{Attributes, Block, Call, Entry, Error, Name, Role};
 use super::rescue::{self, FIRST, KEYS, SLICE, UNSOUND};
 use crate::arguments::{flag, valued, Command, Given, DRY_RUN, LOW, OFFSET, UNIT};
 use crate::commands::many::{
-    beside, host_files, is_own, may_be_written, Folder, Which, ALL, FROM, INTO,
+    beside, fill, host_files, is_own, may_be_written, written, Which, ALL, FROM, INTO,
 };
 use crate::console::{print_bytes, report};
 use crate::failure::{Failure, Outcome};
@@ -319,7 +319,8 @@ fn get_one(given: &Given, name: Name, path: &Path) -> Outcome {
     given.not_the_image(path)?;
     let file = Replacement::of(path, given.flag("--force"))?;
     let content = content(&mut session, name, bytes, Wording::of(given))?;
-    report(&written(name, file, &content, path)?);
+    let done = written(name, file, &content, path)?;
+    report(&format!("{done}\n"));
     Ok(())
 }
 
@@ -334,18 +335,23 @@ fn get_many(given: &Given, folder: &Path, names: Option<Vec<Name>>) -> Outcome {
         Some(names) => names,
         None => all_files(&mut session)?,
     };
-    let mut files = Vec::new();
-    for name in names {
+    let wording = Wording::of(given);
+    let contents = names.iter().map(|&name| {
         let bytes = opened(&mut session, name)?;
-        let content = content(&mut session, name, bytes, Wording::of(given))?;
+        let content = content(&mut session, name, bytes, wording)?;
         close_area(&mut session, name)?;
-        files.push((name, content));
-    }
-    for (name, _) in &files {
-        may_be_written(given, &beside(folder, *name))?;
-    }
-    report(&all_written(given, folder, &files)?);
-    Ok(())
+        Ok(content)
+    });
+    let contents: Vec<Vec<u8>> = contents.collect::<Outcome<_>>()?;
+    let paths: Vec<PathBuf> = names.iter().map(|&name| beside(folder, name)).collect();
+    paths
+        .iter()
+        .try_for_each(|path| may_be_written(given, path))?;
+    let files = names.iter().zip(&contents).zip(&paths);
+    fill(folder, names.len(), files, |((name, content), path)| {
+        let file = Replacement::in_folder(path, given.flag("--force"))?;
+        Ok((written(name, file, content, path)?, true))
+    })
 }
 
 /// The names of all files, in the listing's order; SYS and MAP are the unit's own.
@@ -355,31 +361,6 @@ fn all_files(session: &mut Session) -> Outcome<Vec<Name>> {
     let entries = listed.map_err(|error| session.unit.refused(what, error))?;
     let names = entries.iter().map(Entry::name);
     Ok(names.filter(|name| !is_own(*name)).collect())
-}
-
-/// Writes files into a folder, each complete or not at all; what is to be said of it.
-fn all_written(given: &Given, folder: &Path, files: &[(Name, Vec<u8>)]) -> Outcome<String> {
-    let made = Folder::at(folder)?;
-    let total = count(files.len() as u64, "file");
-    let mut lines = String::new();
-    for (done, (name, content)) in files.iter().enumerate() {
-        let path = beside(folder, *name);
-        let file = Replacement::in_folder(&path, given.flag("--force"));
-        let line = file.and_then(|file| written(*name, file, content, &path));
-        lines += &line.map_err(|failure| {
-            Failure::Host(format!("{failure}; {done} of {total} were written before"))
-        })?;
-    }
-    made.keep();
-    lines += &format!("{total} written to {}\n", shown(folder));
-    Ok(lines)
-}
-
-/// Writes a file's content to a host file; what is to be said of it.
-fn written(name: Name, file: Replacement, content: &[u8], path: &Path) -> Outcome<String> {
-    file.commit(content)?;
-    let bytes = count(content.len() as u64, "byte");
-    Ok(format!("{name}: {bytes} written to {}\n", shown(path)))
 }
 
 /// Makes this tool a user of a file; how many bytes its blocks have.

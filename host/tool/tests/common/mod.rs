@@ -117,6 +117,15 @@ impl Folder {
         output.expect("the tool runs").into()
     }
 
+    /// Runs the tool under a limit, as options of the shell's ulimit.
+    pub fn limited(&self, limit: &str, arguments: &[&str]) -> Done {
+        let mut shell = Command::new("sh");
+        let script = format!("ulimit {limit}; exec \"$0\" \"$@\"");
+        shell.arg("-c").arg(script).arg(TOOL).args(arguments);
+        shell.current_dir(&self.0).stdin(Stdio::null());
+        shell.output().expect("sh runs").into()
+    }
+
     /// Runs the tool with something on its standard input.
     pub fn run_with(&self, arguments: &[&str], input: &[u8]) -> Done {
         let mut command = self.command(arguments);

@@ -1,15 +1,17 @@
 //! `get` with `--unsound`: what can be read of a file, or of all files, to the host.
 
 use std::collections::HashMap;
-use std::fs;
 use std::io::Write;
 use std::path::{Path, PathBuf};
 
 use reference::layout::SECTOR;
 use reference::rescue::{File, Rescue};
+use reference::text::name_text;
+use reference::Name;
 
 use super::{heading, named, not_with, numbers, MOST_DOUBTS};
 use crate::arguments::Given;
+use crate::commands::many::{fill, may_be_written, written};
 use crate::console::{print, print_bytes, report};
 use crate::failure::{Failure, Outcome};
 use crate::host::{bytes_of, shown, ImageFile, Replacement, SECTOR_BYTES};
@@ -17,37 +19,66 @@ use crate::values::{self, count};
 
 /// All files together are written if they have at most so many times the image's sectors.
 const MOST_TIMES: usize = 16;
+/// And if they are at most so many. A unit has no more slices, and so no more files with blocks; of
+/// those without, 16 have room in each of its sectors.
+const MOST_FILES: usize = 4_096;
+
+/// A file that is not read yet. Of a disc full of entries, what is read and judged of all files
+/// together can be far more than the disc.
+#[derive(Clone, Copy)]
+enum Sought {
+    /// By the number of its entry, which has this name.
+    Entered(usize, Name),
+    /// By the sector of its index block, without an entry.
+    Lost(usize),
+}
+
+impl Sought {
+    /// All files but SYS and MAP, those without an entry too.
+    fn all(rescue: &Rescue) -> Vec<Sought> {
+        let entered = rescue.ordinary();
+        let entered = entered.map(|(number, name)| Sought::Entered(number, name));
+        let lost = rescue.lost().iter().map(|&sector| Sought::Lost(sector));
+        entered.chain(lost).collect()
+    }
+
+    /// The name as it is shown, or `@` and the sector of the index block.
+    fn label(&self) -> String {
+        match self {
+            Sought::Entered(_, name) => name_text(*name),
+            Sought::Lost(sector) => format!("@{sector}"),
+        }
+    }
+
+    /// How many blocks are written.
+    fn blocks(&self, rescue: &Rescue) -> usize {
+        let file = match *self {
+            Sought::Entered(number, _) => rescue.unjudged(number),
+            Sought::Lost(sector) => rescue.of_index(sector),
+        };
+        file.map_or(0, |file| blocks_written(rescue, &file))
+    }
+
+    fn found(&self, rescue: &Rescue) -> Option<Found> {
+        let file = match *self {
+            Sought::Entered(number, _) => rescue.file(number),
+            Sought::Lost(sector) => rescue.of_index(sector),
+        };
+        let label = self.label();
+        file.map(|file| Found { label, file })
+    }
+}
 
 /// A file with what it is called.
 struct Found {
-    /// The name as it is shown, or `@` and the sector of the index block of a lost file.
     label: String,
     file: File,
 }
 
 impl Found {
-    fn entered(file: File) -> Found {
-        Found {
-            label: file.shown(),
-            file,
-        }
-    }
-
-    fn lost(rescue: &Rescue, sector: usize) -> Option<Found> {
-        let file = rescue.of_index(sector)?;
-        let label = format!("@{sector}");
-        Some(Found { label, file })
-    }
-
     /// Whether it has blocks, and none of them can be read.
     fn is_unreadable(&self) -> bool {
         self.file.length() > 0 && self.file.blocks().flatten().next().is_none()
-    }
-
-    /// The line about the file when it is written.
-    fn written(&self, bytes: &[u8], path: &Path) -> String {
-        let bytes = count(bytes.len() as u64, "byte");
-        format!("{}: {bytes} written to {}", self.label, shown(path))
     }
 }
 
@@ -76,8 +107,8 @@ fn one(given: &Given, rescue: &Rescue) -> Outcome {
         true => print_bytes(&bytes)?,
         false => {
             given.not_the_image(path)?;
-            Replacement::of(path, given.flag("--force"))?.commit(&bytes)?;
-            let done = found.written(&bytes, path);
+            let file = Replacement::of(path, given.flag("--force"))?;
+            let done = written(&found.label, file, &bytes, path)?;
             report(&format!("{done}, read without guarantee\n"));
         }
     }
@@ -102,10 +133,12 @@ fn one(given: &Given, rescue: &Rescue) -> Outcome {
 fn wanted(given: &Given, rescue: &Rescue) -> Outcome<Found> {
     let text = given.text(1);
     let Some(sector) = text.strip_prefix('@') else {
-        return Ok(Found::entered(named(given, rescue, &text)?.remove(0)));
+        let file = named(given, rescue, &text)?.remove(0);
+        let label = file.shown();
+        return Ok(Found { label, file });
     };
     let sector = values::number(sector).map_err(|wrong| given.misused(wrong))?;
-    let found = Found::lost(rescue, sector.into());
+    let found = Sought::Lost(sector.into()).found(rescue);
     found.ok_or_else(|| {
         let path = shown(given.path(0));
         Failure::NotFound(format!(
@@ -146,37 +179,38 @@ fn blocks_written(rescue: &Rescue, file: &File) -> usize {
     }
 }
 
-/// All files but SYS and MAP, those without an entry too, each under its name in a folder.
+/// All files, each under its name in a folder. They are judged one by one as they are written.
 fn all(given: &Given, rescue: &Rescue, folder: &Path) -> Outcome {
     not_with(given, &["--bytes"])?;
-    let entered = rescue.files().filter(File::is_ordinary).map(Found::entered);
-    let lost = rescue.lost().iter();
-    let lost = lost.filter_map(|&sector| Found::lost(rescue, sector));
-    let files: Vec<Found> = entered.chain(lost).collect();
-    let paths = paths(folder, &files);
-    for path in &paths {
-        allowed(given, path)?;
-    }
+    let files = Sought::all(rescue);
     bounded(given, rescue, &files)?;
+    let paths = paths(folder, &files);
+    paths
+        .iter()
+        .try_for_each(|path| may_be_written(given, path))?;
     print(&heading(given, rescue, MOST_DOUBTS))?;
-    fs::create_dir_all(folder).map_err(|error| Failure::host(folder, error))?;
-    for (found, path) in files.iter().zip(&paths) {
-        let done = saved(given, rescue, found, path)?;
-        let doubts = match found.file.doubts.is_empty() {
-            true => String::new(),
-            false => format!("; doubtful: {}", found.file.doubts.join("; ")),
-        };
-        report(&format!("{done}{doubts}\n"));
-    }
-    ended(rescue, &files)
+    let mut doubtful = 0;
+    let found = files.iter().map(|file| file.found(rescue));
+    let found = found
+        .zip(&paths)
+        .filter_map(|(found, path)| Some((found?, path)));
+    fill(folder, files.len(), found, |(found, path)| {
+        let doubts = &found.file.doubts;
+        doubtful += usize::from(!doubts.is_empty());
+        let (mut line, is_written) = saved(given, rescue, &found, path)?;
+        if !doubts.is_empty() {
+            line += &format!("; doubtful: {}", doubts.join("; "));
+        }
+        Ok((line, is_written))
+    })?;
+    ended(rescue, files.len(), doubtful)
 }
 
 /// How it ends, by what is doubtful about the files and about the unit: with the unit's doubts
 /// files may be lost that are not among these.
-fn ended(rescue: &Rescue, files: &[Found]) -> Outcome {
-    let doubtful = files.iter().filter(|found| !found.file.doubts.is_empty());
-    let all = count(files.len() as u64, "file");
-    let what = match (doubtful.count(), rescue.doubts().is_empty()) {
+fn ended(rescue: &Rescue, files: usize, doubtful: usize) -> Outcome {
+    let all = count(files as u64, "file");
+    let what = match (doubtful, rescue.doubts().is_empty()) {
         (0, true) => return Ok(()),
         (0, false) => format!("the unit is doubtful, though none of {all} is"),
         (doubtful, _) => format!("{doubtful} of {all} are doubtful"),
@@ -187,39 +221,47 @@ fn ended(rescue: &Rescue, files: &[Found]) -> Outcome {
 }
 
 /// Refuses to write far more than the image has: each of its sectors belongs to one file.
-fn bounded(given: &Given, rescue: &Rescue, files: &[Found]) -> Outcome {
-    let blocks = files
-        .iter()
-        .map(|found| blocks_written(rescue, &found.file));
-    let (blocks, sectors): (usize, usize) = (blocks.sum(), rescue.sectors());
+fn bounded(given: &Given, rescue: &Rescue, files: &[Sought]) -> Outcome {
+    let (number, sectors) = (files.len(), rescue.sectors());
+    let refused = |what: String| {
+        let path = shown(given.path(0));
+        Failure::NotUnit(format!("{path}: {what}: get them one by one"))
+    };
+    if number > MOST_FILES {
+        let most = MOST_FILES;
+        return Err(refused(format!(
+            "there are {number} files, more than {most}"
+        )));
+    }
+    let blocks: usize = files.iter().map(|file| file.blocks(rescue)).sum();
     match blocks > MOST_TIMES * sectors {
-        true => Err(Failure::NotUnit(format!(
-            "{}: the files have {blocks} blocks in all, and the image {sectors} sectors: get them \
-             one by one",
-            shown(given.path(0))
+        true => Err(refused(format!(
+            "the files have {blocks} blocks in all, and the image {sectors} sectors"
         ))),
         false => Ok(()),
     }
 }
 
-/// Writes a file unless none of its blocks can be read; the line about it.
-fn saved(given: &Given, rescue: &Rescue, found: &Found, path: &Path) -> Outcome<String> {
+/// Writes a file unless none of its blocks can be read; the line about it, and whether it is
+/// written.
+fn saved(given: &Given, rescue: &Rescue, found: &Found, path: &Path) -> Outcome<(String, bool)> {
     let Found { label, file } = found;
     if found.is_unreadable() {
-        return Ok(format!("{label}: not written, no block can be read"));
+        let line = format!("{label}: not written, no block can be read");
+        return Ok((line, false));
     }
     let bytes = contents(rescue, file);
-    Replacement::in_folder(path, given.flag("--force"))?.commit(&bytes)?;
-    Ok(found.written(&bytes, path))
+    let file = Replacement::in_folder(path, given.flag("--force"))?;
+    Ok((written(label, file, &bytes, path)?, true))
 }
 
 /// A path for each file: what it is called, which is letters, digits, `%` and `@` only; the second
 /// of a name has `.2` behind it, and so on.
-fn paths(folder: &Path, files: &[Found]) -> Vec<PathBuf> {
-    let mut seen: HashMap<&str, usize> = HashMap::new();
+fn paths(folder: &Path, files: &[Sought]) -> Vec<PathBuf> {
+    let mut seen: HashMap<String, usize> = HashMap::new();
     let mut paths = Vec::new();
-    for Found { label, .. } in files {
-        let number = seen.entry(label).or_insert(0);
+    for label in files.iter().map(Sought::label) {
+        let number = seen.entry(label.clone()).or_insert(0);
         *number += 1;
         paths.push(match number {
             1 => folder.join(label),
@@ -227,23 +269,4 @@ fn paths(folder: &Path, files: &[Found]) -> Vec<PathBuf> {
         });
     }
     paths
-}
-
-/// Whether a path may be written: nothing is there, or a regular file that is to be replaced by
-/// force. A link is not followed: it could lead out of the folder.
-fn allowed(given: &Given, path: &Path) -> Outcome {
-    let Ok(there) = fs::symlink_metadata(path) else {
-        return Ok(());
-    };
-    given.not_the_image(path)?;
-    let wrong = if there.is_symlink() {
-        "this is a link, which is not followed"
-    } else if !there.is_file() {
-        "this is no regular file"
-    } else if !given.flag("--force") {
-        "the file exists already (--force replaces it)"
-    } else {
-        return Ok(());
-    };
-    Err(Failure::host(path, wrong))
 }
