@@ -32,7 +32,7 @@ pub mod text;
 mod types;
 mod unit;
 
-pub use findings::{findings, Finding, Rule};
+pub use findings::{findings, Finding, Rule, MOST_OF_A_RULE};
 pub use sound::{soundness, IndexFault, Unsound};
 pub use straight::{entered, entries, is_sound};
 pub use types::{Answer, Area, Message, Name, Operation, Role, State, User};

@@ -35,6 +35,12 @@ impl fmt::Display for Stretch {
     }
 }
 
+/// Stretches one behind the other, with something between them.
+pub fn joined(stretches: &[Stretch], between: &str) -> String {
+    let parts: Vec<String> = stretches.iter().map(ToString::to_string).collect();
+    parts.join(between)
+}
+
 /// A file and its slices.
 pub struct Holder {
     /// The name.

@@ -21,8 +21,8 @@ use crate::types::{Name, State};
 
 pub use rule::Rule;
 
-/// The most findings of one rule that are kept; the rest are counted.
-const MOST: usize = 1_000;
+/// The most findings of one rule that are given; one more counts the rest.
+pub const MOST_OF_A_RULE: usize = 1_000;
 
 /// A broken rule, and where it is broken.
 #[derive(Clone, PartialEq, Eq, Debug)]
@@ -119,7 +119,7 @@ impl fmt::Display for Finding {
 /// Every broken rule that can be named; none exactly if the image is a sound unit with no area
 /// process open. The first is the one that [`soundness`] answers.
 ///
-/// Of one rule a thousand findings are given at most, and one more that counts the rest.
+/// Of one rule [`MOST_OF_A_RULE`] are given at most, and one more that counts the rest.
 pub fn findings(image: &[u16]) -> Vec<Finding> {
     let mut found = Found {
         findings: Vec::new(),
@@ -165,7 +165,7 @@ impl Found {
     fn add(&mut self, rule: Rule, make: impl FnOnce(Finding) -> Finding) {
         let count = &mut self.counts[rule as usize];
         *count += 1;
-        if *count <= MOST {
+        if *count <= MOST_OF_A_RULE {
             self.findings.push(make(Finding::new(rule)));
         }
     }
@@ -173,7 +173,7 @@ impl Found {
     /// All findings, the counted ones behind.
     fn finish(mut self) -> Vec<Finding> {
         for rule in Rule::ALL {
-            let more = self.counts[rule as usize].saturating_sub(MOST);
+            let more = self.counts[rule as usize].saturating_sub(MOST_OF_A_RULE);
             if more > 0 {
                 let text = format!("{more} more of this rule");
                 self.findings.push(Finding::new(rule).says(text));

@@ -127,12 +127,8 @@ fn finding_lines(finding: &Finding, form: Form) -> String {
     let rule = finding.rule;
     let mut lines = format!("  rule {}: {}\n", rule.number(), rule.text());
     lines += &format!("    found: {finding}\n");
-    if let Some((sector, byte)) = place(finding, form) {
-        let (unit, file) = match form.offset {
-            Some(_) => (" of the unit", " of the file"),
-            None => ("", ""),
-        };
-        lines += &format!("    at: sector {sector}{unit}, byte {byte}{file}\n");
+    if let Some((sector, word)) = finding.place() {
+        lines += &format!("    at: {}\n", form.place(sector, word));
     }
     lines
 }

@@ -14,7 +14,7 @@ use crate::host::shown;
 use crate::progress::Progress;
 use crate::session::Session;
 use crate::values::{count, hex};
-use crate::view::{Holder, View};
+use crate::view::{joined, Holder, View};
 
 /// Where kit words 6 and 7, which are carried, stand in an image.
 const CARRIED: std::ops::Range<usize> = 8 * 256 + 6..8 * 256 + 8;
@@ -208,9 +208,19 @@ impl Pair {
 
     /// How many of the blocks that both have differ, and the first of them.
     fn of_blocks(&mut self, name: Name, common: u16) -> Outcome<Option<String>> {
-        for side in [&mut self.one, &mut self.other] {
-            open_area(&mut side.session, name, Role::Sharing)?;
-        }
+        open_area(&mut self.one.session, name, Role::Sharing)?;
+        open_area(&mut self.other.session, name, Role::Sharing)?;
+        let differing = self.differing(name, common)?;
+        close_area(&mut self.one.session, name)?;
+        close_area(&mut self.other.session, name)?;
+        Ok(differing.first().map(|first| {
+            let number = differing.len();
+            format!("{name}: blocks: {number} of {common} differ, the first is block {first}\n")
+        }))
+    }
+
+    /// Those of the first blocks of a file that differ.
+    fn differing(&mut self, name: Name, common: u16) -> Outcome<Vec<u16>> {
         let mut progress = Progress::new(name.to_string(), Some(common.into()));
         let mut differing = Vec::new();
         for block in 0..common {
@@ -219,13 +229,7 @@ impl Pair {
             }
             progress.advance();
         }
-        for side in [&mut self.one, &mut self.other] {
-            close_area(&mut side.session, name)?;
-        }
-        Ok(differing.first().map(|first| {
-            let number = differing.len();
-            format!("{name}: blocks: {number} of {common} differ, the first is block {first}\n")
-        }))
+        Ok(differing)
     }
 }
 
@@ -243,9 +247,8 @@ fn of_entry(entry: &Entry) -> [(&'static str, String); 4] {
 
 /// A file's stretches in slices, all of them.
 fn listed(file: &Holder) -> String {
-    let parts: Vec<String> = file.stretches.iter().map(ToString::to_string).collect();
-    match parts.is_empty() {
+    match file.stretches.is_empty() {
         true => "none".into(),
-        false => parts.join(" "),
+        false => joined(&file.stretches, " "),
     }
 }

@@ -24,6 +24,15 @@ impl Form {
         bytes_from_words(words, self.order)
     }
 
+    /// Where a word of a sector of the unit is: the sector counts in the unit, the byte in the file.
+    pub fn place(self, sector: usize, word: usize) -> String {
+        let byte = self.byte(sector, word);
+        match self.offset {
+            Some(_) => format!("sector {sector} of the unit, byte {byte} of the file"),
+            None => format!("sector {sector}, byte {byte}"),
+        }
+    }
+
     /// The byte of the file at which a word of a sector of the unit begins.
     pub fn byte(self, sector: usize, word: usize) -> u64 {
         let before = self.offset.unwrap_or(0) + sector as u64;

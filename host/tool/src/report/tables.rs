@@ -4,7 +4,7 @@ use ruzkemp::Name;
 
 use crate::host::SECTOR_BYTES;
 use crate::palette::{code, Colour};
-use crate::view::{Holder, Stretch, View};
+use crate::view::{joined, Holder, Stretch, View};
 
 use super::map::colours;
 use super::summary::longest;
@@ -94,15 +94,10 @@ fn swatch(file: &Holder, colour: Option<Colour>) -> String {
 
 /// The slices of stretches, all of them.
 fn listed(stretches: &[Stretch]) -> String {
-    if stretches.is_empty() {
-        return "no slices".into();
+    match stretches.is_empty() {
+        true => "no slices".into(),
+        false => format!("slices {}", joined(stretches, ", ")),
     }
-    let parts = stretches.iter().map(|stretch| match stretch.slices {
-        1 => stretch.first.to_string(),
-        _ => format!("{}-{}", stretch.first, stretch.last()),
-    });
-    let parts: Vec<String> = parts.collect();
-    format!("slices {}", parts.join(", "))
 }
 
 /// The section with the free stretches.

@@ -1,7 +1,7 @@
 //! The page's cards about an image that is not sound: its numbers, what was found, by rule, and how to
 //! go on.
 
-use reference::{Finding, Rule};
+use reference::{Finding, Rule, MOST_OF_A_RULE};
 
 use crate::host::Form;
 
@@ -11,8 +11,6 @@ use super::text::escaped;
 
 /// The most findings of a rule that are shown.
 const SHOWN: usize = 20;
-/// Of a rule so many findings are named, and one more counts the rest.
-const NAMED: usize = 1_000;
 
 /// The cards.
 pub fn cards(image: &Unsound) -> String {
@@ -71,7 +69,7 @@ fn by_rule(findings: &[Finding]) -> Vec<(Rule, Vec<&Finding>)> {
 fn group(rule: Rule, findings: &[&Finding], form: Form) -> String {
     let shown = &findings[..findings.len().min(SHOWN)];
     let items: String = shown.iter().map(|finding| item(finding, form)).collect();
-    let least = match findings.len() > NAMED {
+    let least = match findings.len() > MOST_OF_A_RULE {
         true => "at least ",
         false => "",
     };
@@ -88,15 +86,11 @@ fn group(rule: Rule, findings: &[&Finding], form: Form) -> String {
     )
 }
 
-/// What was found, and where: the sector counts in the unit, the byte in the file.
+/// What was found, and where.
 fn item(finding: &Finding, form: Form) -> String {
     let place = finding.place().map_or(String::new(), |(sector, word)| {
-        let byte = form.byte(sector, word);
-        let (unit, file) = match form.offset {
-            Some(_) => (" of the unit", " of the file"),
-            None => ("", ""),
-        };
-        format!(" <span class=\"muted\">(sector {sector}{unit}, byte {byte}{file})</span>")
+        let place = form.place(sector, word);
+        format!(" <span class=\"muted\">({place})</span>")
     });
     let found = escaped(&finding.to_string());
     format!("<li>{found}{place}</li>\n")
