@@ -47,27 +47,30 @@ struct Cell {
 pub fn map(view: &View, colours: bool) -> String {
     let holders = view.holders();
     let marks = marks(&holders);
-    let mut cells = vec![Cell::default(); view.slices()];
-    for (owner, holder) in holders.iter().enumerate() {
-        for stretch in &holder.stretches {
-            let range = stretch.first - 1..stretch.last();
-            cells[range].fill(Cell {
-                owner: Some(owner),
-                begins: false,
-            });
-            cells[stretch.first - 1].begins = true;
-        }
-    }
     let mut text = view.headline();
     text += "\n\n";
-    for (row, cells) in cells.chunks(ROW).enumerate() {
-        text += &format!("{:>5} ", row * ROW + 1);
-        for (place, cell) in cells.iter().enumerate() {
-            text += &drawn(*cell, place == 0, &marks, colours);
-        }
-        text.push('\n');
+    for (row, cells) in cells(view, &holders).chunks(ROW).enumerate() {
+        let cells = cells.iter().enumerate();
+        let symbols = cells.map(|(place, cell)| drawn(*cell, place == 0, &marks, colours));
+        let symbols: String = symbols.collect();
+        text += &format!("{:>5} {symbols}\n", row * ROW + 1);
     }
     text + &legend(view, &holders, &marks, colours)
+}
+
+/// All slices.
+fn cells(view: &View, holders: &[&Holder]) -> Vec<Cell> {
+    let stretches = holders.iter().enumerate().flat_map(|(owner, holder)| {
+        let stretches = holder.stretches.iter();
+        stretches.map(move |stretch| (Some(owner), stretch))
+    });
+    let mut cells = vec![Cell::default(); view.slices()];
+    for (owner, stretch) in stretches {
+        let begins = false;
+        cells[stretch.first - 1..stretch.last()].fill(Cell { owner, begins });
+        cells[stretch.first - 1].begins = true;
+    }
+    cells
 }
 
 /// A slice in one character: its file's symbol where a stretch or a row begins, `-` where a

@@ -190,31 +190,42 @@ impl Paint {
 
 /// The bars of all stretches, and the names for which there is room.
 fn drawn(view: &View, grid: &Grid) -> (String, String) {
-    let (mut bars, mut names) = (String::new(), String::new());
-    for (number, stretch) in view.free.iter().enumerate() {
-        let title = format!("free: {}", place(view, stretch));
-        bars += &bar(
-            grid,
-            &format!("e{number}"),
-            "class=\"free\"",
-            stretch,
-            &title,
-        );
-    }
+    let (mut bars, mut names) = (free_bars(view, grid), String::new());
     for ((number, file), colour) in view.files.iter().enumerate().zip(colours(view)) {
-        let (Some(colour), of) = (colour, format!("f{number}")) else {
-            continue;
-        };
-        let paint = Paint::of(file, colour);
-        let mut before = 0;
-        for (place, stretch) in file.stretches.iter().enumerate() {
-            let title = title(view, file, place, before);
-            bars += &bar(grid, &of, &paint.bar, stretch, &title);
-            names += &name(grid, file, place, &paint.name);
-            before += stretch.slices;
+        if let Some(colour) = colour {
+            let paint = Paint::of(file, colour);
+            bars += &bars_of(view, grid, file, &format!("f{number}"), &paint.bar);
+            names += &names_of(grid, file, &paint.name);
         }
     }
     (bars, names)
+}
+
+/// The bars of the free stretches.
+fn free_bars(view: &View, grid: &Grid) -> String {
+    let bars = view.free.iter().enumerate().map(|(number, stretch)| {
+        let title = format!("free: {}", place(view, stretch));
+        let of = format!("e{number}");
+        bar(grid, &of, "class=\"free\"", stretch, &title)
+    });
+    bars.collect()
+}
+
+/// The bars of a file's stretches.
+fn bars_of(view: &View, grid: &Grid, file: &Holder, of: &str, fill: &str) -> String {
+    let mut before = 0;
+    let bars = file.stretches.iter().enumerate().map(|(place, stretch)| {
+        let title = title(view, file, place, before);
+        before += stretch.slices;
+        bar(grid, of, fill, stretch, &title)
+    });
+    bars.collect()
+}
+
+/// The names in a file's bars.
+fn names_of(grid: &Grid, file: &Holder, paint: &str) -> String {
+    let places = 0..file.stretches.len();
+    places.map(|place| name(grid, file, place, paint)).collect()
 }
 
 fn bar(grid: &Grid, of: &str, fill: &str, stretch: &Stretch, title: &str) -> String {

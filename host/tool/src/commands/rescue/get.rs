@@ -190,10 +190,8 @@ fn all(given: &Given, rescue: &Rescue, folder: &Path) -> Outcome {
         .try_for_each(|path| may_be_written(given, path))?;
     print(&heading(given, rescue, MOST_DOUBTS))?;
     let mut doubtful = 0;
-    let found = files.iter().map(|file| file.found(rescue));
-    let found = found
-        .zip(&paths)
-        .filter_map(|(found, path)| Some((found?, path)));
+    let both = files.iter().zip(&paths);
+    let found = both.filter_map(|(file, path)| Some((file.found(rescue)?, path)));
     fill(folder, files.len(), found, |(found, path)| {
         let doubts = &found.file.doubts;
         doubtful += usize::from(!doubts.is_empty());

@@ -29,25 +29,26 @@ pub fn ls(given: &Given) -> Outcome {
 fn table(rescue: &Rescue, heading: String) -> Outcome {
     let mut text = heading + "NAME   LENGTH RESERVED  INDEX STRETCHES    ENTRY ATTRIBUTES\n";
     let mut doubtful = 0;
-    for file in rescue
-        .sorted()
-        .into_iter()
-        .filter_map(|number| rescue.file(number))
-    {
+    let numbers = rescue.sorted().into_iter();
+    for file in numbers.filter_map(|number| rescue.file(number)) {
         text += &line(&file);
+        text += &some_doubts(&file);
         doubtful += usize::from(!file.doubts.is_empty());
-        for doubt in file.doubts.iter().take(MOST_LISTED) {
-            text += &format!("  doubtful: {doubt}\n");
-        }
-        if let Some(more @ 1..) = file.doubts.len().checked_sub(MOST_LISTED) {
-            text += &format!("  and {more} more (show --unsound says them)\n");
-        }
         if text.len() >= PART {
             print(&std::mem::take(&mut text))?;
         }
     }
     text += &format!("{} entries, {doubtful} doubtful", rescue.entries());
     print(&(text + &free(rescue) + "\n"))
+}
+
+/// What is doubtful about a file, below its line.
+fn some_doubts(file: &File) -> String {
+    let listed = file.doubts.iter().take(MOST_LISTED);
+    let listed = listed.map(|doubt| format!("  doubtful: {doubt}\n"));
+    let more = file.doubts.len().saturating_sub(MOST_LISTED);
+    let more = (more > 0).then(|| format!("  and {more} more (show --unsound says them)\n"));
+    listed.chain(more).collect()
 }
 
 fn line(file: &File) -> String {
@@ -127,18 +128,15 @@ fn shown(file: &File, layout: &Layout, offset: u64) -> String {
 /// The pairs that are followed, and the blocks in them.
 fn pairs(file: &File, layout: &Layout) -> String {
     let mut text = String::new();
-    let mut position = 0;
-    for (number, pair) in file.pairs.iter().enumerate() {
+    for (number, (position, pair)) in file.placed().enumerate() {
         let what = match pair.length {
             0 => format!("length 0 at sector {}", pair.start),
-            _ => format!(
-                "{}, {}",
-                sectors(pair, layout),
-                blocks(file, position, pair)
-            ),
+            _ => {
+                let blocks = blocks(file, position, &pair);
+                format!("{}, {blocks}", sectors(&pair, layout))
+            }
         };
         text += &format!("pair {:<6} {what}\n", number + 1);
-        position += pair.length;
     }
     text
 }

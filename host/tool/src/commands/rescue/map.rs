@@ -103,32 +103,39 @@ fn rows(drawn: &[Drawn], symbols: &Symbols) -> String {
 
 /// Each symbol with the number of slices that have it.
 fn legend(drawn: &[Drawn], symbols: &Symbols) -> String {
-    let mut text = String::new();
+    let owned = owned(drawn);
+    let files = symbols.files.iter();
+    let files = files.map(|(claimer, name, symbol)| {
+        let slices = owned.get(claimer).copied().unwrap_or(0);
+        format!("{symbol} {name:<5} {slices:>5}\n")
+    });
+    let others = [
+        (Drawn::Free, "marked free, claimed by none"),
+        (Drawn::Several, "claimed by several"),
+        (Drawn::Lost, "marked used, claimed by none"),
+        (Drawn::Unmarked, "marked free, yet claimed"),
+    ];
+    let others = others.map(|(what, said)| {
+        let slices = slices(drawn, what);
+        let listed = match what == Drawn::Free || slices.is_empty() {
+            true => String::new(),
+            false => format!(": {}", some(&slices)),
+        };
+        let (symbol, number) = (symbols.symbol(what), slices.len());
+        format!("{symbol}       {number:>5} {said}{listed}\n")
+    });
+    files.chain(others).collect()
+}
+
+/// How many slices each has that nobody else claims.
+fn owned(drawn: &[Drawn]) -> BTreeMap<Claimer, usize> {
     let mut owned: BTreeMap<Claimer, usize> = BTreeMap::new();
     for slice in drawn {
         if let Drawn::Owner(owner) = slice {
             *owned.entry(*owner).or_default() += 1;
         }
     }
-    for (claimer, name, symbol) in &symbols.files {
-        let slices = owned.get(claimer).copied().unwrap_or(0);
-        text += &format!("{symbol} {name:<5} {slices:>5}\n");
-    }
-    for (what, said) in [
-        (Drawn::Free, "marked free, claimed by none"),
-        (Drawn::Several, "claimed by several"),
-        (Drawn::Lost, "marked used, claimed by none"),
-        (Drawn::Unmarked, "marked free, yet claimed"),
-    ] {
-        let slices = slices(drawn, what);
-        let symbol = symbols.symbol(what);
-        text += &format!("{symbol}       {:>5} {said}", slices.len());
-        if what != Drawn::Free && !slices.is_empty() {
-            text += &format!(": {}", some(&slices));
-        }
-        text.push('\n');
-    }
-    text
+    owned
 }
 
 /// The slices that are drawn so.
