@@ -204,21 +204,17 @@ fn looks_like_entries(image: &[u16], layout: &Layout, sector: usize) -> bool {
 
 /// The used places of sectors.
 fn places(image: &[u16], sectors: &[CatalogSector]) -> Vec<Place> {
-    let mut found = Vec::new();
-    for &CatalogSector { sector, block } in sectors {
-        for place in 0..PLACES {
-            match words_at(image, sector, place) {
-                Some(words) if words != [0; ENTRY] => found.push(Place {
-                    sector,
-                    place,
-                    block,
-                    words,
-                }),
-                _ => {}
-            }
-        }
-    }
-    found
+    let all = sectors.iter().flat_map(|&CatalogSector { sector, block }| {
+        (0..PLACES).filter_map(move |place| {
+            Some(Place {
+                sector,
+                place,
+                block,
+                words: words_at(image, sector, place)?,
+            })
+        })
+    });
+    all.filter(|place| place.words != [0; ENTRY]).collect()
 }
 
 /// What is wrong with the index of MAP.

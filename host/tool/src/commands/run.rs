@@ -1,9 +1,10 @@
 //! `run`: the messages of a script, one after the other.
 
 use std::io;
+use std::iter::repeat_n;
 use std::path::Path;
 
-use ruzkemp::{Answer, Entry, Error, Message, Operation, Unit, ENTRY, SECTOR};
+use ruzkemp::{Answer, Area, Entry, Error, Message, Operation, Unit, ENTRY, SECTOR};
 
 use crate::arguments::{flag, Command, Given, DRY_RUN, LOW, OFFSET, UNIT};
 use crate::console::{print, report, visible_line};
@@ -191,19 +192,26 @@ fn answer_line(
 fn close_all(unit: &mut Explained) -> Outcome {
     let areas: Vec<_> = unit.state().areas().collect();
     for area in areas {
+        release_all(unit, &area)?;
         let name = area.name.on_unit(unit.number());
-        for user in &area.users {
-            let message = Message::AreaMessage {
-                name,
-                sender: user.id,
-                operation: Operation::Reserve(0),
-            };
-            for _ in 0..user.opens {
-                close(unit, &format!("release {}", area.name), &message)?;
-            }
-        }
         let message = Message::RemoveArea { name };
         close(unit, &format!("remove-area {}", area.name), &message)?;
+    }
+    Ok(())
+}
+
+/// Releases an area process for each of its users as often as it was reserved.
+fn release_all(unit: &mut Explained, area: &Area) -> Outcome {
+    let name = area.name.on_unit(unit.number());
+    let users = area.users.iter();
+    for sender in users.flat_map(|user| repeat_n(user.id, user.opens.into())) {
+        let operation = Operation::Reserve(0);
+        let message = Message::AreaMessage {
+            name,
+            sender,
+            operation,
+        };
+        close(unit, &format!("release {}", area.name), &message)?;
     }
     Ok(())
 }
