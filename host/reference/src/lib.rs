@@ -13,7 +13,7 @@
 //! * [`raw`] has the messages as a C program sends them, whose number may be no call's.
 //! * [`pairs`] says which result words are allowed to each call.
 //! * [`rescue`] reads what can be read of an image that is not a sound unit.
-//! * [`text`] shows names.
+//! * [`text`] shows names and tells which differ in case only.
 //! * [`generate`] makes units, lists of calls and damage from a seed.
 
 #![warn(missing_docs)]
