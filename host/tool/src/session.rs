@@ -9,7 +9,7 @@ use crate::arguments::Given;
 use crate::explained::Explained;
 use crate::failure::{Failure, Outcome};
 use crate::hint;
-use crate::host::{shown, Form, ImageFile, Replacement};
+use crate::host::{called, shown, Form, ImageFile, Replacement};
 
 /// An image file's unit, initialized.
 pub struct Session {
@@ -156,7 +156,7 @@ fn make_in_pack(given: &Given, made: impl FnOnce() -> Outcome<Explained>) -> Out
 
 /// The failure that an image which Init does not accept is.
 fn unsound(file: &ImageFile, image: &[u16]) -> Failure {
-    let path = shown(&file.shown);
+    let path = called(&file.shown);
     match reference::findings(image).first() {
         Some(first) => {
             let number = first.rule.number();

@@ -5,6 +5,7 @@ mod common;
 use std::ffi::OsStr;
 use std::fs::{self, File};
 use std::os::unix::ffi::OsStrExt;
+use std::os::unix::fs::PermissionsExt;
 use std::process::{Command, Stdio};
 
 use common::{Done, Folder, TOOL};
@@ -54,8 +55,8 @@ fn an_image_that_is_only_read_may_come_from_a_pipe() {
     let pack = [&[1; 512 * 3][..], &image, &[2; 100]].concat();
     for arguments in READING {
         let wanted = folder.good(&on("a.img", arguments));
-        for name in ["-", "/dev/stdin"] {
-            let wanted = wanted.replace("a.img", name);
+        for (name, called) in [("-", "standard input"), ("/dev/stdin", "/dev/stdin")] {
+            let wanted = wanted.replace("a.img", called);
             let from_pipe = on(name, arguments);
             let done = folder.run_with(&from_pipe, &image);
             assert_eq!((done.status, done.err.as_str()), (0, ""), "{from_pipe:?}");
@@ -282,6 +283,31 @@ fn arguments_are_printed_in_one_line() {
         ),
     ] {
         folder.bad(arguments, 2, words);
+    }
+}
+
+/// Force is advised only where it helps.
+#[test]
+fn what_force_does_not_replace_is_told() {
+    let folder = folder();
+    fs::create_dir(folder.file("folder")).expect("made");
+    std::os::unix::fs::symlink("nowhere", folder.file("link")).expect("made");
+    folder.write("kept", b"x");
+    let kept = fs::Permissions::from_mode(0o444);
+    fs::set_permissions(folder.file("kept"), kept).expect("set");
+    for (path, words) in [
+        ("/dev/null", "/dev/null: this is no regular file"),
+        ("folder", "folder: this is no regular file"),
+        ("link", "link: this is a link that leads to no file"),
+        ("kept", "kept: the file exists already, read-only"),
+        ("a.img", "is the image itself"),
+    ] {
+        let arguments = ["get", "a.img", "PASS", path];
+        let done = folder.run(&arguments);
+        assert!(done.status > 1 && done.err.contains(words), "{done:?}");
+        let forced = folder.run(&[&arguments[..], &["--force"]].concat());
+        assert!(forced.status > 1, "{path}: {forced:?}");
+        assert!(!done.err.contains("--force replaces"), "{done:?}");
     }
 }
 

@@ -219,7 +219,7 @@ fn a_damaged_kit_is_told_and_given_numbers_are_used() {
             "s and F are not known: files without an entry are not looked for (--slice, --first)",
         ],
     );
-    let fit = "s and F are not known, the kit is damaged: these numbers fit: --keys 3 --slice 4";
+    let fit = "s and F are not known: these numbers fit: --keys 3 --slice 4";
     folder.bad(&["map", "a.img", "--unsound"], 4, fit);
     let given = ["--keys", "3", "--slice", "4", "--first", "10"];
     let line = [&["ls", "a.img", "--unsound"][..], &given].concat();
@@ -1128,6 +1128,33 @@ fn the_bytes_of_an_entry_are_those_of_the_file() {
     let wanted = "\nentry       sector 12, place 0, bytes 9728 to 9759\n";
     let out = read(&folder, &line);
     assert!(out.contains(wanted), "{out}");
+}
+
+/// SYS and MAP are not written, and what is doubtful about their entries makes the unit doubtful.
+#[test]
+fn a_doubt_about_the_entry_of_map_counts_for_all_files() {
+    // The length of MAP, whose entry is the second of sector 10, becomes 5.
+    let folder = damaged(&[(entry(10, 1, 7), 5)]);
+    let done = doubtful(&folder, &["get", "a.img", "--all", "out", "--unsound"]);
+    assert!(done.out.contains("\n  doubtful: MAP (10:1): "), "{done:?}");
+    let words = "the unit is doubtful, though none of 9 files is";
+    assert!(done.err.contains(words), "{done:?}");
+    all_there(&folder, "out");
+}
+
+/// Why there is no map is said as it is.
+#[test]
+fn a_map_that_cannot_be_drawn_says_why() {
+    // The kit's s becomes 0.
+    let folder = damaged(&[((8, 1), 0)]);
+    let words = "a.img: s is not known: these numbers fit: --keys 3 --slice 4 --first 10";
+    folder.bad(&["map", "a.img", "--unsound"], 4, words);
+    let bytes = folder.read("good.img");
+    folder.write("a.img", &bytes[..10 * 512]);
+    let words = "a.img: the image has 10 sectors and ends before the first slice\n";
+    folder.bad(&["map", "a.img", "--unsound"], 4, words);
+    let given = ["map", "a.img", "--unsound", "--slice", "4", "--first", "10"];
+    folder.bad(&given, 4, words);
 }
 
 #[test]

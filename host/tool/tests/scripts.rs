@@ -373,7 +373,13 @@ fn a_script_that_cannot_be_read_is_not_begun() {
         ("expect create PASS", "'create' is no number"),
     ] {
         let script = format!("init\n# a comment\n\ncreate PASS\n{line}\n");
-        let done = bad(&folder, &script, &[], 2, &format!("-: line 5: {words}"));
+        let done = bad(
+            &folder,
+            &script,
+            &[],
+            2,
+            &format!("standard input: line 5: {words}"),
+        );
         assert_eq!(done.out, "", "no message is sent");
     }
     let long = format!("output PASS text={}", "x".repeat(513));

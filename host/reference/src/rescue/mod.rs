@@ -106,7 +106,9 @@ impl<'a> Rescue<'a> {
         }
         let claimed = self.claim_doubts(&self.sys_file(), Some(Claimer::Catalog));
         doubts.extend(claimed.into_iter().map(|doubt| format!("SYS: {doubt}")));
-        doubts.extend(self.layout.unknown());
+        doubts.extend(self.layout.unknown().map(|(what, choices)| {
+            format!("{what}: files without an entry are not looked for ({choices})")
+        }));
         doubts.extend(self.unclaimed());
         doubts.extend(self.lost.iter().map(|&sector| {
             let total = self.lost_total(sector);
@@ -159,6 +161,14 @@ impl<'a> Rescue<'a> {
     /// All files, in the order of their entries.
     pub fn files(&self) -> impl Iterator<Item = File> + '_ {
         (0..self.entries()).filter_map(|number| self.file(number))
+    }
+
+    /// The numbers of the entries of SYS and MAP.
+    pub fn own(&self) -> impl Iterator<Item = usize> + '_ {
+        [SYS, MAP]
+            .into_iter()
+            .flat_map(|name| self.find(name))
+            .copied()
     }
 
     /// The numbers of the entries but SYS's and MAP's, each with the name.

@@ -73,17 +73,14 @@ impl Layout {
         Some((self.n.saturating_sub(f) / s).min(MOST_SLICES))
     }
 
-    /// What is not known of s and F, and what is not done therefore.
-    pub(super) fn unknown(&self) -> Option<String> {
-        let (what, choices) = match (self.s, self.f) {
-            (None, None) => ("s and F are", "--slice, --first"),
-            (None, Some(_)) => ("s is", "--slice"),
-            (Some(_), None) => ("F is", "--first"),
-            (Some(_), Some(_)) => return None,
-        };
-        Some(format!(
-            "{what} not known: files without an entry are not looked for ({choices})"
-        ))
+    /// What is not known of s and F, and the options that give it.
+    pub fn unknown(&self) -> Option<(&'static str, &'static str)> {
+        match (self.s, self.f) {
+            (None, None) => Some(("s and F are not known", "--slice, --first")),
+            (None, Some(_)) => Some(("s is not known", "--slice")),
+            (Some(_), None) => Some(("F is not known", "--first")),
+            (Some(_), Some(_)) => None,
+        }
     }
 
     /// The first sector of a slice, if s and F are known.

@@ -9,7 +9,7 @@ use ruzkemp::State;
 use crate::arguments::{flag, Command, Given, LOW, OFFSET, UNIT};
 use crate::console::{print, visible};
 use crate::failure::{Failure, Outcome};
-use crate::host::{shown, Form, ImageFile};
+use crate::host::{called, Form, ImageFile};
 use crate::{hint, json};
 
 /// `check`.
@@ -102,7 +102,7 @@ fn worse(before: Option<Failure>, now: Failure) -> Failure {
 
 /// An image's lines: the first finding or all, and both verdicts.
 fn report(path: &Path, checked: &Checked, all: bool) -> String {
-    let (findings, path) = (&checked.findings, shown(path));
+    let (findings, path) = (&checked.findings, called(path));
     let mut text = format!("{path}: {}\n", verdict(checked.second() && checked.proved));
     let shown = if all {
         findings.len()
@@ -195,7 +195,7 @@ fn finding_object(finding: &Finding, form: Form) -> String {
 
 /// How the check of an image ends, by the two verdicts.
 fn judged(path: &Path, second: bool, proved: bool) -> Outcome {
-    let path = shown(path);
+    let path = called(path);
     match (second, proved) {
         (true, true) => Ok(()),
         (false, false) => Err(Failure::NotUnit(format!("{path}: not a sound unit"))),

@@ -10,7 +10,7 @@ use crate::commands::many::is_own;
 use crate::commands::transfer::{close_area, open_area, SENDER};
 use crate::console::print;
 use crate::failure::{Failure, Outcome};
-use crate::host::shown;
+use crate::host::called;
 use crate::progress::Progress;
 use crate::session::Session;
 use crate::values::{count, hex};
@@ -110,7 +110,7 @@ impl Side {
         let form = given.form_by(low, offset)?;
         let mut session = Session::to_read_at(given, place, form)?;
         let view = View::of(&mut session)?;
-        let path = shown(given.path(place));
+        let path = called(given.path(place));
         Ok(Side {
             // The two may be units of one pack.
             shown: match form.offset {

@@ -7,6 +7,7 @@ use super::rescue::{self, FIRST, KEYS, SLICE, UNSOUND};
 use crate::arguments::{flag, valued, Command, Given, LOW, OFFSET, UNIT};
 use crate::console::{colours, print};
 use crate::failure::Outcome;
+use crate::host::title;
 use crate::session::Session;
 use crate::view::View;
 use crate::{json, picture, terminal};
@@ -53,8 +54,7 @@ fn map(given: &Given) -> Outcome {
     let Some(path) = given.raw("--svg").map(Path::new) else {
         return print(&terminal::map(&view, colours()));
     };
-    let image = given.path(0).file_name().unwrap_or_default();
-    let drawn = picture::svg(&view, &image.to_string_lossy());
+    let drawn = picture::svg(&view, &title(given.path(0)).to_string_lossy());
     output(given, path, &drawn, "picture")
 }
 

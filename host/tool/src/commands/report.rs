@@ -5,7 +5,7 @@ use std::path::Path;
 use super::output::output;
 use crate::arguments::{flag, valued, Command, Given, LOW, OFFSET, UNIT};
 use crate::failure::{Failure, Outcome};
-use crate::host::shown;
+use crate::host::called;
 use crate::report::{page, Content, Subject};
 
 /// `report`.
@@ -40,10 +40,7 @@ fn report(given: &Given) -> Outcome {
     match subject.content {
         Content::Sound(_) => Ok(()),
         Content::Unsound(_) => {
-            let image = match given.path(0) {
-                input if input == Path::new("-") => "standard input".into(),
-                path => shown(path),
-            };
+            let image = called(given.path(0));
             Err(Failure::NotUnit(format!("{image}: not a sound unit")))
         }
     }

@@ -10,7 +10,7 @@ use crate::arguments::{flag, Command, Given, DRY_RUN, LOW, OFFSET, UNIT};
 use crate::console::{print, report, visible_line};
 use crate::explained::Explained;
 use crate::failure::{Failure, Outcome};
-use crate::host::{bytes_of, shown, streams};
+use crate::host::{bytes_of, called, streams};
 use crate::script::{parse, Lent, Line, Show, Step};
 use crate::session::Session;
 
@@ -44,7 +44,7 @@ fn run(given: &Given) -> Outcome {
     let unit = given.unit()?;
     let script = given.path(1);
     let parsed = parse(&read(script)?, unit);
-    let lines = parsed.map_err(|wrong| Failure::Usage(format!("{}: {wrong}", shown(script))))?;
+    let lines = parsed.map_err(|wrong| Failure::Usage(format!("{}: {wrong}", called(script))))?;
     let mut session = Session::uninitialized(given)?;
     for line in &lines {
         let obeyed = obey(&mut session.unit, line, given.flag("--keep-going"), print);

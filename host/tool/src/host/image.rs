@@ -6,7 +6,7 @@ use std::path::{Path, PathBuf};
 use reference::layout::{Kit, KIT};
 
 use super::lock::Old;
-use super::{irregular, regular, shown, streams, Form, Replacement, MOST_SECTORS, SECTOR_BYTES};
+use super::{called, irregular, regular, streams, Form, Replacement, MOST_SECTORS, SECTOR_BYTES};
 use crate::console::warn;
 use crate::failure::{Failure, Outcome};
 use crate::hint;
@@ -278,21 +278,13 @@ fn wrong_length(shown: &Path, wrong: &str, words: &[u16], form: Form, remedy: &s
 }
 
 fn no_image(shown: &Path, wrong: &str) -> Failure {
-    let path = path_of(shown);
+    let path = called(shown);
     Failure::NotUnit(format!("{path}: not a unit image: {wrong}"))
 }
 
 fn warn_of_half(shown: &Path) {
-    let path = path_of(shown);
+    let path = called(shown);
     warn(&format!(
         "{path}: the last byte is half a word and is not read"
     ));
-}
-
-/// The file as messages name it.
-fn path_of(path: &Path) -> String {
-    match path == Path::new("-") {
-        true => "standard input".into(),
-        false => shown(path),
-    }
 }

@@ -8,6 +8,7 @@ mod replacement;
 pub mod signals;
 pub mod streams;
 
+use std::ffi::OsStr;
 use std::fs::{self, File, Metadata};
 use std::io;
 use std::os::fd::{AsFd, BorrowedFd};
@@ -39,6 +40,22 @@ pub fn bytes_of(words: &[u16]) -> Vec<u8> {
 /// A path as it is told to users: with no character that a terminal would obey.
 pub fn shown(path: &Path) -> String {
     visible_line(&path.to_string_lossy())
+}
+
+/// What is read, as it is told to users: `-` is standard input.
+pub fn called(path: &Path) -> String {
+    match path == Path::new("-") {
+        true => "standard input".into(),
+        false => shown(path),
+    }
+}
+
+/// What is read, as a heading names it: without the folder.
+pub fn title(path: &Path) -> &OsStr {
+    match path.to_str() {
+        Some("-" | "/dev/stdin") => OsStr::new("standard input"),
+        _ => path.file_name().unwrap_or_default(),
+    }
 }
 
 /// The file that a path leads to, links followed. Anything but a regular file is refused:

@@ -8,7 +8,7 @@ use std::process;
 
 use super::lock::Old;
 use super::signals::{self, Temporary};
-use super::{extended, not_a_link, regular, shown};
+use super::{extended, irregular, not_a_link, regular, shown};
 use crate::console::warn;
 use crate::failure::{Failure, Outcome};
 
@@ -83,9 +83,15 @@ impl Replacement {
         Ok(new)
     }
 
-    /// The failure to write over a file that is there without force.
+    /// The failure to write over what is there without force, and whether that would help.
     pub fn exists(shown: &Path) -> Failure {
-        Failure::host(shown, "the file exists already (--force replaces it)")
+        let what = match fs::metadata(shown) {
+            Ok(there) if !there.is_file() => return irregular(shown),
+            Ok(there) if there.permissions().readonly() => "the file exists already, read-only",
+            Ok(_) => "the file exists already (--force replaces it)",
+            Err(_) => "this is a link that leads to no file",
+        };
+        Failure::host(shown, what)
     }
 
     /// Begins a file in the place of one that is locked, or of none.

@@ -1,7 +1,5 @@
 //! What a report is about: an image, and what both implementations say of it.
 
-use std::path::Path;
-
 use reference::layout::{Kit, KIT, SECTOR};
 use reference::Finding;
 use ruzkemp::State;
@@ -9,7 +7,7 @@ use ruzkemp::State;
 use crate::arguments::Given;
 use crate::failure::{Failure, Outcome};
 use crate::hint;
-use crate::host::{shown, Form, ImageFile};
+use crate::host::{called, title, Form, ImageFile};
 use crate::session::Session;
 use crate::view::View;
 
@@ -55,19 +53,11 @@ impl Subject {
             Err(Failure::NotUnit(_)) => Content::Unsound(unsound(given, &image)?),
             Err(failure) => return Err(failure),
         };
-        let mut name = name(given.path(0));
+        let mut name = visible(title(given.path(0)));
         if let Some(offset) = given.form()?.offset {
             name += &format!(" from sector {offset} on");
         }
         Ok(Subject { name, content })
-    }
-}
-
-/// What an image is called in its report.
-fn name(path: &Path) -> String {
-    match path.to_str() {
-        Some("-" | "/dev/stdin") => "standard input".into(),
-        _ => visible(path.file_name().unwrap_or_default()),
     }
 }
 
@@ -76,7 +66,7 @@ fn unsound(given: &Given, image: &[u16]) -> Outcome<Unsound> {
     let form = given.form()?;
     let findings = reference::findings(image);
     if findings.is_empty() || ruzkemp::is_sound(image, &State::new(given.unit()?)) {
-        let path = shown(given.path(0));
+        let path = called(given.path(0));
         return Err(Failure::Disagreement(format!("report {path}")));
     }
     Ok(Unsound {

@@ -14,7 +14,7 @@ use crate::arguments::Given;
 use crate::commands::many::{fill, may_be_written, written};
 use crate::console::{print, print_bytes, report};
 use crate::failure::{Failure, Outcome};
-use crate::host::{bytes_of, shown, ImageFile, Replacement, SECTOR_BYTES};
+use crate::host::{bytes_of, called, ImageFile, Replacement, SECTOR_BYTES};
 use crate::values::{self, count};
 
 /// All files together are written if they have at most so many times the image's sectors.
@@ -140,7 +140,7 @@ fn wanted(given: &Given, rescue: &Rescue) -> Outcome<Found> {
     let sector = values::number(sector).map_err(|wrong| given.misused(wrong))?;
     let found = Sought::Lost(sector.into()).found(rescue);
     found.ok_or_else(|| {
-        let path = shown(given.path(0));
+        let path = called(given.path(0));
         Failure::NotFound(format!(
             "{path}: no index block can be followed in sector {sector}"
         ))
@@ -188,7 +188,8 @@ fn all(given: &Given, rescue: &Rescue, folder: &Path) -> Outcome {
     paths
         .iter()
         .try_for_each(|path| may_be_written(given, path))?;
-    print(&heading(given, rescue, MOST_DOUBTS))?;
+    let own = own_doubts(rescue);
+    print(&(heading(given, rescue, MOST_DOUBTS) + &own))?;
     let mut doubtful = 0;
     let both = files.iter().zip(&paths);
     let found = both.filter_map(|(file, path)| Some((file.found(rescue)?, path)));
@@ -201,14 +202,26 @@ fn all(given: &Given, rescue: &Rescue, folder: &Path) -> Outcome {
         }
         Ok((line, is_written))
     })?;
-    ended(rescue, files.len(), doubtful)
+    let unit = !rescue.doubts().is_empty() || !own.is_empty();
+    ended(files.len(), doubtful, unit)
+}
+
+/// What is doubtful about the entries of SYS and MAP, which are not written: so many lines at most.
+fn own_doubts(rescue: &Rescue) -> String {
+    let own = rescue.own().filter_map(|number| rescue.file(number));
+    let lines = own.flat_map(|file| {
+        let place = format!("{} ({}:{})", file.shown(), file.sector, file.place);
+        let doubts = file.doubts.into_iter();
+        doubts.map(move |doubt| format!("  doubtful: {place}: {doubt}\n"))
+    });
+    lines.take(MOST_DOUBTS).collect()
 }
 
 /// How it ends, by what is doubtful about the files and about the unit: with the unit's doubts
 /// files may be lost that are not among these.
-fn ended(rescue: &Rescue, files: usize, doubtful: usize) -> Outcome {
+fn ended(files: usize, doubtful: usize, unit: bool) -> Outcome {
     let all = count(files as u64, "file");
-    let what = match (doubtful, rescue.doubts().is_empty()) {
+    let what = match (doubtful, !unit) {
         (0, true) => return Ok(()),
         (0, false) => format!("the unit is doubtful, though none of {all} is"),
         (doubtful, _) => format!("{doubtful} of {all} are doubtful"),
@@ -222,7 +235,7 @@ fn ended(rescue: &Rescue, files: usize, doubtful: usize) -> Outcome {
 fn bounded(given: &Given, rescue: &Rescue, files: &[Sought]) -> Outcome {
     let (number, sectors) = (files.len(), rescue.sectors());
     let refused = |what: String| {
-        let path = shown(given.path(0));
+        let path = called(given.path(0));
         Failure::NotUnit(format!("{path}: {what}: get them one by one"))
     };
     if number > MOST_FILES {

@@ -2,15 +2,16 @@
 
 use std::collections::BTreeMap;
 
-use reference::rescue::{Claimer, Kind, Rescue, Slice};
+use reference::rescue::{Claimer, Kind, Rescue, Slice, F_LIMITS};
 
 use super::{fitting, heading, not_with, numbers, MOST_DOUBTS};
 use crate::arguments::Given;
 use crate::console::print;
 use crate::failure::{Failure, Outcome};
-use crate::host::{shown, ImageFile};
+use crate::host::{called, ImageFile};
 use crate::palette;
 use crate::terminal::{some, ROW};
+use crate::values::count;
 
 /// What is drawn for a slice.
 #[derive(Clone, Copy, PartialEq, Eq)]
@@ -45,11 +46,9 @@ pub fn map(given: &Given) -> Outcome {
     let image = ImageFile::read_to_rescue(given.path(0), given.form()?)?;
     let rescue = Rescue::read(&image, &numbers(given)?);
     let Some(slices) = rescue.layout().slices() else {
-        let fit = fitting(&rescue).unwrap_or("--slice and --first give them".into());
-        return Err(Failure::NotUnit(format!(
-            "{}: s and F are not known, the kit is damaged: {fit}",
-            shown(given.path(0))
-        )));
+        let path = called(given.path(0));
+        let why = undrawn(&rescue);
+        return Err(Failure::NotUnit(format!("{path}: {why}")));
     };
     let drawn = (1..=slices).filter_map(|slice| rescue.slice(slice));
     let drawn: Vec<Drawn> = drawn.map(|slice| Drawn::of(&slice)).collect();
@@ -57,6 +56,18 @@ pub fn map(given: &Given) -> Outcome {
     let text =
         heading(given, &rescue, MOST_DOUBTS) + &rows(&drawn, &symbols) + &legend(&drawn, &symbols);
     print(&text)
+}
+
+/// Why no slice can be drawn.
+fn undrawn(rescue: &Rescue) -> String {
+    let sectors = rescue.sectors();
+    if sectors <= *F_LIMITS.start() {
+        let sectors = count(sectors as u64, "sector");
+        return format!("the image has {sectors} and ends before the first slice");
+    }
+    let (what, choices) = rescue.layout().unknown().unwrap_or_default();
+    let help = fitting(rescue).unwrap_or(format!("see {choices}"));
+    format!("{what}: {help}")
 }
 
 /// The files with pairs, by name, and their symbols.

@@ -13,7 +13,7 @@ use reference::{is_sound, State};
 
 use crate::arguments::{flag, valued, Choice, Given};
 use crate::failure::{Failure, Outcome};
-use crate::host::shown;
+use crate::host::called;
 use crate::values;
 
 pub use get::get;
@@ -82,7 +82,7 @@ fn heading(given: &Given, rescue: &Rescue, most: usize) -> String {
         (true, false) => "the unit is sound, but not by the numbers given",
         (false, _) => "not a sound unit",
     };
-    let path = shown(given.path(0));
+    let path = called(given.path(0));
     let mut text = format!("{path}: read without guarantee: {verdict}\n");
     for doubt in rescue.doubts().iter().take(most) {
         text += &format!("  doubtful: {doubt}\n");
@@ -125,7 +125,7 @@ fn named(given: &Given, rescue: &Rescue, text: &str) -> Outcome<Vec<File>> {
     match files.is_empty() {
         true => Err(Failure::NotFound(format!(
             "{}: no entry {text} is found (ls --unsound lists those that are)",
-            shown(given.path(0))
+            called(given.path(0))
         ))),
         false => Ok(files),
     }
