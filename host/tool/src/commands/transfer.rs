@@ -284,8 +284,9 @@ impl Source {
         self.taken += read as u64;
         if let Some(bytes) = self.bytes.filter(|bytes| *bytes != self.taken) {
             if read < SECTOR_BYTES {
-                let (taken, bytes) = (self.taken, count(bytes, "byte"));
-                return Err(trouble(format!("{taken} of {bytes} could be read")));
+                let (taken, bytes) = (count(self.taken, "byte"), bytes);
+                let what = format!("{taken} could be read, and {bytes} were expected");
+                return Err(trouble(what));
             }
         }
         bytes.resize(SECTOR_BYTES, 0);

@@ -214,7 +214,12 @@ fn own_doubts(rescue: &Rescue) -> String {
         let doubts = file.doubts.into_iter();
         doubts.map(move |doubt| format!("  doubtful: {place}: {doubt}\n"))
     });
-    lines.take(MOST_DOUBTS).collect()
+    // One more than are said tells that there is more.
+    let mut lines: Vec<String> = lines.take(MOST_DOUBTS + 1).collect();
+    if let Some(last) = lines.get_mut(MOST_DOUBTS) {
+        *last = "  and more (ls --unsound lists them)\n".into();
+    }
+    lines.concat()
 }
 
 /// How it ends, by what is doubtful about the files and about the unit: with the unit's doubts
