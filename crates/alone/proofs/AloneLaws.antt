@@ -3,26 +3,35 @@ use mathlib.Core.Path.{_≡_, refl, sym, ap, _∙_, subst}
 use mathlib.Core.Bool.{Bool, true, false}
 use mathlib.Core.Bool as B
 use mathlib.Core.List.{List}
-use Prim.Native.Nat.{ℕ, _+_, _/_, _%_, _≤_, _<_}
+use Prim.Native.Nat.{ℕ, _+_, _*_, _/_, _%_, _≤_, _<_}
 use native.Mathlib.Omega.{arith}
+use native.Mathlib.Nat.{mul-comm}
 use lib.ListN.{length}
 use borrow.Author.Tests.{not-true, not-false}
 use Rattle.types.specs.declared.Name.{Name}
 use Rattle.disc.specs.Decide.{Decides}
 use Rattle.disc.specs.Names.{pack, keyOf}
+use Rattle.disc.specs.Stretches.{sectorIn, sysFrom}
 use Rattle.disc.specs.Entries.{nameAt}
 use Rattle.disc.proofs.Compare.{below-or}
+use Rattle.disc.proofs.Geometry.{quot, within}
 use Rattle.disc.proofs.DecideLaws.{true≢false, refutes}
 use Rattle.sound.specs.Places.{Used}
+use Rattle.catalog.specs.declared.Catalog.{Catalog}
+use Rattle.catalog.specs.declared.Place.{Place}
+use Rattle.catalog.specs.declared.Found.{Found}
+use Rattle.catalog.specs.declared.Found.the-variants.{At, Nothing}
+use Rattle.catalog.specs.Catalog.{NamePlace}
 use Rattle.kit.specs.declared.Geometry.{Geometry}
-use Rattle.entries.specs.declared.Catalog.{Catalog}
-use Rattle.entries.specs.Legal.{NameIn, PlaceLegal, PlacesLegal}
-use Rattle.entries.specs.Found.{Stands, FirstAt, NoneAt}
+use Rattle.entries.specs.declared.Expected.{Expected}
+use Rattle.entries.specs.Legal.{NameIn, PlaceLegal, PlacesLegal, Judging}
 use Rattle.entries.specs.Names.{NamesAlone}
+use Rattle.entries.specs.Sys.{sysSlices, placesIn, SysIn}
+use Rattle.entries.proofs.FindLaws.{FirstNamed, sys-at, sys-none}
 use Rattle.entries.proofs.PlaceLaws.{legal-first, name-packed, first-used}
 use Rattle.entries.proofs.NamesLaws.{named-used}
 use Rattle.alone.specs.Filter.{Has, Noted}
-use Rattle.alone.specs.Scan.{Judging, Passed, Scanned}
+use Rattle.alone.specs.Scan.{Standing, NoneBefore, Passed, Scanned}
 
 module _ {P : ℕ → ℕ → ℕ} where
   alone-less : {t u : ℕ} → t ≤ u → NamesAlone P u → NamesAlone P t
@@ -79,17 +88,17 @@ module _ {P : ℕ → ℕ → ℕ} where
           (λ u l x _ same. k .new refl (subst (λ (m : ℕ). Has f m) (same ∙ e) (p .has u l x)))
 
       -- a name that the search finds nowhere before this place
-      pub passed-first : {n : ℕ} {r : Bool} {h : List ℕ} → nameAt P t ≡ n → Noted r f h n → NoneAt P H n t → Passed P H sys h (t + 1)
+      pub passed-first : {n : ℕ} {r : Bool} {h : List ℕ} → nameAt P t ≡ n → Noted r f h n → NoneBefore P H n t → Passed P H sys h (t + 1)
       passed-first {n} {h = h} e k none =
           passed-more (k .size) (k .kept) (λ _. subst (λ (m : ℕ). Has h m) (sym e) (k .has))
-          (λ u l x _ same. none .none u l (record { key = p .legal .each u l .key x ∙ ap (keyOf H) (same ∙ e); named = same ∙ e }))
+          (λ u l x _ same. none .none u l (p .legal .each u l .key x ∙ ap (keyOf H) (same ∙ e)) (same ∙ e))
 
   -- a name that it finds
-  pub not-alone : {n H t : ℕ} → nameAt P t ≡ n → 1 ≤ n → (NoneAt P H n t → ⊥) → NamesAlone P (t + 1) → ⊥
+  pub not-alone : {n H t : ℕ} → nameAt P t ≡ n → 1 ≤ n → (NoneBefore P H n t → ⊥) → NamesAlone P (t + 1) → ⊥
   not-alone {n} {H} {t} e some found a =
       found (record {
-        none = λ u l s.
-            omega (arith, a .alone u t (omega arith) (omega arith) (named-used P u (omega (arith, s .named))) (named-used P t (omega arith)) (s .named ∙ sym e));
+        none = λ u l k s.
+            omega (arith, a .alone u t (omega arith) (omega arith) (named-used P u (omega arith)) (named-used P t (omega arith)) (s ∙ sym e));
       })
 
 module _ {P : ℕ → ℕ → ℕ} {H : ℕ} {sys : List ℕ} where
@@ -111,9 +120,13 @@ module _ {P : ℕ → ℕ → ℕ} {H : ℕ} {sys : List ℕ} where
   pub granted : {r : Bool} {f : List ℕ} {t : ℕ} → Scanned r P H sys f t → B.not r ≡ false → Passed P H sys f t
   granted {r} s e = s .yes (not-false r e)
 
+-- the sectors are in SYS's slices
+pub in-slices : {image : List ℕ} {g : Geometry} {e : Expected} {n : ℕ} → Judging image g e n → n ≤ g .slice * length (sysSlices image g)
+in-slices l = omega (arith, l .room, l .whole, l .catalog .room)
+
 -- fewer sectors
-pub fewer : {image : List ℕ} {g : Geometry} {catalog : Catalog} {m n : ℕ} → m ≤ n → Judging image g catalog n → Judging image g catalog m
-fewer h l = record { sys = l .sys; room = omega (arith, l .room); keys = l .keys }
+pub fewer : {image : List ℕ} {g : Geometry} {e : Expected} {m n : ℕ} → m ≤ n → Judging image g e n → Judging image g e m
+fewer h l = record { catalog = l .catalog; whole = l .whole; room = omega (arith, l .room) }
 
 -- ---- one place, as the code meets it
 
@@ -128,20 +141,55 @@ module _ {P : ℕ → ℕ → ℕ} {t : ℕ} {name : Name} (n : NameIn P t name)
       let e : nameAt P t / 0x10000000000 ≡ 0 = omega (arith, n .first, n .second, n .third, n .second-word, n .third-word) in
       legal-first (nameAt P t) (legal .name used) e
 
-  -- it stands in a sector of its key
-  pub stands-here : (name .0 ≡ 0 → ⊥) → Stands P H (pack (name .0) (name .1) (name .2)) t
-  stands-here d =
-      let e = name-packed n in
-      record { key = legal .key (first-used n d) ∙ ap (keyOf H) (sym e); named = sym e }
+  -- it is in a sector of its key
+  pub own-key : (name .0 ≡ 0 → ⊥) → t / 16 % H ≡ keyOf H (pack (name .0) (name .1) (name .2))
+  own-key d = legal .key (first-used n d) ∙ ap (keyOf H) (sym (name-packed n))
 
 pub some-name : (name : Name) → (name .0 ≡ 0 → ⊥) → 1 ≤ pack (name .0) (name .1) (name .2)
 some-name name d = omega arith
 
 -- ---- what the search says of a place that has the name
 
-module _ {P : ℕ → ℕ → ℕ} {H n count t : ℕ} (here : Stands P H n t) where
-  pub found-here : {u : ℕ} → FirstAt P H n count u → u ≡ t → NoneAt P H n t
-  found-here f e = record { none = λ v l. f .before v (omega arith) }
+module _ {image : List ℕ} {g : Geometry} {c : Catalog} (sys : SysIn image g c) {n q b i : ℕ} (at : Standing image g (c .layers) n q b i)
+    {r : Found} (found : NamePlace image c n r) where
+  abbrev t : ℕ
+  t = 16 * b + i
 
-  pub found-before : {u : ℕ} → FirstAt P H n count u → (u ≡ t → ⊥) → NoneAt P H n t → ⊥
-  found-before {u} f d none = below-or u t (λ l. none .none u l (f .here)) (λ ge. f .before t (omega arith) here)
+  abbrev slices : List ℕ
+  slices = sysSlices image g
+
+  block : t / 16 ≡ b
+  block = omega (arith, at .place)
+
+  key : t / 16 % g .keys ≡ keyOf (g .keys) n
+  key = ap (λ (x : ℕ). x % g .keys) block ∙ at .key
+
+  pub found-some : r ≡ Nothing → ⊥
+  found-some e = sys-none sys refl found e .lacks t (omega (arith, at .inside, at .place)) key (at .named)
+
+  module _ {p : Place} (e : r ≡ At p) where
+    first : FirstNamed image g (c .layers) n p
+    first = sys-at sys refl found e
+
+    -- the place that was found is this one, by sector and slot: a sector is that of one block
+    same-place : p .sector .0 ≡ q → p .slot ≡ i → first .place ≡ t
+    same-place a d =
+        let pos : 1 ≤ g .slice = omega (arith, sys .sys .unit .limits .slice-low) in
+        let once = sys .sys .once in
+        let inside : (x : ℕ) → x < g .keys * c .layers → x / g .slice < length slices = λ x h.
+        quot (g .first .0) (g .slice) (g .slices) slices pos once x (length slices) (omega (arith, sys .room, mul-comm (g .slice) (length slices))) in
+        let x = within (g .first .0) (g .slice) (g .slices) slices pos once slices (first .place / 16 + sysFrom) b (λ k. omega arith)
+        (inside (first .place / 16 + sysFrom) (omega (arith, first .inside))) (inside b (at .inside)) (sym (first .sector) ∙ a ∙ at .sector) in
+        omega (arith, x, first .slot)
+
+    pub found-here : p .sector .0 ≡ q → p .slot ≡ i → NoneBefore (placesIn image g) (g .keys) n t
+    found-here a d = record { none = λ u l. first .earlier u (omega (arith, same-place a d)) }
+
+    pub found-before : (p .sector .0 ≡ q → p .slot ≡ i → ⊥) → NoneBefore (placesIn image g) (g .keys) n t → ⊥
+    found-before d none = below-or (first .place) t
+        (λ l. none .none (first .place) l (first .key) (first .has))
+        (λ ge. below-or t (first .place)
+        (λ l. first .earlier t l key (at .named))
+        (λ le.
+        let x : first .place / 16 + sysFrom ≡ b = omega (arith, at .place) in
+        d (first .sector ∙ ap (sectorIn (g .first .0) (g .slice) slices) x ∙ sym (at .sector)) (omega (arith, first .slot, at .place))))

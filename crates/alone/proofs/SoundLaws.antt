@@ -12,29 +12,29 @@ use Rattle.disc.specs.Entries.{systemEntry, sysEntry, placeCount}
 use Rattle.disc.proofs.DecideLaws.{fails, refutes, grants}
 use Rattle.sound.specs.Parts.{SoundNames}
 use Rattle.kit.specs.declared.Geometry.{Geometry}
-use Rattle.entries.specs.declared.Catalog.{Catalog}
+use Rattle.entries.specs.declared.Expected.{Expected}
 use Rattle.entries.specs.Legal.{ownEntry, PlacesLegal}
 use Rattle.entries.specs.Sys.{sysSlices, placesIn}
 use Rattle.entries.specs.Names.{NamesLegal, NamesAlone}
 use Rattle.entries.proofs.NamesLaws.{sound-legal, sound-alone, names-sound}
 
-module _ (image : List ℕ) (g : Geometry) (L : ℕ) (catalog : Catalog) (size : catalog .size ≡ g .keys * L)
-    (reserved : catalog .reserved ≡ g .slice * length (sysSlices image g)) where
-  own : ownEntry catalog ≡ sysEntry (g .keys) (g .slice) L (sysSlices image g)
+module _ (image : List ℕ) (g : Geometry) (L : ℕ) (expected : Expected) (size : expected .size ≡ g .keys * L)
+    (reserved : expected .reserved ≡ g .slice * length (sysSlices image g)) where
+  own : ownEntry expected ≡ sysEntry (g .keys) (g .slice) L (sysSlices image g)
   unfolding ownEntry
   own = ap₂ (λ (x y : ℕ). systemEntry SYS x sysIndexSector y) size reserved
 
   -- sound names are legal by the words that SYS's entry must have
   own-legal : SoundNames (g .keys) (g .slice) L (sysSlices image g) (placesIn image g) (placeCount (g .keys) L)
-      → NamesLegal (placesIn image g) (g .keys) (ownEntry catalog) (placeCount (g .keys) L)
+      → NamesLegal (placesIn image g) (g .keys) (ownEntry expected) (placeCount (g .keys) L)
   own-legal n = subst (λ (e : List ℕ). NamesLegal (placesIn image g) (g .keys) e (placeCount (g .keys) L)) (sym own) (sound-legal _ _ _ _ _ _ n)
 
   module _ {r : Bool}
-      (judged : Decides r (PlacesLegal (placesIn image g) (g .keys) (ownEntry catalog) (placeCount (g .keys) L) × NamesAlone (placesIn image g) (placeCount (g .keys) L))) where
+      (judged : Decides r (PlacesLegal (placesIn image g) (g .keys) (ownEntry expected) (placeCount (g .keys) L) × NamesAlone (placesIn image g) (placeCount (g .keys) L))) where
     pub not-sound : B.not r ≡ true → Decides false (SoundNames (g .keys) (g .slice) L (sysSlices image g) (placesIn image g) (placeCount (g .keys) L))
     not-sound e = fails (λ n. refutes r judged e (own-legal n .places, sound-alone _ _ _ _ _ _ n))
 
-    pub judged-entered : {s : Bool} → B.not r ≡ false → Decides s (NamesLegal (placesIn image g) (g .keys) (ownEntry catalog) (placeCount (g .keys) L))
+    pub judged-entered : {s : Bool} → B.not r ≡ false → Decides s (NamesLegal (placesIn image g) (g .keys) (ownEntry expected) (placeCount (g .keys) L))
         → Decides s (SoundNames (g .keys) (g .slice) L (sysSlices image g) (placesIn image g) (placeCount (g .keys) L))
     judged-entered e d =
         record {

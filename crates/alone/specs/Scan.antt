@@ -2,28 +2,36 @@
 use mathlib.Core.Path.{_≡_}
 use mathlib.Core.Bool.{Bool, true, false}
 use mathlib.Core.List.{List}
-use Prim.Native.Nat.{ℕ, _*_, _≤_, _<_}
+use Prim.Native.Nat.{ℕ, _+_, _*_, _/_, _%_, _<_}
 use lib.ListN.{length}
-use Rattle.disc.specs.Entries.{nameAt}
+use Rattle.disc.specs.Names.{keyOf}
+use Rattle.disc.specs.Stretches.{sectorIn}
+use Rattle.disc.specs.Entries.{placeCount, nameAt}
 use Rattle.sound.specs.Places.{Used, LegalPlace}
 use Rattle.kit.specs.declared.Geometry.{Geometry}
-use Rattle.entries.specs.declared.Catalog.{Catalog}
-use Rattle.entries.specs.Sys.{sysSlices, placesIn, SysOf}
+use Rattle.catalog.specs.declared.Catalog.{Catalog}
+use Rattle.entries.specs.Sys.{sysSlices, placesIn, SysIn}
 use Rattle.entries.specs.Legal.{PlacesLegal}
 use Rattle.entries.specs.Names.{NamesAlone}
 use Rattle.alone.specs.Filter.{Has}
 
--- What is known of the first `size` sectors of SYS after the scan: the used places in them have legal names, in sectors of their keys.
-pub record LegalSys (image : List ℕ) (g : Geometry) (size : ℕ) : Type 0 where
-  pub sys : SysOf image g
-  pub room : size ≤ g .slice * length (sysSlices image g)
-  pub legal : (t : ℕ) → t < 16 * size → Used (placesIn image g) t → LegalPlace (placesIn image g) (g .keys) t
+-- What is known of SYS after the scan: the used places have legal names, in sectors of their keys.
+pub record LegalSys (image : List ℕ) (g : Geometry) (c : Catalog) : Type 0 where
+  pub catalog : SysIn image g c
+  pub legal : (t : ℕ) → t < placeCount (g .keys) (c .layers) → Used (placesIn image g) t → LegalPlace (placesIn image g) (g .keys) t
 
--- What is known of the first `size` sectors of SYS while they are scanned, and of the numbers by which they are judged.
-pub record Judging (image : List ℕ) (g : Geometry) (catalog : Catalog) (size : ℕ) : Type 0 where
-  pub sys : SysOf image g
-  pub room : size ≤ g .slice * length (sysSlices image g)
-  pub keys : catalog .keys ≡ g .keys
+-- Place i of block b, which is sector q and one of the L layers, has the name n and is in a sector of its key: "key k lives in sectors k,
+-- k + H, k + 2H and so on".
+pub record Standing (image : List ℕ) (g : Geometry) (L n q b i : ℕ) : Type 0 where
+  pub sector : q ≡ sectorIn (g .first .0) (g .slice) (sysSlices image g) b
+  pub inside : b < g .keys * L
+  pub place : i < 16
+  pub key : b % g .keys ≡ keyOf (g .keys) n
+  pub named : nameAt (placesIn image g) (16 * b + i) ≡ n
+
+-- No place before place t has the name n and is in a sector of its key.
+pub record NoneBefore (P : ℕ → ℕ → ℕ) (H n t : ℕ) : Type 0 where
+  pub none : (u : ℕ) → u < t → u / 16 % H ≡ keyOf H n → nameAt P u ≡ n → ⊥
 
 -- The places before place t are legal, the names in them are alone among themselves, and all in the filter.
 pub record Passed (P : ℕ → ℕ → ℕ) (H : ℕ) (sys : List ℕ) (filter : List ℕ) (t : ℕ) : Type 0 where

@@ -2,7 +2,7 @@
 // and sectors. A filter says of most names that they are new; only the others are searched for.
 
 ghost use mathlib.Core.Path.{_≡_};
-ghost use Prim.Native.Nat.{ℕ, _+_, _*_, _%_, _≤_, _<_};
+ghost use Prim.Native.Nat.{ℕ, _+_, _*_, _%_, _<_};
 ghost use lib.ListN.{length};
 ghost use Rattle.disc.specs.Decide.{Decides};
 ghost use Rattle.disc.specs.Names.{pack};
@@ -10,14 +10,14 @@ ghost use Rattle.disc.specs.Stretches.{sectorIn};
 ghost use Rattle.disc.specs.Entries.{placeCount};
 ghost use Rattle.names.specs.Classes.{ClassesOf};
 ghost use Rattle.sound.specs.Parts.{SoundNames};
-ghost use Rattle.entries.specs.Sys.{sysSlices, placesIn, SysOf};
-ghost use Rattle.entries.specs.Found.{Stands, NoneAt};
-ghost use Rattle.entries.specs.Legal.{ownEntry, PlacesLegal};
+ghost use Rattle.entries.specs.Sys.{sysSlices, placesIn, SysIn};
+ghost use Rattle.entries.specs.Legal.{ownEntry, PlacesLegal, Judging};
 ghost use Rattle.entries.specs.Names.{NamesAlone};
-ghost use Rattle.alone.specs.Scan.{Judging, Passed, Scanned};
+ghost use Rattle.alone.specs.Scan.{Standing, NoneBefore, Passed, Scanned};
 ghost use Rattle.alone.specs.Filter.{mixed, maskBy, Noted};
-use entries::Catalog;
-use entries::Found;
+use catalog::Catalog;
+use catalog::Found;
+use entries::Expected;
 use kit::Geometry;
 use types::Block;
 use types::Name;
@@ -50,19 +50,27 @@ fn note(filter: &mut [u64; 4096], name: Name) -> bool
     more == word
 }
 
-// Whether no place before place i of block b, which has the name, has it too. Block and place are compared apart, so that no number
-// of the place has to be counted up beside them in the loop over a sector.
-fn is_first(image: &[u16], g: Geometry, name: Name, b: Block, i: usize) -> bool
-    requires { ⌜ SysOf (now image) g × (b .0 + 1 ≤ g .slice * length (sysSlices (now image) g)) × (i < 16) × Stands (placesIn (now image) g) (g .keys) (pack (name .0) (name .1) (name .2)) (16 * b .0 + i) ⌝ }
-    ensures { λ r. ⌜ Decides r (NoneAt (placesIn (now (image .entry)) g) (g .keys) (pack (name .0) (name .1) (name .2)) (16 * b .0 + i)) ⌝ }
+// Whether no place before place i of block b, which is sector q and has the name, has it too: it is the one that a search finds.
+fn is_first(
+    image: &[u16],
+    g: Geometry,
+    q: Sector,
+    b: Block,
+    i: usize,
+    name: Name,
+    sys: Catalog,
+) -> bool
+    requires { ⌜ SysIn (now image) g sys × Standing (now image) g (sys .layers) (pack (name .0) (name .1) (name .2)) (q .0) (b .0) i ⌝ }
+    ensures { λ r. ⌜ Decides r (NoneBefore (placesIn (now (image .entry)) g) (g .keys) (pack (name .0) (name .1) (name .2)) (16 * b .0 + i)) ⌝ }
 {
-    let Found::At(t) = entries::find(image, g, name, b.0 + 1) else {
+    let Found::At(place) = catalog::find(image, sys, name) else {
         return false;
     };
-    if t / 16 != b.0 as u32 {
+    let sector = place.sector;
+    if sector.0 != q.0 {
         return false;
     }
-    t % 16 == i as u32
+    place.slot as usize == i
 }
 
 // Whether place i of block b, which is sector q, is legal, and no place before it has its name; the name is put in the filter.
@@ -73,14 +81,14 @@ fn place_sound(
     b: Block,
     i: usize,
     key: u16,
-    catalog: Catalog,
+    expected: Expected,
     classes: &[u8; 256],
     filter: &mut [u64; 4096],
 ) -> bool
-    requires { ⌜ Judging (now image) g catalog (b .0 + 1) × ClassesOf (now classes) × (q .0 ≡ sectorIn (g .first .0) (g .slice) (sysSlices (now image) g) (b .0)) × (key ≡ b .0 % g .keys) × (i < 16) × Passed (placesIn (now image) g) (g .keys) (ownEntry catalog) (now filter) (16 * b .0 + i) ⌝ }
-    ensures { λ r. ⌜ Scanned r (placesIn (now (image .entry)) g) (g .keys) (ownEntry catalog) (now (filter .exit)) (16 * b .0 + i + 1) ⌝ }
+    requires { ⌜ Judging (now image) g expected (b .0 + 1) × ClassesOf (now classes) × (q .0 ≡ sectorIn (g .first .0) (g .slice) (sysSlices (now image) g) (b .0)) × (key ≡ b .0 % g .keys) × (i < 16) × Passed (placesIn (now image) g) (g .keys) (ownEntry expected) (now filter) (16 * b .0 + i) ⌝ }
+    ensures { λ r. ⌜ Scanned r (placesIn (now (image .entry)) g) (g .keys) (ownEntry expected) (now (filter .exit)) (16 * b .0 + i + 1) ⌝ }
 {
-    if !entries::place_legal(image, q, i, key, catalog, classes) {
+    if !entries::place_legal(image, q, i, key, expected, classes) {
         return false;
     }
     let name = entries::place_name(image, q, i);
@@ -90,7 +98,8 @@ fn place_sound(
     if !note(filter, name) {
         return true;
     }
-    is_first(image, g, name, b, i)
+    let sys = expected.catalog;
+    is_first(image, g, q, b, i, name, sys)
 }
 
 // Whether the places of block b, which is sector q, are legal, and the names in them alone, with those before it.
@@ -100,16 +109,16 @@ fn sector_sound(
     q: Sector,
     b: Block,
     key: u16,
-    catalog: Catalog,
+    expected: Expected,
     classes: &[u8; 256],
     filter: &mut [u64; 4096],
 ) -> bool
-    requires { ⌜ Judging (now image) g catalog (b .0 + 1) × ClassesOf (now classes) × (q .0 ≡ sectorIn (g .first .0) (g .slice) (sysSlices (now image) g) (b .0)) × (key ≡ b .0 % g .keys) × Passed (placesIn (now image) g) (g .keys) (ownEntry catalog) (now filter) (16 * b .0) ⌝ }
-    ensures { λ r. ⌜ Scanned r (placesIn (now (image .entry)) g) (g .keys) (ownEntry catalog) (now (filter .exit)) (16 * (b .0 + 1)) ⌝ }
+    requires { ⌜ Judging (now image) g expected (b .0 + 1) × ClassesOf (now classes) × (q .0 ≡ sectorIn (g .first .0) (g .slice) (sysSlices (now image) g) (b .0)) × (key ≡ b .0 % g .keys) × Passed (placesIn (now image) g) (g .keys) (ownEntry expected) (now filter) (16 * b .0) ⌝ }
+    ensures { λ r. ⌜ Scanned r (placesIn (now (image .entry)) g) (g .keys) (ownEntry expected) (now (filter .exit)) (16 * (b .0 + 1)) ⌝ }
 {
     let mut i = 0;
     while i < 16 {
-        if !place_sound(image, g, q, b, i, key, catalog, classes, filter) {
+        if !place_sound(image, g, q, b, i, key, expected, classes, filter) {
             return false;
         }
         i += 1;
@@ -124,12 +133,12 @@ fn stretch_sound(
     q: Sector,
     n: u16,
     b: Block,
-    catalog: Catalog,
+    expected: Expected,
     classes: &[u8; 256],
     filter: &mut [u64; 4096],
 ) -> bool
-    requires { ⌜ Judging (now image) g catalog (b .0 + n) × ClassesOf (now classes) × ((c : ℕ) → c < n → sectorIn (g .first .0) (g .slice) (sysSlices (now image) g) (b .0 + c) ≡ q .0 + c) × (q .0 + n < 65536) × Passed (placesIn (now image) g) (g .keys) (ownEntry catalog) (now filter) (16 * b .0) ⌝ }
-    ensures { λ r. ⌜ Scanned r (placesIn (now (image .entry)) g) (g .keys) (ownEntry catalog) (now (filter .exit)) (16 * (b .0 + n)) ⌝ }
+    requires { ⌜ Judging (now image) g expected (b .0 + n) × ClassesOf (now classes) × ((c : ℕ) → c < n → sectorIn (g .first .0) (g .slice) (sysSlices (now image) g) (b .0 + c) ≡ q .0 + c) × (q .0 + n < 65536) × Passed (placesIn (now image) g) (g .keys) (ownEntry expected) (now filter) (16 * b .0) ⌝ }
+    ensures { λ r. ⌜ Scanned r (placesIn (now (image .entry)) g) (g .keys) (ownEntry expected) (now (filter .exit)) (16 * (b .0 + n)) ⌝ }
 {
     let first = q.0;
     let block = b.0;
@@ -143,7 +152,7 @@ fn stretch_sound(
             Sector(first + c),
             Block(block + c),
             key,
-            catalog,
+            expected,
             classes,
             filter,
         ) {
@@ -159,20 +168,20 @@ fn stretch_sound(
 fn stretches_sound(
     image: &[u16],
     g: Geometry,
-    catalog: Catalog,
+    expected: Expected,
     classes: &[u8; 256],
     filter: &mut [u64; 4096],
 ) -> bool
-    requires { ⌜ Judging (now image) g catalog (catalog .size) × ClassesOf (now classes) × (length (now filter) ≡ 4096) ⌝ }
-    ensures { λ r. ⌜ Scanned r (placesIn (now (image .entry)) g) (g .keys) (ownEntry catalog) (now (filter .exit)) (16 * catalog .size) ⌝ }
+    requires { ⌜ Judging (now image) g expected (expected .size) × ClassesOf (now classes) × (length (now filter) ≡ 4096) ⌝ }
+    ensures { λ r. ⌜ Scanned r (placesIn (now (image .entry)) g) (g .keys) (ownEntry expected) (now (filter .exit)) (16 * expected .size) ⌝ }
 {
-    let size = catalog.size;
+    let size = expected.size;
     let mut b = Block(0);
     let mut j = 0;
     while b.0 < size {
-        let n = entries::lesser(entries::pair_length(image, j), size - b.0);
-        let start = entries::pair_start(image, j);
-        if !stretch_sound(image, g, start, n, b, catalog, classes, filter) {
+        let n = entries::lesser(index::pair_length(image, Sector(6), j), size - b.0);
+        let start = index::pair_start(image, Sector(6), j);
+        if !stretch_sound(image, g, start, n, b, expected, classes, filter) {
             return false;
         }
         b = Block(b.0 + n);
@@ -182,28 +191,28 @@ fn stretches_sound(
 }
 
 // Whether all places of SYS are legal, and the names in them alone.
-fn places_sound(image: &[u16], g: Geometry, catalog: Catalog) -> bool
-    requires { ⌜ Judging (now image) g catalog (catalog .size) ⌝ }
-    ensures { λ r. ⌜ Decides r (PlacesLegal (placesIn (now (image .entry)) g) (g .keys) (ownEntry catalog) (16 * catalog .size) × NamesAlone (placesIn (now (image .entry)) g) (16 * catalog .size)) ⌝ }
+fn places_sound(image: &[u16], g: Geometry, expected: Expected) -> bool
+    requires { ⌜ Judging (now image) g expected (expected .size) ⌝ }
+    ensures { λ r. ⌜ Decides r (PlacesLegal (placesIn (now (image .entry)) g) (g .keys) (ownEntry expected) (16 * expected .size) × NamesAlone (placesIn (now (image .entry)) g) (16 * expected .size)) ⌝ }
 {
     let classes = names::classes();
     let mut filter = [0u64; 4096];
-    stretches_sound(image, g, catalog, &classes, &mut filter)
+    stretches_sound(image, g, expected, &classes, &mut filter)
 }
 
 // Whether the names in SYS's layers are those of a sound unit.
-pub fn names_sound(image: &[u16], g: Geometry, layers: u16) -> bool
-    requires { ⌜ SysOf (now image) g × (g .keys * layers ≤ g .slice * length (sysSlices (now image) g)) ⌝ }
-    ensures { λ r. ⌜ Decides r (SoundNames (g .keys) (g .slice) layers (sysSlices (now (image .entry)) g) (placesIn (now (image .entry)) g) (placeCount (g .keys) layers)) ⌝ }
+pub fn names_sound(image: &[u16], g: Geometry, sys: Catalog) -> bool
+    requires { ⌜ SysIn (now image) g sys ⌝ }
+    ensures { λ r. ⌜ Decides r (SoundNames (g .keys) (g .slice) (sys .layers) (sysSlices (now (image .entry)) g) (placesIn (now (image .entry)) g) (placeCount (g .keys) (sys .layers))) ⌝ }
 {
-    let catalog = Catalog {
-        keys: g.keys,
+    let expected = Expected {
+        catalog: sys,
         inverse: entries::inverse(g.keys),
-        size: g.keys * layers,
+        size: g.keys * sys.layers,
         reserved: entries::sys_sectors(image, g),
     };
-    if !places_sound(image, g, catalog) {
+    if !places_sound(image, g, expected) {
         return false;
     }
-    entries::system_entered(image, g, catalog)
+    entries::system_entered(image, g, expected)
 }

@@ -30,6 +30,7 @@ use Rattle.plain.specs.Transput.{isOutput}
 use Rattle.plain.specs.Step.{isKnown, reserveCount, userStep, operationStep, stepArea}
 use Rattle.plain.specs.Good.{Good}
 use Rattle.refine.specs.Represents.{Represents}
+use Rattle.refine.proofs.LeavesLaws.{leaves}
 use Rattle.refine.proofs.StateLaws.{same-absent}
 use Rattle.steps.proofs.Whole.{represents}
 use Rattle.steps.proofs.AreaMessages.{area-low, area-found, area-other, sender-absent, sender-found, area-file}
@@ -39,8 +40,9 @@ use Rattle.unit.specs.Opened.{NumbersOf, Meant}
 use Rattle.unit.proofs.MeantLaws.{meant-known}
 use Rattle.sharing.specs.declared.AreaReply.{AreaReply}
 use Rattle.sharing.specs.Sharing.{areaReply, atPosition, positionWord, positionReached, reservedReply, releasedReply, positionReply}
-use Rattle.sharing.specs.Leaves.{Leaves, Seat, areaUsers, areaUser}
-use Rattle.sharing.proofs.ShareLaws.{leaves, seat-size, reserve-leaves, release-leaves, moved-good, moved-represents, reached-low, Positioned, positioned-by}
+use Rattle.refine.specs.Leaves.{Leaves}
+use Rattle.sharing.specs.Seat.{Seat, areaUsers, areaUser}
+use Rattle.sharing.proofs.ShareLaws.{seat-size, reserve-leaves, release-leaves, moved-good, moved-represents, reached-low, Positioned, positioned-by}
 use Rattle.transput.specs.Transput.{Transputs, Seated}
 use Rattle.transput.proofs.TransputLaws.{kept-image}
 use Rattle.area_messages.specs.AreaMessages.{knownCount, knownTransput, reserveWord, messageImage, userState, operationState, admitted, messageState, UserSteps, OperatesFrom, CanOperate, Operates, AreaMessages}

@@ -30,7 +30,8 @@ use Rattle.unit.specs.declared.Opened.{Opened}
 use Rattle.unit.specs.Opened.{NumbersOf}
 use Rattle.sharing.specs.declared.AreaReply.{AreaReply}
 use Rattle.sharing.specs.Sharing.{atPosition, positionReached}
-use Rattle.sharing.specs.Leaves.{Leaves, Seat, areaUsers, areaUser}
+use Rattle.refine.specs.Leaves.{Leaves}
+use Rattle.sharing.specs.Seat.{Seat, areaUsers, areaUser}
 use Rattle.transput.specs.Transput.{transputImage, transputState}
 
 -- "Known operation (Reserve 0, 2, 3, 4; .. transput 1, 3, 5, 7, 19)".

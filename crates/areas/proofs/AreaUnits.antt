@@ -8,17 +8,18 @@ use Rattle.disc.specs.Names.{named}
 use Rattle.plain.specs.Table.{tablePut}
 use Rattle.plain.specs.Unit.{Plain, withAreas}
 use Rattle.plain.specs.Good.{Good}
-use Rattle.plain.specs.Questions.{Outcome, replies, done}
+use Rattle.plain.specs.Questions.{Outcome, replies, done, answer}
 use Rattle.plain.specs.Areas.{stepCreateArea, stepRemoveArea}
+use Rattle.plain.proofs.KeepsAreas.{opened-good}
 use Rattle.refine.specs.Represents.{SameAreas, Represents}
 use Rattle.refine.specs.OnDisc.{OnDisc}
 use Rattle.refine.specs.Replies.{Replies, refused, written}
 use Rattle.refine.proofs.StateLaws.{same-room}
 use Rattle.steps.proofs.Whole.{on-disc, represents}
 use Rattle.steps.proofs.BookStep.{bookedUnit, book-on}
-use Rattle.steps.proofs.AreaSteps.{areas-on, opened-good, open-areas, close-areas}
-use Rattle.unit.specs.Stepped.{Stepped}
-use Rattle.unit.proofs.StepLaws.{stepped}
+use Rattle.steps.proofs.AreaSteps.{areas-on, open-areas, close-areas}
+use Rattle.refine.specs.Leaves.{Leaves}
+use Rattle.refine.proofs.LeavesLaws.{leaves}
 use Rattle.areas.specs.declared.AreaDone.{AreaDone}
 use Rattle.areas.specs.Areas.{AreaMade, AreaCreated, dummyCreate, made, CreateAreaStep, AreaBooked, AreaRemoved, dummyRemove, books, RemoveAreaStep}
 
@@ -40,17 +41,17 @@ module _ {image : List ℕ} {state : State} {p : Plain} (g : Good p) (r : Repres
       )
 
   pub create-area-stepped : {name : Name} {done : AreaDone} → CreateAreaStep p state name done → (lent : List ℕ)
-      → Stepped (stepCreateArea p name lent) lent (done .result) image (done .state)
+      → Leaves (stepCreateArea p name lent) (answer (done .result) 0 0 0) lent image (done .state)
   create-area-stepped {name} {done} s lent = go (s .step lent)
     where
       left : {q : Plain} → done .result ≡ 0 → stepCreateArea p name lent ≡ replies q 0 lent → AreaCreated p state (named name) (done .state) q
-          → Stepped (stepCreateArea p name lent) lent (done .result) image (done .state)
-      left z e (dummyCreate u same) = stepped (finished z e u) g (same-state same)
-      left z e (made w) = let on = made-on w in stepped (finished z e (w .unit)) (on .0 .good) (represents (on .0) (on .1))
+          → Leaves (stepCreateArea p name lent) (answer (done .result) 0 0 0) lent image (done .state)
+      left z e (dummyCreate u same) = leaves (finished z e u) g (same-state same)
+      left z e (made w) = let on = made-on w in leaves (finished z e (w .unit)) (on .0 .good) (represents (on .0) (on .1))
 
       go : Replies p (stepCreateArea p name lent) lent (done .result) (done .state ≡ state) (AreaCreated p state (named name) (done .state))
-          → Stepped (stepCreateArea p name lent) lent (done .result) image (done .state)
-      go (refused nz e same) = stepped e g (same-state same)
+          → Leaves (stepCreateArea p name lent) (answer (done .result) 0 0 0) lent image (done .state)
+      go (refused nz e same) = leaves e g (same-state same)
       go (written z q e w) = left z e w
 
   booked-on : {n : ℕ} {after : List ℕ} {next : State} {q : Plain} (w : AreaBooked p image state n after next q)
@@ -61,18 +62,18 @@ module _ {image : List ℕ} {state : State} {p : Plain} (g : Good p) (r : Repres
   )
 
   pub remove-area-stepped : {name : Name} {after : List ℕ} {done : AreaDone} → RemoveAreaStep p image state name after done → (lent : List ℕ)
-      → Stepped (stepRemoveArea p name lent) lent (done .result) after (done .state)
+      → Leaves (stepRemoveArea p name lent) (answer (done .result) 0 0 0) lent after (done .state)
   remove-area-stepped {name} {after} {done} s lent = go (s .step lent)
     where
       same-both : after ≡ image → done .state ≡ state → Represents after (done .state) p
       same-both i e = subst (λ (l : List ℕ). Represents l (done .state) p) (sym i) (same-state e)
 
       left : {q : Plain} → done .result ≡ 0 → stepRemoveArea p name lent ≡ replies q 0 lent → AreaRemoved p image state (named name) after (done .state) q
-          → Stepped (stepRemoveArea p name lent) lent (done .result) after (done .state)
-      left z e (dummyRemove u i same) = stepped (finished z e u) g (same-both i same)
-      left z e (books w) = let on = booked-on w in stepped (finished z e (w .unit)) (on .0 .good) (represents (on .0) (on .1))
+          → Leaves (stepRemoveArea p name lent) (answer (done .result) 0 0 0) lent after (done .state)
+      left z e (dummyRemove u i same) = leaves (finished z e u) g (same-both i same)
+      left z e (books w) = let on = booked-on w in leaves (finished z e (w .unit)) (on .0 .good) (represents (on .0) (on .1))
 
       go : Replies p (stepRemoveArea p name lent) lent (done .result) ((after ≡ image) × (done .state ≡ state)) (AreaRemoved p image state (named name) after (done .state))
-          → Stepped (stepRemoveArea p name lent) lent (done .result) after (done .state)
-      go (refused nz e same) = stepped e g (same-both (same .0) (same .1))
+          → Leaves (stepRemoveArea p name lent) (answer (done .result) 0 0 0) lent after (done .state)
+      go (refused nz e same) = leaves e g (same-both (same .0) (same .1))
       go (written z q e w) = left z e w

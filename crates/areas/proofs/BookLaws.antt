@@ -1,18 +1,18 @@
 -- Booking: the entry read, three of its words replaced, and the entry written back.
 use mathlib.Core.Path.{_≡_, refl, ap, ap₂, _∙_}
-use mathlib.Core.List.{List, [], _∷_, _++_, append-nil}
+use mathlib.Core.List.{List, [], _++_, append-nil}
 use Prim.Native.Nat.{ℕ, _+_, _*_, _≤_, _<_}
 use native.Mathlib.Omega.{arith}
 use lib.ListN.{length, set, take, length-set}
 use lib.Seq.{take-all}
 use Rattle.disc.specs.Entries.{entryWords, indexSector}
-use Rattle.disc.proofs.EntryLaws.{length-entry}
+use Rattle.disc.proofs.EntryLaws.{length-entry, three-words}
 use Rattle.words.specs.Store.{store}
 use Rattle.index.specs.Block.{sliceTotal}
 use Rattle.catalog.specs.declared.Place.{Place}
 use Rattle.catalog.specs.Catalog.{placeStart, entryAt}
 use Rattle.catalog.proofs.WalkLaws.{length-entryAt}
-use Rattle.plain.specs.Unit.{Plain, File, fileEntry}
+use Rattle.plain.specs.Unit.{Plain, File, sysOf, fileEntry}
 use Rattle.plain.specs.Areas.{bookLive}
 use Rattle.refine.specs.Writes.{bookedImage}
 use Rattle.refine.proofs.Ground.{Ground, ground, part-file}
@@ -29,13 +29,6 @@ use Rattle.areas.specs.Areas.{CanBookFrom}
 
 abbrev pub rebooked : List ℕ → ℕ → ℕ → ℕ → List ℕ
 rebooked e size index reserved = set (set (set e 7 size) 8 index) 9 reserved
-
-three-words : (P : List ℕ → Type 0) (l : List ℕ) → length l ≡ 3 → ((x y z : ℕ) → P (x ∷ y ∷ z ∷ [])) → P l
-three-words P [] e f = absurd (omega arith)
-three-words P (x ∷ []) e f = absurd (omega arith)
-three-words P (x ∷ y ∷ []) e f = absurd (omega arith)
-three-words P (x ∷ y ∷ z ∷ []) e f = f x y z
-three-words P (x ∷ y ∷ z ∷ w ∷ l) e f = absurd (omega arith)
 
 rebooked-entry : (name : ℕ) (optional : List ℕ) (attributes size index reserved : ℕ) (tail : List ℕ) (size′ index′ reserved′ : ℕ) → length optional ≡ 3
     → rebooked (entryWords name optional attributes size index reserved tail) size′ index′ reserved′ ≡ entryWords name optional attributes size′ index′ reserved′ tail
@@ -89,7 +82,7 @@ module _ {image : List ℕ} {o : Opened} {place : Place} {sector size : ℕ} {p 
           (fg .optional .count) (fg .tail .count)
 
       pub booked : {read after : List ℕ} → read ≡ entryAt image place ++ [] → after ≡ store image (placeStart place) (take 16 (rebooked read size sector (o .slice * total)))
-          → after ≡ bookedImage p image (can .at .number) n f
+          → after ≡ bookedImage p (sysOf p) image (can .at .number) n f
       unfolding bookedImage
       booked whole e =
           let words =

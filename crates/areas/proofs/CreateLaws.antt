@@ -23,6 +23,7 @@ use Rattle.plain.specs.Unit.{Plain, entry, withAreas}
 use Rattle.plain.specs.Good.{Good}
 use Rattle.plain.specs.Questions.{replies, done, known}
 use Rattle.plain.specs.Areas.{stepCreateArea}
+use Rattle.plain.proofs.QuestionLaws.{false-no, asks-yes, asks-no}
 use Rattle.refine.specs.Represents.{Represents}
 use Rattle.refine.specs.Replies.{refused, written}
 use Rattle.refine.proofs.StateLaws.{same-room, same-full}
@@ -33,7 +34,6 @@ use Rattle.unit.specs.Find.{NameAt, NameFound, FindsName}
 use Rattle.unit.specs.Files.{nameOpen}
 use Rattle.unit.proofs.OpenLaws.{on-catalog}
 use Rattle.unit.proofs.MeantLaws.{meant-known}
-use Rattle.unit.proofs.AskLaws.{false-no, asks-yes, asks-no}
 use Rattle.unit.proofs.FileLaws.{found-file, live-size, live-index, name-open, name-closed, name-absent}
 use Rattle.areas.specs.Areas.{CreatesArea, dummyCreate, made}
 

@@ -25,6 +25,7 @@ use Rattle.plain.specs.Good.{Good}
 use Rattle.plain.specs.Questions.{replies, done, known}
 use Rattle.plain.specs.Areas.{bookLive, stepRemoveArea}
 use Rattle.plain.proofs.TableLaws.{some≢none}
+use Rattle.plain.proofs.QuestionLaws.{asks-yes, asks-no, given-none, given-some}
 use Rattle.refine.specs.Represents.{usersIn, Represents}
 use Rattle.refine.specs.Replies.{refused, written}
 use Rattle.refine.proofs.UserLaws.{users-count}
@@ -36,7 +37,6 @@ use Rattle.unit.specs.Opened.{NumbersOf, Meant}
 use Rattle.unit.specs.Find.{NameAt, NameFound, FindsName}
 use Rattle.unit.proofs.OpenLaws.{on-catalog}
 use Rattle.unit.proofs.MeantLaws.{meant-known}
-use Rattle.unit.proofs.AskLaws.{asks-yes, asks-no, given-none, given-some}
 use Rattle.areas.specs.Areas.{CanBookFrom, CanBook, Booked, RemovesArea, dummyRemove, books}
 
 pub none-left : {A : Type 0} (l : List A) → length l ≡ 0 → l ≡ []

@@ -13,7 +13,7 @@ use Rattle.catalog.specs.declared.Place.{Place}
 use Rattle.state.specs.declared.Found.the-variants.{At, Absent}
 use Rattle.state.specs.Areas.{areaNamed, vacantAreaOf, areaOpened, areaClosed}
 use Rattle.plain.specs.Table.{tableFind, tablePut, tableRemove}
-use Rattle.plain.specs.Unit.{Plain, File, withTables, withAreas}
+use Rattle.plain.specs.Unit.{Plain, File, sysOf, withTables, withAreas}
 use Rattle.plain.specs.Good.{Good}
 use Rattle.plain.specs.Areas.{bookLive, stepCreateArea, stepRemoveArea}
 use Rattle.refine.specs.Represents.{Represents}
@@ -72,7 +72,7 @@ pub record CanBook (image : List ℕ) (o : Opened) (place : Place) (sector size 
 
 -- "Length and slices are booked."
 pub record Booked (image : List ℕ) (o : Opened) (place : Place) (sector size : ℕ) (after : List ℕ) : Type 0 where
-  pub all : (p : Plain) (n : ℕ) (f : File) (can : CanBookFrom image o place sector size p n f) → after ≡ bookedImage p image (can .at .number) n f
+  pub all : (p : Plain) (n : ℕ) (f : File) (can : CanBookFrom image o place sector size p n f) → after ≡ bookedImage p (sysOf p) image (can .at .number) n f
 
 -- ---- Remove area
 
@@ -88,7 +88,7 @@ pub record AreaBooked (p : Plain) (image : List ℕ) (state : State) (n : ℕ) (
   pub found : areaNamed n state ≡ At j
   pub unit : q ≡ withTables p (p .layers) (p .sys) (tablePut n (bookLive f) (p .files)) (tableRemove n (p .areas))
   pub left : next ≡ areaClosed state j
-  pub written : after ≡ bookedImage p image t n f
+  pub written : after ≡ bookedImage p (sysOf p) image t n f
 
 -- "Remove area: dummy if none or if it has users; else length and slices are booked."
 pub data AreaRemoved (p : Plain) (image : List ℕ) (state : State) (n : ℕ) (after : List ℕ) (next : State) (q : Plain) : Type 0 where

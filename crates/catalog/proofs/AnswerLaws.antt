@@ -52,6 +52,8 @@ name-place {image} {c} {n} e =
       place = refl;
       stands = word-decides test sectors (c .layers) 0x5000 (omega arith);
       entered = word-decides test sectors (c .layers) 0x4800 (omega arith);
+      sound = word-decides test sectors (c .layers) 0x9000 (omega arith);
+      areaSound = word-decides test sectors (c .layers) 0x8800 (omega arith);
       new = new-decides test sectors (c .layers);
     })
 

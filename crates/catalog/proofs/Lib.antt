@@ -2,3 +2,4 @@ pub mod WalkLaws
 pub mod SearchLaws
 pub mod PlaceLaws
 pub mod AnswerLaws
+pub mod ValueLaws

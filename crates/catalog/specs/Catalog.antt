@@ -9,11 +9,17 @@ use lib.ListN.{take, drop}
 use Rattle.disc.specs.Decide.{Decides}
 use Rattle.disc.specs.Words.{word}
 use Rattle.disc.specs.Names.{pack, keyOf}
+use Rattle.disc.specs.Stretches.{sysFrom}
+use Rattle.disc.specs.Kit.{sysIndexSector}
 use Rattle.index.specs.Block.{jointSector}
 use Rattle.catalog.specs.declared.Catalog.{Catalog}
 use Rattle.catalog.specs.declared.Place.{Place}
 use Rattle.catalog.specs.declared.Found.{Found}
 use Rattle.catalog.specs.declared.Found.the-variants.{At, Nothing}
+
+-- SYS as a value of the code: "Sector 6 is the index block of SYS", and its blocks begin with joined sector 0.
+abbrev pub sysValue : ℕ → ℕ → Catalog
+sysValue keys layers = record { index = record { 0 = sysIndexSector }; from = sysFrom; keys = keys; layers = layers }
 
 -- "Key k lives in sectors k, k + H, k + 2H and so on": the sector of key k's block of layer l.
 unfoldable pub keySector : List ℕ → Catalog → ℕ → ℕ → ℕ
@@ -90,6 +96,14 @@ nameWord r = wordOf 0x5000 r
 abbrev pub areaNameWord : Found → ℕ
 areaNameWord r = wordOf 0x4800 r
 
+-- SYS, MAP and the names of open areas must stand in SYS: "2. Image sound with the state? 9000h", and of area create and remove and of the
+-- area messages "sound? 8800h".
+abbrev pub soundWord : Found → ℕ
+soundWord r = wordOf 0x9000 r
+
+abbrev pub areaSoundWord : Found → ℕ
+areaSoundWord r = wordOf 0x8800 r
+
 -- "6. New name unused? 1010h": a place is the no here.
 abbrev pub newNameWord : Found → ℕ
 newNameWord (At place) = 0x1010
@@ -120,6 +134,8 @@ pub record NamePlace (image : List ℕ) (c : Catalog) (n : ℕ) (r : Found) : Ty
   pub place : r ≡ placeNamed image c n
   pub stands : Decides (eqb (nameWord r) 0) (Stands image c n)
   pub entered : Decides (eqb (areaNameWord r) 0) (Stands image c n)
+  pub sound : Decides (eqb (soundWord r) 0) (Stands image c n)
+  pub areaSound : Decides (eqb (areaSoundWord r) 0) (Stands image c n)
   pub new : Decides (eqb (newNameWord r) 0) (Stands image c n → ⊥)
 
 -- What the search of an unused place promises: the first one, and the layers, which stay exactly if there is one.

@@ -6,7 +6,7 @@ ghost use Prim.Native.Nat.{_+_, _≤_};
 ghost use lib.ListN.{length, take, drop};
 ghost use Rattle.disc.specs.Names.{pack};
 ghost use Rattle.words.specs.Store.{store, zeroWords};
-ghost use Rattle.catalog.specs.Catalog.{keySector, placeStart, entryWord, entryAt, slotNamed, slotUnused, firstSlot, NamePlace, UnusedPlace};
+ghost use Rattle.catalog.specs.Catalog.{sysValue, keySector, placeStart, entryWord, entryAt, slotNamed, slotUnused, firstSlot, NamePlace, UnusedPlace};
 use types::Name;
 use types::Sector;
 
@@ -30,6 +30,18 @@ pub enum Found {
     Nothing,
 }
 
+// SYS as a catalog.
+pub fn sys(keys: u16, layers: u16) -> Catalog
+    ensures { λ r. ⌜ r ≡ sysValue keys layers ⌝ }
+{
+    Catalog {
+        index: Sector(6),
+        from: 0,
+        keys: keys,
+        layers: layers,
+    }
+}
+
 // The sector of a key's block of a layer.
 fn key_sector(image: &[u16], c: Catalog, key: u16, layer: u16) -> Sector
     ensures { λ r. ⌜ r .0 ≡ keySector (now (image .entry)) c key layer ⌝ }
@@ -38,12 +50,15 @@ fn key_sector(image: &[u16], c: Catalog, key: u16, layer: u16) -> Sector
     index::sector_at(image, c.index, joined)
 }
 
-// Whether the name stands in a slot of sector q.
+// Whether the name stands in a slot of sector q: by the first word, as few other names have it.
 fn is_named_slot(image: &[u16], q: Sector, slot: u16, name: Name) -> bool
     ensures { λ r. ⌜ r ≡ slotNamed (now (image .entry)) (pack (name .0) (name .1) (name .2)) (q .0) slot ⌝ }
 {
     let at = slot as usize * 16;
     let first = words::word(image, q, at);
+    if first != name.0 {
+        return false;
+    }
     let second = words::word(image, q, at + 1);
     let third = words::word(image, q, at + 2);
     names::same_name(Name(first, second, third), name)

@@ -17,13 +17,12 @@ use Rattle.disc.proofs.Compare.{below-or}
 use Rattle.disc.proofs.CutLaws.{count-take}
 use Rattle.disc.proofs.DecideLaws.{true≢false}
 use Rattle.plain.specs.Table.{Table, tableFind, tablePut, tableRemove, isSome}
-use Rattle.plain.specs.Unit.{Plain, File, M, held, freeSlices, entry, withTables}
+use Rattle.plain.specs.Unit.{Plain, File, M, held, freeSlices, entry, withTables, sysOf}
 use Rattle.plain.specs.Questions.{Outcome, asks, replies, done}
 use Rattle.plain.specs.Taking.{Taking, enough}
 use Rattle.plain.specs.Catalog.{changed, changeFile}
-use Rattle.plain.proofs.QuestionLaws.{asks-law}
-use Rattle.steps.proofs.ChangeUnit.{changeTaking, changeCount, ChangeAsked}
-use Rattle.unit.proofs.AskLaws.{false-no, asks-yes, asks-no}
+use Rattle.plain.proofs.QuestionLaws.{asks-law, false-no, asks-yes, asks-no}
+use Rattle.plain.proofs.ChangeUnit.{changeTaking, changeCount, ChangeAsked}
 use Rattle.grow.proofs.RoomLaws.{enough-yes, enough-no}
 
 -- ---- the answer of changeFile
@@ -112,7 +111,7 @@ module _ (p : Plain) (n m size attributes : ℕ) (f : File) (lent : List ℕ) wh
       (ok : legalName m && (legalAttributes attributes && (legalWith attributes count && (not (permanent (f .attributes)) || (eqb m n && eqb size (f .booked))))) ≡ true) where
     -- the questions before question 6
     pub change-six : changeFile p n f m size attributes lent
-        ≡ asks (eqb m n || not (isSome (entry p m))) (replies p 0x1010 lent) (enough p t slices lent changeFiles)
+        ≡ asks (eqb m n || not (isSome (entry p m))) (replies p 0x1010 lent) (enough p (sysOf p) t slices lent changeFiles)
     unfolding changeFile
     change-six =
         let all = parts (legalName m) (legalAttributes attributes) (legalWith attributes count) (not (permanent (f .attributes)) || (eqb m n && eqb size (f .booked))) ok in
@@ -133,7 +132,7 @@ module _ (p : Plain) (n m size attributes : ℕ) (f : File) (lent : List ℕ) wh
         go false true e = tt
         go false false e = absurd (true≢false (sym e))
 
-    pub change-room : not (eqb m n) && isSome (entry p m) ≡ false → changeFile p n f m size attributes lent ≡ enough p t slices lent changeFiles
+    pub change-room : not (eqb m n) && isSome (entry p m) ≡ false → changeFile p n f m size attributes lent ≡ enough p (sysOf p) t slices lent changeFiles
     change-room h = change-six ∙ asks-yes _ _ _ (go (eqb m n) (isSome (entry p m)) h)
       where
         go : (a b : Bool) → not a && b ≡ false → T (a || not b)
@@ -143,14 +142,14 @@ module _ (p : Plain) (n m size attributes : ℕ) (f : File) (lent : List ℕ) wh
 
   -- ---- the stretches of the file: those of the slices that are kept are no more than before
 
-  pub room-same : stretchCount (f .slices) ≤ 127 → enough p t slices lent changeFiles ≡ enough p t (f .slices ++ t .fileNew) lent changeFiles
+  pub room-same : stretchCount (f .slices) ≤ 127 → enough p (sysOf p) t slices lent changeFiles ≡ enough p (sysOf p) t (f .slices ++ t .fileNew) lent changeFiles
   room-same few =
-      ap (λ (b : Bool). asks (leb (t .forSys + t .forFile) (freeSlices p)) (replies p 0x1100 lent)
-      (asks (leb (stretchCount (p .sys ++ t .sysNew)) 127) (replies p 0x1008 lent)
-      (asks b (replies p 0x1008 lent) (done (withTables p (t .layers) (p .sys ++ t .sysNew) changeFiles (p .areas)) lent)))) same
+      ap (λ (b : Bool). asks (leb (t .forCatalog + t .forFile) (freeSlices p)) (replies p 0x1100 lent)
+      (asks (leb (stretchCount (p .sys ++ t .catalogNew)) 127) (replies p 0x1008 lent)
+      (asks b (replies p 0x1008 lent) (done (withTables p (t .layers) (p .sys ++ t .catalogNew) changeFiles (p .areas)) lent)))) same
     where
       nothing : count - length (f .slices) ≡ 0 → t .fileNew ≡ []
-      nothing z = ap (taken (M p) (t .sysNew ++ held p) (lastOf (f .slices))) z
+      nothing z = ap (taken (M p) (t .catalogNew ++ held p) (lastOf (f .slices))) z
 
       same : leb (stretchCount slices) 127 ≡ leb (stretchCount (f .slices ++ t .fileNew)) 127
       same = below-or (length (f .slices)) count

@@ -20,7 +20,8 @@ use Rattle.plain.specs.Unit.{Plain, File, entry}
 use Rattle.plain.specs.Good.{Good}
 use Rattle.plain.specs.Questions.{replies, known}
 use Rattle.plain.specs.Catalog.{attributesIn, newName, changeFile, stepChange}
-use Rattle.plain.proofs.QuestionLaws.{given-law}
+use Rattle.plain.proofs.QuestionLaws.{given-law, true-yes, false-no, asks-yes, asks-no, given-none, given-some}
+use Rattle.plain.proofs.UnitLaws.{system-none, ordinary-files}
 use Rattle.refine.specs.Represents.{Represents}
 use Rattle.refine.specs.Replies.{Replies, refused, written}
 use Rattle.steps.proofs.Whole.{on-disc}
@@ -30,8 +31,7 @@ use Rattle.unit.specs.Find.{NameAt, NameFound, FindsName}
 use Rattle.unit.specs.Files.{nameOpen}
 use Rattle.unit.proofs.OpenLaws.{on-catalog}
 use Rattle.unit.proofs.MeantLaws.{meant-known}
-use Rattle.unit.proofs.AskLaws.{true-yes, false-no, asks-yes, asks-no, given-none, given-some}
-use Rattle.unit.proofs.FileLaws.{found-file, system-none, name-open, name-closed}
+use Rattle.unit.proofs.FileLaws.{found-file, name-open, name-closed}
 use Rattle.change.specs.Asked.{CanStandFrom}
 use Rattle.change.specs.Change.{sizeThen, attributesThen, Changed, CanChange, FileChanges, ChangeDone, Changes}
 use Rattle.change.proofs.AnswerLaws.{change-open}
@@ -91,7 +91,7 @@ module _ {image : List ℕ} {o : Opened} {n : ℕ} {r : Found} (state : State) (
       changes-system system = record {
         all = λ p g rep num. record {
           step =
-              let none-there = system-none p (named name) g (true-yes (ap isSystem (sym is) ∙ system)) in
+              let none-there = system-none p (named name) (ordinary-files g) (true-yes (ap isSystem (sym is) ∙ system)) in
               refused (λ z. omega arith) (change-system p name lent (meant-known meant rep) (at p g rep num .entered) long none-there) refl;
         };
       }

@@ -16,13 +16,15 @@ use Rattle.disc.specs.Names.{named, keyOf}
 use Rattle.disc.specs.Stretches.{stretchCount, sysFrom}
 use Rattle.disc.specs.Entries.{placeWord, placeCount, nameAt}
 use Rattle.plain.specs.Table.{tableFind, tableRemove}
-use Rattle.plain.specs.Unit.{Plain, File, freeSlices}
-use Rattle.plain.specs.Questions.{Outcome, done, replies}
+use Rattle.plain.specs.Unit.{Plain, File, sysOf, freeSlices}
+use Rattle.plain.specs.Questions.{Outcome, done, replies, answer}
 use Rattle.plain.specs.Good.{Good}
 use Rattle.plain.specs.Taking.{taking, layersFor}
 use Rattle.plain.specs.Catalog.{isRecord, newName, slicesAfter, changeFile, stepChange}
 use Rattle.plain.proofs.QuestionLaws.{asks-law, given-law}
 use Rattle.plain.proofs.TableLaws.{some-inj}
+use Rattle.plain.proofs.ChangeUnit.{changeLayers, changeGrown, changedOn, changedUnit, ChangeAsked, change-outcome, change-shut, change-changes, moved-vacant, moved-fits}
+use Rattle.plain.proofs.GrowUnit.{grownTo, not-grown, entry-grown}
 use Rattle.refine.specs.Represents.{Represents}
 use Rattle.refine.specs.OnDisc.{OnDisc}
 use Rattle.refine.specs.Writes.{emptyPlace, resizedImage, renamedImage}
@@ -30,13 +32,12 @@ use Rattle.refine.specs.Replies.{Replies, refused, written}
 use Rattle.steps.proofs.Whole.{on-disc, represents}
 use Rattle.steps.proofs.GrowStep.{grow-on}
 use Rattle.steps.proofs.RenameStep.{rename-at}
-use Rattle.steps.proofs.ChangeUnit.{grownTo, not-grown, entry-grown, changeLayers, changeGrown, changedOn, changedUnit, ChangeAsked, change-outcome, change-shut, change-changes, moved-vacant, moved-fits}
 use Rattle.steps.proofs.ChangeMessage.{change-kept, change-areas}
-use Rattle.unit.specs.Stepped.{Stepped}
-use Rattle.unit.proofs.StepLaws.{stepped}
 use Rattle.steps.specs.Units.{grownUnit}
-use Rattle.grow.specs.Grow.{GrownFrom}
+use Rattle.refine.specs.Leaves.{Leaves}
+use Rattle.refine.proofs.LeavesLaws.{leaves}
 use Rattle.unit.specs.Find.{FirstUnused}
+use Rattle.grow.specs.Grow.{GrownFrom}
 use Rattle.rewrite.specs.Rewrite.{Rewrites, stayed, moved}
 use Rattle.change.specs.Change.{sizeThen, attributesThen, fileAfter, layersThen, Changed, stays, grows, ChangeDone, ChangeStep}
 use Rattle.change.proofs.AnswerLaws.{change-yes}
@@ -67,13 +68,13 @@ on-grown : (p : Plain) (n : ℕ) (f : File) (lent : List ℕ) → ChangeAsked p 
     → layersThen p n lent ≡ suc (p .layers) → OnDisc image p → GrownFrom image p i → OnDisc i (grownUnit p)
 on-grown p n f lent asked next o gf = subst (λ (j : List ℕ). OnDisc j (grownUnit p)) (sym (gf .written)) (grow-on o room few (gf .place) (gf .inside) (gf .named))
   where
-    room : taking p (suc (p .layers)) 0 0 .forSys ≤ freeSlices p
+    room : taking p (sysOf p) (suc (p .layers)) 0 0 .forCatalog ≤ freeSlices p
     room =
-        let h : taking p (layersThen p n lent) 0 0 .forSys + (slicesAfter (p .s) (sizeThen f lent) f - length (f .slices)) ≤ freeSlices p = leb→le _ _ (asked .room) in
-        subst (λ (l : ℕ). taking p l 0 0 .forSys ≤ freeSlices p) next (omega arith)
+        let h : taking p (sysOf p) (layersThen p n lent) 0 0 .forCatalog + (slicesAfter (p .s) (sizeThen f lent) f - length (f .slices)) ≤ freeSlices p = leb→le _ _ (asked .room) in
+        subst (λ (l : ℕ). taking p (sysOf p) l 0 0 .forCatalog ≤ freeSlices p) next (omega arith)
 
-    few : stretchCount (p .sys ++ taking p (suc (p .layers)) 0 0 .sysNew) ≤ 127
-    few = subst (λ (l : ℕ). stretchCount (p .sys ++ taking p l 0 0 .sysNew) ≤ 127) next (leb→le _ _ (asked .sysFew))
+    few : stretchCount (p .sys ++ taking p (sysOf p) (suc (p .layers)) 0 0 .catalogNew) ≤ 127
+    few = subst (λ (l : ℕ). stretchCount (p .sys ++ taking p (sysOf p) l 0 0 .catalogNew) ≤ 127) next (leb→le _ _ (asked .sysFew))
 
 module _ (p : Plain) (n : ℕ) (f : File) (lent : List ℕ) (g : Good p) (found : tableFind n (p .files) ≡ some f) (words : Words lent) (rec : T (isRecord lent))
     (asked : ChangeAsked p n (newName n lent) (sizeThen f lent) (attributesThen f lent) f lent) where
@@ -100,14 +101,14 @@ module _ (p : Plain) (n : ℕ) (f : File) (lent : List ℕ) (g : Good p) (found 
 
   -- another name, in a place that is unused once the own one is empty
   moved-at : m ≢ n → (q : Plain) → changeGrown p n (newName n lent) (sizeThen f lent) (attributesThen f lent) f lent ≡ q → (i : List ℕ) → OnDisc i q → (t : ℕ) → t < placeCount (q .H) (q .layers)
-      → nameAt (placeWord i (q .F) (q .s) (q .sys) sysFrom) t ≡ n → (u : ℕ) → FirstUnused (emptyPlace q (resizedImage q i f (on q)) t) q (keyOf (q .H) m) u
-      → OnDisc (renamedImage q i t u m f (on q)) unit
+      → nameAt (placeWord i (q .F) (q .s) (q .sys) sysFrom) t ≡ n → (u : ℕ) → FirstUnused (emptyPlace q (sysOf q) (resizedImage q i f (on q)) t) q (sysOf q) (keyOf (q .H) m) u
+      → OnDisc (renamedImage q (sysOf q) i t u m f (on q)) unit
   moved-at d q e i =
       subst
       (λ (q : Plain). OnDisc i q → (t : ℕ) → t < placeCount (q .H) (q .layers) → nameAt (placeWord i (q .F) (q .s) (q .sys) sysFrom) t ≡ n
-      → (u : ℕ) → FirstUnused (emptyPlace q (resizedImage q i f (on q)) t) q (keyOf (q .H) m) u → OnDisc (renamedImage q i t u m f (on q)) unit)
+      → (u : ℕ) → FirstUnused (emptyPlace q (sysOf q) (resizedImage q i f (on q)) t) q (sysOf q) (keyOf (q .H) m) u → OnDisc (renamedImage q (sysOf q) i t u m f (on q)) unit)
       e
-      (λ o t in₀ was u first. subst (λ (x : Plain). OnDisc (renamedImage grown i t u m f (on grown)) x) unit-is
+      (λ o t in₀ was u first. subst (λ (x : Plain). OnDisc (renamedImage grown (sysOf grown) i t u m f (on grown)) x) unit-is
       (rename-at o n m found (change-shut p n m sz at f lent g found asked) (change-changes p n m sz at f lent g found asked words rec) d (asked .legal)
       (entry-grown p (changeLayers p n m sz at f lent) m (moved-vacant p n m sz at f lent d asked)) (moved-fits p n m sz at f lent g d)
       t in₀ was u (first .inside) (first .key) (first .unused)))
@@ -129,7 +130,7 @@ module _ (p : Plain) (n : ℕ) (f : File) (lent : List ℕ) (g : Good p) (found 
 
       go : Rewrites i (grownUnit p) (c .t) n (newName n lent) f (fileAfter (grownUnit p) f lent) after → OnDisc after unit
       go (stayed e w) =
-          let z : layersThen p n lent ≡ p .layers = ap (λ (b : Bool). cond b (p .layers) (layersFor p m (tableRemove n (p .files)))) (eq-eqb m n e) in
+          let z : layersThen p n lent ≡ p .layers = ap (λ (b : Bool). cond b (p .layers) (layersFor (p .H) (sysOf p) m (tableRemove n (p .files)))) (eq-eqb m n e) in
           absurd (omega (arith, next))
       go (moved d u first w) = subst (λ (j : List ℕ). OnDisc j unit) (sym w) (moved-at d (grownUnit p) grown-unit i (on-grown p n f lent asked next o gf) (c .t) (c .inside) (c .stands) u first)
 
@@ -141,11 +142,11 @@ pub change-grown : {p : Plain} (name : Name) {f : File} (lent : List ℕ) {image
 change-grown {p} name {f} lent z file next o gf = on-grown p (named name) f lent (done-as p name f lent file .told z .1) next o gf
 
 module _ {image : List ℕ} {state : State} {p : Plain} (g : Good p) (r : Represents image state p) where
-  pub change-stepped : {name : Name} {lent after : List ℕ} {result : ℕ} → Words lent → ChangeStep p image name lent after result → Stepped (stepChange p name lent) lent result after state
+  pub change-stepped : {name : Name} {lent after : List ℕ} {result : ℕ} → Words lent → ChangeStep p image name lent after result → Leaves (stepChange p name lent) (answer result 0 0 0) lent after state
   change-stepped {name} {lent} {after} {result} words s = go (s .step)
     where
-      go : Replies p (stepChange p name lent) lent result (after ≡ image) (ChangeDone p image (named name) lent after) → Stepped (stepChange p name lent) lent result after state
-      go (refused nz e same) = stepped e g (rw same r)
+      go : Replies p (stepChange p name lent) lent result (after ≡ image) (ChangeDone p image (named name) lent after) → Leaves (stepChange p name lent) (answer result 0 0 0) lent after state
+      go (refused nz e same) = leaves e g (rw same r)
       go (written z q e w) =
           let n : ℕ = named name in
           let f = w .f in
@@ -156,4 +157,4 @@ module _ {image : List ℕ} {state : State} {p : Plain} (g : Good p) (r : Repres
           let same : q ≡ unit = ap (λ (x : Outcome). x .unit) (sym e ∙ told .2) in
           let there : stepChange p name lent ≡ replies unit result lent = e ∙ ap (λ (x : Plain). done x lent) same ∙ ap (λ (x : ℕ). replies unit x lent) (sym z) in
           let on = changed-on p n f lent g (w .file) words (told .0) (told .1) (on-disc g r) (w .changed) in
-          stepped there (on .good) (represents on (change-areas p n (newName n lent) sz at f lent g (w .file) (told .1) (r .areas)))
+          leaves there (on .good) (represents on (change-areas p n (newName n lent) sz at f lent g (w .file) (told .1) (r .areas)))

@@ -17,13 +17,13 @@ use Rattle.disc.specs.Stretches.{stretchCount}
 use Rattle.disc.proofs.DecideLaws.{true≢false}
 use Rattle.catalog.specs.declared.Place.{Place}
 use Rattle.plain.specs.Table.{tableRemove}
-use Rattle.plain.specs.Unit.{Plain, File, freeSlices, entry}
+use Rattle.plain.specs.Unit.{Plain, File, freeSlices, entry, sysOf}
 use Rattle.plain.specs.Questions.{replies, done}
 use Rattle.plain.specs.Taking.{taking, placesTaken, layersFor}
 use Rattle.plain.specs.Catalog.{isRecord, newName, keptOr, attributesIn, sizeIn, slicesAfter, changed, changeFile}
+use Rattle.plain.proofs.ChangeUnit.{Changes, changeLayers, changeGrown, changedOn, changedUnit, ChangeAsked, change-outcome, change-changes, moved-vacant, moved-fits}
+use Rattle.plain.proofs.GrowUnit.{grownTo, not-grown, entry-grown}
 use Rattle.refine.specs.Replies.{Replies, refused, written}
-use Rattle.steps.proofs.ChangeStep.{Changes}
-use Rattle.steps.proofs.ChangeUnit.{grownTo, not-grown, entry-grown, changeLayers, changeGrown, changedOn, changedUnit, ChangeAsked, change-outcome, change-changes, moved-vacant, moved-fits}
 use Rattle.unit.specs.declared.Opened.{Opened}
 use Rattle.steps.specs.Units.{grownUnit}
 use Rattle.grow.specs.Grow.{CanGrowFrom, CanGrow, Grows}
@@ -89,8 +89,8 @@ module _ {image : List ℕ} {o : Opened} {n : ℕ} {place : Place} {lent : List 
     layers-are : layers ≡ layersThen p n lent
     layers-are =
         ly .all p f (can .on) (can .numbers) (can .file)
-        ∙ ap₂ (λ (b : Bool) (k : ℕ). cond b (layersFor p k (tableRemove n (p .files))) (p .layers)) (wo .moves) (wo .name .packed)
-        ∙ cond-not (eqb m n) (layersFor p m (tableRemove n (p .files))) (p .layers)
+        ∙ ap₂ (λ (b : Bool) (k : ℕ). cond b (layersFor (p .H) (sysOf p) k (tableRemove n (p .files))) (p .layers)) (wo .moves) (wo .name .packed)
+        ∙ cond-not (eqb m n) (layersFor (p .H) (sysOf p) m (tableRemove n (p .files))) (p .layers)
 
     asked-as : AskedAs image o now w layers p n (newName n lent) f
     asked-as = record { stands = s; name = wo .name; moves = wo .moves; slices = slices-are; layered = layers-are }
@@ -140,7 +140,7 @@ module _ {image : List ℕ} {o : Opened} {n : ℕ} {place : Place} {lent : List 
                 vacant = λ d.
                     subst (λ (x : Plain). entry x m ≡ none) e (entry-grown p (changeLayers p n m sz at f lent) m (moved-vacant p n m sz at f lent d asked));
                 fits = λ d.
-                    subst (λ (x : Plain). placesTaken (x .H) (keyOf (x .H) m) (tableRemove n (x .files)) < 16 * x .layers) e (moved-fits p n m sz at f lent (can .on .good) d);
+                    subst (λ (x : Plain). placesTaken (x .H) (keyOf (x .H) m) (sysOf x) (tableRemove n (x .files)) < 16 * x .layers) e (moved-fits p n m sz at f lent (can .on .good) d);
               }
 
           file-then : (q : Plain) → q .s ≡ p .s → fileThen q f w lent ≡ fileAfter q f lent
@@ -151,14 +151,14 @@ module _ {image : List ℕ} {o : Opened} {n : ℕ} {place : Place} {lent : List 
 
           -- ---- SYS as it was
 
-          module _ (few : layers ≤ o .layers) where
+          module _ (few : layers ≤ o .catalog .layers) where
             same-layers : layersThen p n lent ≡ p .layers
             same-layers =
                 omega (
                   arith,
                   layers-are,
-                  can .numbers .layers,
-                  layers-low (eqb m n) (leb (16 * p .layers) (placesTaken (p .H) (keyOf (p .H) m) (tableRemove n (p .files)))) (p .layers),
+                  can .numbers .catalog .layers,
+                  layers-low (eqb m n) (leb (16 * p .layers) (placesTaken (p .H) (keyOf (p .H) m) (sysOf p) (tableRemove n (p .files)))) (p .layers),
                 )
 
             same-unit : changeGrown p n (newName n lent) (sizeThen f lent) (attributesThen f lent) f lent ≡ p
@@ -186,14 +186,14 @@ module _ {image : List ℕ} {o : Opened} {n : ℕ} {place : Place} {lent : List 
 
           -- ---- SYS grown by a layer
 
-          module _ (more : o .layers < layers) where
+          module _ (more : o .catalog .layers < layers) where
             next-layers : layersThen p n lent ≡ suc (p .layers)
             next-layers =
                 omega (
                   arith,
                   layers-are,
-                  can .numbers .layers,
-                  layers-high (eqb m n) (leb (16 * p .layers) (placesTaken (p .H) (keyOf (p .H) m) (tableRemove n (p .files)))) (p .layers),
+                  can .numbers .catalog .layers,
+                  layers-high (eqb m n) (leb (16 * p .layers) (placesTaken (p .H) (keyOf (p .H) m) (sysOf p) (tableRemove n (p .files)))) (p .layers),
                 )
 
             grow-from : CanGrowFrom image o p
@@ -201,9 +201,9 @@ module _ {image : List ℕ} {o : Opened} {n : ℕ} {place : Place} {lent : List 
               on = can .on;
               numbers = can .numbers;
               room =
-                  let h : taking p (layersThen p n lent) 0 0 .forSys + (slicesAfter (p .s) (sizeThen f lent) f - length (f .slices)) ≤ freeSlices p = leb→le _ _ (asked .room) in
-                  subst (λ (l : ℕ). taking p l 0 0 .forSys ≤ freeSlices p) next-layers (omega arith);
-              few = subst (λ (l : ℕ). stretchCount (p .sys ++ taking p l 0 0 .sysNew) ≤ 127) next-layers (leb→le _ _ (asked .sysFew));
+                  let h : taking p (sysOf p) (layersThen p n lent) 0 0 .forCatalog + (slicesAfter (p .s) (sizeThen f lent) f - length (f .slices)) ≤ freeSlices p = leb→le _ _ (asked .room) in
+                  subst (λ (l : ℕ). taking p (sysOf p) l 0 0 .forCatalog ≤ freeSlices p) next-layers (omega arith);
+              few = subst (λ (l : ℕ). stretchCount (p .sys ++ taking p (sysOf p) l 0 0 .catalogNew) ≤ 127) next-layers (leb→le _ _ (asked .sysFew));
             }
 
             pub can-grow : CanGrow image o

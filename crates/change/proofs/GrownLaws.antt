@@ -2,7 +2,7 @@
 use mathlib.Core.Path.{_≡_, sym, ap, ap₂, _∙_}
 use mathlib.Core.List.{List}
 use mathlib.Core.Logic.{_≢_}
-use Prim.Native.Nat.{ℕ, _+_, _*_, _/_, _<_}
+use Prim.Native.Nat.{ℕ, suc, _+_, _*_, _/_, _<_}
 use native.Mathlib.Omega.{arith}
 use Rattle.disc.specs.Words.{word}
 use Rattle.disc.specs.Names.{SYS}
@@ -10,23 +10,24 @@ use Rattle.disc.specs.Stretches.{sysFrom}
 use Rattle.disc.specs.Entries.{nameAt}
 use Rattle.catalog.specs.Catalog.{entryWord}
 use Rattle.catalog.specs.declared.Place.{Place}
-use Rattle.plain.specs.Unit.{Plain, File}
+use Rattle.plain.specs.Unit.{Plain, File, sysOf}
 use Rattle.plain.proofs.UnitLaws.{not-system}
+use Rattle.plain.proofs.GrowUnit.{entry-but-sys}
 use Rattle.refine.proofs.CatalogLaws.{name-cong}
-use Rattle.refine.proofs.Ground.{ground, place-in}
+use Rattle.refine.proofs.Ground.{ground, place-in, sys-ground}
 use Rattle.refine.proofs.Writers.{grown-sector}
-use Rattle.steps.proofs.GrowStep.{entry-but-sys, grow-old}
+use Rattle.steps.proofs.GrowStep.{grow-old}
+use Rattle.steps.specs.Units.{layerSlices, grownUnit}
 use Rattle.unit.specs.declared.Opened.{Opened}
 use Rattle.unit.specs.Opened.{NumbersOf, unitPlaces}
 use Rattle.unit.specs.Find.{PlaceIs, NameAt}
-use Rattle.steps.specs.Units.{layerSlices, grownUnit}
 use Rattle.grow.specs.Grow.{CanGrowFrom, GrownFrom}
 use Rattle.grow.proofs.GrowLaws.{grown-on}
 use Rattle.rewrite.specs.declared.Standing.{Standing}
 use Rattle.rewrite.specs.Rewrite.{StandsAs}
 
 -- a word of a place of the code is that of SYS's place
-place-word : (p : Plain) (image : List ℕ) {t : ℕ} {place : Place} → PlaceIs p t place → (w : ℕ) → entryWord image place w ≡ unitPlaces image p t w
+place-word : (p : Plain) (image : List ℕ) {t : ℕ} {place : Place} → PlaceIs p (sysOf p) t place → (w : ℕ) → entryWord image place w ≡ unitPlaces image p t w
 place-word p image is w = ap₂ (λ (q slot : ℕ). word image q (slot * 16 + w)) (is .sector) (is .slot)
 
 module _ {image : List ℕ} {o : Opened} {now : Standing} {p : Plain} {n : ℕ} {f : File} (s : StandsAs image o now p n f) (can : CanGrowFrom image o p)
@@ -43,10 +44,10 @@ module _ {image : List ℕ} {o : Opened} {now : Standing} {p : Plain} {n : ℕ} 
       ap (λ (i : List ℕ). unitPlaces i (grownUnit p) (s .at .number) w) (g .written)
       ∙ grow-old (can .on) (can .room) (can .few) (g .place) (g .inside) (g .named) (s .at .number) w (s .at .is .inside) apart x
 
-  grown-is : PlaceIs (grownUnit p) (s .at .number) (now .place)
+  grown-is : PlaceIs (grownUnit p) (sysOf (grownUnit p)) (s .at .number) (now .place)
   grown-is =
       let gr = ground p (s .on .good) in
-      let same = grown-sector gr (s .on .layout) (layerSlices p) (s .at .number / 16 + sysFrom) (place-in p gr (s .at .number) (s .at .is .inside)) in
+      let same = grown-sector gr (s .on .layout) (layerSlices p) (s .at .number / 16 + sysFrom) (place-in (sys-ground gr) (s .at .number) (s .at .is .inside)) in
       record { inside = omega (arith, s .at .is .inside); sector = s .at .is .sector ∙ sym same; slot = s .at .is .slot }
 
   grown-at : NameAt after (grownUnit p) n (now .place)
@@ -55,7 +56,7 @@ module _ {image : List ℕ} {o : Opened} {now : Standing} {p : Plain} {n : ℕ} 
     is = grown-is;
     named = name-cong (unitPlaces image p) (unitPlaces after (grownUnit p)) (s .at .number) kept ∙ s .at .named;
     words = s .at .words;
-    entered = entry-but-sys p n no-sys ∙ s .at .entered;
+    entered = entry-but-sys p (suc (p .layers)) n no-sys ∙ s .at .entered;
     holds = λ w x. place-word (grownUnit p) after grown-is w ∙ kept w x ∙ sym (place-word p image (s .at .is) w) ∙ s .at .holds w x;
   }
 

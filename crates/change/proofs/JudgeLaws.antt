@@ -8,7 +8,7 @@ use Rattle.disc.specs.Names.{legalName}
 use Rattle.disc.specs.Attributes.{legalAttributes, legalWith, permanent}
 use Rattle.disc.specs.Slices.{lastOf}
 use Rattle.plain.specs.Table.{isSome}
-use Rattle.plain.specs.Unit.{Plain, File, entry}
+use Rattle.plain.specs.Unit.{Plain, File, entry, sysOf}
 use Rattle.plain.specs.Questions.{Outcome}
 use Rattle.plain.specs.Taking.{Taking, taking, enough}
 use Rattle.plain.specs.Catalog.{slicesAfter, changeFile}
@@ -67,9 +67,9 @@ module _ {image : List ℕ} {o : Opened} {now : Standing} {w : Wanted} {layers :
         → x ≡ changeFile p n f m (w .size) (w .attributes) lent .answer .result
     judge-room {x = x} {more = more} lent t h e room =
         let fs = changeFiles p n m (w .size) (w .attributes) f lent in
-        let t₀ : ℕ → ℕ → Taking = λ l k. taking p l (lastOf (f .slices)) k in
+        let t₀ : ℕ → ℕ → Taking = λ l k. taking p (sysOf p) l (lastOf (f .slices)) k in
         room .all p (f .slices) judge-asked lent fs
-        ∙ ap₂ (λ (l k : ℕ). enough p (t₀ l k) (f .slices ++ t₀ l k .fileNew) lent fs .answer .result) (a .layered) (e ∙ ap₂ (λ (y z : ℕ). y - z) (a .slices) (a .stands .slices))
+        ∙ ap₂ (λ (l k : ℕ). enough p (sysOf p) (t₀ l k) (f .slices ++ t₀ l k .fileNew) lent fs .answer .result) (a .layered) (e ∙ ap₂ (λ (y z : ℕ). y - z) (a .slices) (a .stands .slices))
         ∙ sym (ap (λ (y : Outcome). y .answer .result)
         (change-room p n m (w .size) (w .attributes) f lent (a .stands .closed) (sym allowed-is ∙ ok) (sym (taken-is t) ∙ h)
         ∙ room-same p n m (w .size) (w .attributes) f lent (a .stands .on .good .files n f (a .stands .file) .few)))

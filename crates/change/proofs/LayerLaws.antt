@@ -16,10 +16,10 @@ use Rattle.catalog.specs.declared.Place.{Place}
 use Rattle.catalog.specs.declared.Found.{Found}
 use Rattle.catalog.specs.declared.Found.the-variants.{At, Nothing}
 use Rattle.plain.specs.Table.{Row, tableFind, tableRemove, isSome}
-use Rattle.plain.specs.Unit.{Plain, File, entry}
+use Rattle.plain.specs.Unit.{Plain, File, entry, sysOf}
 use Rattle.plain.specs.Taking.{hasKey, placesTaken, layersFor}
 use Rattle.plain.proofs.TableLaws.{weightAt, total-remove}
-use Rattle.refine.proofs.Ground.{ground, part-sys}
+use Rattle.refine.proofs.Ground.{ground, sys-ground}
 use Rattle.steps.proofs.WriteLaws.{part-sectors}
 use Rattle.unit.specs.declared.Opened.{Opened}
 use Rattle.unit.specs.Opened.{NumbersOf, OpenedOn}
@@ -45,38 +45,38 @@ module _ (p : Plain) (n m : ℕ) (f : File) (found : tableFind n (p .files) ≡ 
   k = keyOf (p .H) m
 
   -- the places that the key's names take without the file
-  others : placesTaken (p .H) k (tableRemove n (p .files)) + hasKey (p .H) k n ≡ placesTaken (p .H) k (p .files)
+  others : placesTaken (p .H) k (sysOf p) (tableRemove n (p .files)) + hasKey (p .H) k n ≡ placesTaken (p .H) k (sysOf p) (p .files)
   others =
       let w : Row File → ℕ = λ r. hasKey (p .H) k (r .key) in
       omega (arith, total-remove w n (p .files), ap (weightAt w n) found)
 
-  pub layers-own : keyOf (p .H) n ≡ keyOf (p .H) m → placesTaken (p .H) (keyOf (p .H) m) (p .files) ≤ 16 * p .layers → p .layers ≡ layersFor p m (tableRemove n (p .files))
+  pub layers-own : keyOf (p .H) n ≡ keyOf (p .H) m → placesTaken (p .H) (keyOf (p .H) m) (sysOf p) (p .files) ≤ 16 * p .layers → p .layers ≡ layersFor (p .H) (sysOf p) m (tableRemove n (p .files))
   layers-own e room =
-      let h : placesTaken (p .H) k (tableRemove n (p .files)) < 16 * p .layers = omega (arith, others, one-same (keyOf (p .H) n) k e) in
-      rw (lt-leb (16 * p .layers) (placesTaken (p .H) k (tableRemove n (p .files))) h) refl
+      let h : placesTaken (p .H) k (sysOf p) (tableRemove n (p .files)) < 16 * p .layers = omega (arith, others, one-same (keyOf (p .H) n) k e) in
+      rw (lt-leb (16 * p .layers) (placesTaken (p .H) k (sysOf p) (tableRemove n (p .files))) h) refl
 
   module _ (d : keyOf (p .H) n ≢ keyOf (p .H) m) where
-    same-places : placesTaken (p .H) k (tableRemove n (p .files)) ≡ placesTaken (p .H) k (p .files)
+    same-places : placesTaken (p .H) k (sysOf p) (tableRemove n (p .files)) ≡ placesTaken (p .H) k (sysOf p) (p .files)
     same-places = omega (arith, others, one-other (keyOf (p .H) n) k d)
 
-    pub layers-room : placesTaken (p .H) (keyOf (p .H) m) (p .files) < 16 * p .layers → p .layers ≡ layersFor p m (tableRemove n (p .files))
-    layers-room h = rw (same-places, lt-leb (16 * p .layers) (placesTaken (p .H) k (p .files)) h) refl
+    pub layers-room : placesTaken (p .H) (keyOf (p .H) m) (sysOf p) (p .files) < 16 * p .layers → p .layers ≡ layersFor (p .H) (sysOf p) m (tableRemove n (p .files))
+    layers-room h = rw (same-places, lt-leb (16 * p .layers) (placesTaken (p .H) k (sysOf p) (p .files)) h) refl
 
-    pub layers-full : 16 * p .layers ≤ placesTaken (p .H) (keyOf (p .H) m) (p .files) → suc (p .layers) ≡ layersFor p m (tableRemove n (p .files))
-    layers-full h = rw (same-places, le-leb (16 * p .layers) (placesTaken (p .H) k (p .files)) h) refl
+    pub layers-full : 16 * p .layers ≤ placesTaken (p .H) (keyOf (p .H) m) (sysOf p) (p .files) → suc (p .layers) ≡ layersFor (p .H) (sysOf p) m (tableRemove n (p .files))
+    layers-full h = rw (same-places, le-leb (16 * p .layers) (placesTaken (p .H) k (sysOf p) (p .files)) h) refl
 
 -- ---- by what the search found
 
-pub some-layers : {image : List ℕ} {o : Opened} → OpenedOn image o → (1 ≤ o .keys) × (o .layers + 1 < 65536)
+pub some-layers : {image : List ℕ} {o : Opened} → OpenedOn image o → (1 ≤ o .catalog .keys) × (o .catalog .layers + 1 < 65536)
 some-layers h =
     let p = h .unit in
     let gr = ground p (h .on .good) in (
-      omega (arith, h .numbers .keys, gr .limits .keys-low),
+      omega (arith, h .numbers .catalog .keys, gr .limits .keys-low),
       omega (
         arith,
-        h .numbers .layers,
+        h .numbers .catalog .layers,
         gr .sysCover,
-        part-sectors p gr (p .sys) (part-sys p gr),
+        part-sectors p gr (p .sys) (sys-ground gr .part),
         mul-comm (p .s) (length (p .sys)),
         mul-le-mul-right (p .layers) (gr .limits .keys-low),
       ),
@@ -86,24 +86,24 @@ module _ (image : List ℕ) (o : Opened) (n : ℕ) (w : Wanted) where
   abbrev m : ℕ
   m = pack (w .name .0) (w .name .1) (w .name .2)
 
-  pub layers-kept : w .moves ≡ false → LayersFor image o n w (o .layers)
-  layers-kept e = record { all = λ p f on num found. num .layers ∙ sym (ap (λ (b : Bool). cond b (layersFor p m (tableRemove n (p .files))) (p .layers)) e) }
+  pub layers-kept : w .moves ≡ false → LayersFor image o n w (o .catalog .layers)
+  layers-kept e = record { all = λ p f on num found. num .catalog .layers ∙ sym (ap (λ (b : Bool). cond b (layersFor (p .H) (sysOf p) m (tableRemove n (p .files))) (p .layers)) e) }
 
-  module _ (e : w .moves ≡ true) {k : ℕ} (key : k ≡ keyOf (o .keys) (pack (w .name .0) (w .name .1) (w .name .2))) where
-    moving : (p : Plain) {r : ℕ} → r ≡ layersFor p m (tableRemove n (p .files)) → r ≡ cond (w .moves) (layersFor p m (tableRemove n (p .files))) (p .layers)
-    moving p q = q ∙ sym (ap (λ (b : Bool). cond b (layersFor p m (tableRemove n (p .files))) (p .layers)) e)
+  module _ (e : w .moves ≡ true) {k : ℕ} (key : k ≡ keyOf (o .catalog .keys) (pack (w .name .0) (w .name .1) (w .name .2))) where
+    moving : (p : Plain) {r : ℕ} → r ≡ layersFor (p .H) (sysOf p) m (tableRemove n (p .files)) → r ≡ cond (w .moves) (layersFor (p .H) (sysOf p) m (tableRemove n (p .files))) (p .layers)
+    moving p q = q ∙ sym (ap (λ (b : Bool). cond b (layersFor (p .H) (sysOf p) m (tableRemove n (p .files))) (p .layers)) e)
 
     key-is : (p : Plain) → NumbersOf o p → k ≡ keyOf (p .H) m
-    key-is p num = key ∙ ap (λ (h : ℕ). keyOf h m) (num .keys)
+    key-is p num = key ∙ ap (λ (h : ℕ). keyOf h m) (num .catalog .keys)
 
-    module _ {own : ℕ} (old : own ≡ keyOf (o .keys) n) where
+    module _ {own : ℕ} (old : own ≡ keyOf (o .catalog .keys) n) where
       own-is : (p : Plain) → NumbersOf o p → own ≡ keyOf (p .H) n
-      own-is p num = old ∙ ap (λ (h : ℕ). keyOf h n) (num .keys)
+      own-is p num = old ∙ ap (λ (h : ℕ). keyOf h n) (num .catalog .keys)
 
-      pub layers-same : own ≡ k → LayersFor image o n w (o .layers)
+      pub layers-same : own ≡ k → LayersFor image o n w (o .catalog .layers)
       layers-same q = record {
         all = λ p f on num found. moving p
-            (num .layers ∙ layers-own p n m f found (sym (own-is p num) ∙ q ∙ key-is p num) (on .good .chains (keyOf (p .H) m)));
+            (num .catalog .layers ∙ layers-own p n m f found (sym (own-is p num) ∙ q ∙ key-is p num) (on .good .chains (keyOf (p .H) m)));
       }
 
       module _ (d : own ≢ k) where
@@ -111,19 +111,19 @@ module _ (image : List ℕ) (o : Opened) (n : ℕ) (w : Wanted) where
         differ p num q = d (own-is p num ∙ q ∙ sym (key-is p num))
 
         module _ {r : Found} (finds : FindsUnused image o k r) where
-          pub layers-found : {place : Place} → r ≡ At place → LayersFor image o n w (o .layers)
+          pub layers-found : {place : Place} → r ≡ At place → LayersFor image o n w (o .catalog .layers)
           layers-found {place} at = record {
             all = λ p f on num found.
                 let u = finds .all p (on-catalog on) num .at place at in
-                let room : placesTaken (p .H) (keyOf (p .H) m) (p .files) < 16 * p .layers = rw (key-is p num) at (u .room) in
-                moving p (num .layers ∙ layers-room p n m f found (differ p num) room);
+                let room : placesTaken (p .H) (keyOf (p .H) m) (sysOf p) (p .files) < 16 * p .layers = rw (key-is p num) at (u .room) in
+                moving p (num .catalog .layers ∙ layers-room p n m f found (differ p num) room);
           }
 
-          pub layers-more : r ≡ Nothing → LayersFor image o n w (o .layers + 1)
+          pub layers-more : r ≡ Nothing → LayersFor image o n w (o .catalog .layers + 1)
           layers-more at = record {
             all = λ p f on num found.
-                let full : 16 * p .layers ≤ placesTaken (p .H) (keyOf (p .H) m) (p .files) = rw (key-is p num) at (finds .all p (on-catalog on) num .nothing at) in
-                let z : o .layers + 1 ≡ suc (p .layers) = omega (arith, num .layers) in
+                let full : 16 * p .layers ≤ placesTaken (p .H) (keyOf (p .H) m) (sysOf p) (p .files) = rw (key-is p num) at (finds .all p (on-catalog on) num .nothing at) in
+                let z : o .catalog .layers + 1 ≡ suc (p .layers) = omega (arith, num .catalog .layers) in
                 moving p (z ∙ layers-full p n m f found (differ p num) full);
           }
 

@@ -11,28 +11,11 @@ use Rattle.types.specs.declared.Name.{Name}
 use Rattle.disc.specs.Numbers.{need, negative}
 use Rattle.disc.specs.Names.{pack, nameOf, named, legalName}
 use Rattle.disc.specs.Attributes.{legalAttributes, legalWith, permanent}
-use Rattle.disc.proofs.DecideLaws.{true≢false}
 use Rattle.names.specs.NameIs.{NameIs}
 use Rattle.plain.specs.Catalog.{keptOr, newName}
 use Rattle.rewrite.specs.declared.Standing.{Standing}
 use Rattle.rewrite.specs.declared.Wanted.{Wanted}
 use Rattle.change.specs.Asked.{allowedBy}
-
--- ---- a test of the code and what it stands for
-
-not-true : (b : Bool) → not b ≡ true → b ≡ false
-not-true true h = absurd (true≢false (sym h))
-not-true false h = refl
-
-not-false : (b : Bool) → not b ≡ false → b ≡ true
-not-false true h = refl
-not-false false h = absurd (true≢false h)
-
-pub was-false : {r t : Bool} → r ≡ t → not r ≡ true → t ≡ false
-was-false {r} e h = sym e ∙ not-true r h
-
-pub was-true : {r t : Bool} → r ≡ t → not r ≡ false → t ≡ true
-was-true {r} e h = sym e ∙ not-false r h
 
 -- ---- kept or lent
 

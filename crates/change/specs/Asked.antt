@@ -11,7 +11,7 @@ use Rattle.disc.specs.Attributes.{legalAttributes, legalWith, permanent}
 use Rattle.names.specs.NameIs.{NameIs}
 use Rattle.catalog.specs.declared.Place.{Place}
 use Rattle.plain.specs.Table.{tableFind, tableRemove, isSome}
-use Rattle.plain.specs.Unit.{Plain, File, entry}
+use Rattle.plain.specs.Unit.{Plain, File, entry, sysOf}
 use Rattle.plain.specs.Taking.{layersFor}
 use Rattle.plain.specs.Catalog.{newName, keptOr, attributesIn, sizeIn, slicesAfter, changeFile}
 use Rattle.refine.specs.OnDisc.{OnDisc}
@@ -64,7 +64,7 @@ allowedBy f w =
 -- has the file.
 pub record LayersFor (image : List ℕ) (o : Opened) (n : ℕ) (w : Wanted) (r : ℕ) : Type 0 where
   pub all : (p : Plain) (f : File) → OnDisc image p → NumbersOf o p → tableFind n (p .files) ≡ some f
-      → r ≡ cond (w .moves) (layersFor p (pack (w .name .0) (w .name .1) (w .name .2)) (tableRemove n (p .files))) (p .layers)
+      → r ≡ cond (w .moves) (layersFor (p .H) (sysOf p) (pack (w .name .0) (w .name .1) (w .name .2)) (tableRemove n (p .files))) (p .layers)
 
 -- "6. New name unused? 1010h"
 pub record TakenBy (image : List ℕ) (o : Opened) (w : Wanted) (r : Bool) : Type 0 where
@@ -76,7 +76,7 @@ pub record AskedAs (image : List ℕ) (o : Opened) (now : Standing) (w : Wanted)
   pub name : NameIs (w .name) m
   pub moves : w .moves ≡ not (eqb m n)
   pub slices : w .slices ≡ slicesAfter (p .s) (w .size) f
-  pub layered : layers ≡ cond (eqb m n) (p .layers) (layersFor p m (tableRemove n (p .files)))
+  pub layered : layers ≡ cond (eqb m n) (p .layers) (layersFor (p .H) (sysOf p) m (tableRemove n (p .files)))
 
 pub record CanJudge (image : List ℕ) (o : Opened) (now : Standing) (w : Wanted) (layers : ℕ) : Type 0 where
   pub unit : Plain

@@ -12,7 +12,7 @@ use Rattle.disc.specs.Names.{named}
 use Rattle.disc.specs.Entries.{placeCount, nameAt}
 use Rattle.catalog.specs.declared.Place.{Place}
 use Rattle.plain.specs.Table.{tableFind, tablePut, tableRemove}
-use Rattle.plain.specs.Unit.{Plain, File, withFiles}
+use Rattle.plain.specs.Unit.{Plain, File, withFiles, sysOf}
 use Rattle.plain.specs.Good.{Good}
 use Rattle.plain.specs.Taking.{layersFor}
 use Rattle.plain.specs.Catalog.{newName, keptOr, attributesIn, sizeIn, slicesAfter, changed, changeFile, stepChange}
@@ -47,7 +47,7 @@ unitAfter p n f lent = withFiles p (tablePut (newName n lent) (fileAfter p f len
 
 -- SYS's layers after the message: "the own name is none of the others".
 abbrev pub layersThen : Plain → ℕ → List ℕ → ℕ
-layersThen p n lent = cond (eqb (newName n lent) n) (p .layers) (layersFor p (newName n lent) (tableRemove n (p .files)))
+layersThen p n lent = cond (eqb (newName n lent) n) (p .layers) (layersFor (p .H) (sysOf p) (newName n lent) (tableRemove n (p .files)))
 
 -- ---- what is written
 

@@ -119,15 +119,15 @@ fn layers_for(image: &[u16], o: Opened, n: Name, w: Wanted) -> u16
     ensures { λ r. ⌜ LayersFor (now (image .entry)) o (pack (n .0) (n .1) (n .2)) w r ⌝ }
 {
     if !w.moves {
-        return o.layers;
+        return o.catalog.layers;
     }
-    let key = numbers::key(w.name, o.keys);
-    if numbers::key(n, o.keys) == key {
-        return o.layers;
+    let key = numbers::key(w.name, o.catalog.keys);
+    if numbers::key(n, o.catalog.keys) == key {
+        return o.catalog.layers;
     }
     match unit::find_unused(image, o, key) {
-        Found::At(_) => o.layers,
-        Found::Nothing => o.layers + 1,
+        Found::At(_) => o.catalog.layers,
+        Found::Nothing => o.catalog.layers + 1,
     }
 }
 
@@ -181,7 +181,7 @@ fn change_file(image: &mut [u16], o: Opened, n: Name, place: Place, lent: &[u16]
     if answer != 0 {
         return answer;
     }
-    if layers <= o.layers {
+    if layers <= o.catalog.layers {
         rewrite::rewrite(image, o, f, w, lent);
         return 0;
     }

@@ -3,46 +3,46 @@
 use mathlib.Core.Path.{_≡_, refl, sym, ap, _∙_, subst}
 use mathlib.Core.Bool.{Bool, true, false}
 use mathlib.Core.List.{List}
-use Prim.Native.Nat.{ℕ, _*_, _/_, _%_, _≤_, _<_}
+use Prim.Native.Nat.{ℕ, suc, _*_, _/_, _%_, _≤_, _<_}
 use native.Mathlib.Omega.{arith}
 use lib.Dec.{T, leb→le}
-use lib.ListN.{length, drop, replicate, length-drop}
+use lib.ListN.{length, replicate}
 use Rattle.types.specs.declared.Name.{Name}
 use Rattle.types.specs.declared.State.{State}
 use Rattle.disc.specs.Words.{Words}
 use Rattle.disc.specs.Names.{named, unitIn, keyOf}
 use Rattle.disc.specs.Entries.{placeCount}
-use Rattle.disc.proofs.WordLaws.{words-drop}
-use Rattle.plain.specs.Unit.{Plain}
+use Rattle.plain.specs.Unit.{Plain, sysOf}
 use Rattle.plain.specs.Questions.{Outcome, asks, known, done}
 use Rattle.plain.specs.Taking.{layersFor, placesTaken}
 use Rattle.plain.specs.Catalog.{optionalIn, attributesIn, sizeIn, tailIn, isRecord, newFile, stepCreate, stepSet}
 use Rattle.plain.specs.Good.{Good, WordsOf}
 use Rattle.plain.proofs.QuestionLaws.{asks-law}
-use Rattle.plain.proofs.UnitLaws.{entry-none}
-use Rattle.plain.proofs.WordLaws.{wordsOf-zeros, wordsOf-take}
+use Rattle.plain.proofs.UnitLaws.{entry-none, ordinary-files}
+use Rattle.plain.proofs.WordLaws.{wordsOf-zeros, optional-words, tail-words}
+use Rattle.plain.proofs.TakingLaws.{layers-grow}
+use Rattle.plain.proofs.GrowUnit.{grown-good}
+use Rattle.plain.proofs.CreateUnit.{Yes, sys-room, sys-few}
 use Rattle.sound.specs.Places.{Unused}
 use Rattle.refine.specs.Represents.{SameAreas, Represents}
 use Rattle.refine.specs.OnDisc.{OnDisc}
 use Rattle.refine.specs.Replies.{Replies, refused, written}
-use Rattle.refine.specs.Writes.{grownImage, createdImage}
-use Rattle.steps.proofs.CreateStep.{layers-grow}
-use Rattle.steps.proofs.PlaceLaws.{unused-room}
-use Rattle.steps.proofs.NewFileStep.{Yes, sys-room, sys-few, new-file-stays, new-file-grows}
-use Rattle.steps.proofs.GrowStep.{grown-good}
+use Rattle.refine.specs.Writes.{createdImage, grownSys}
+use Rattle.refine.proofs.PlaceCount.{unused-room}
+use Rattle.steps.proofs.NewFileStep.{new-file-stays, new-file-grows}
 use Rattle.steps.proofs.AreaSteps.{grow-areas, create-areas}
 use Rattle.steps.proofs.Whole.{on-disc, represents}
-use Rattle.unit.specs.Opened.{unitPlaces}
 use Rattle.steps.specs.Units.{layerSlices, grownUnit, newFileOf}
+use Rattle.unit.specs.Opened.{unitPlaces}
 use Rattle.create.specs.Create.{CreatedOn, Created, stays, grows, CreateStep, SetStep}
 
 -- ---- where the answer is 0, every question was answered yes
 
 module _ (p : Plain) (n size attributes : ℕ) (optional tail lent : List ℕ) where
   abbrev Zero : Outcome → Type 0
-  Zero x = x .answer .result ≡ 0 → Yes p (layersFor p n (p .files)) n size attributes
+  Zero x = x .answer .result ≡ 0 → Yes p (layersFor (p .H) (sysOf p) n (p .files)) n size attributes
 
-  pub new-file-yes : newFile p n size attributes optional tail lent .answer .result ≡ 0 → Yes p (layersFor p n (p .files)) n size attributes
+  pub new-file-yes : newFile p n size attributes optional tail lent .answer .result ≡ 0 → Yes p (layersFor (p .H) (sysOf p) n (p .files)) n size attributes
   unfolding newFile
   new-file-yes =
       asks-law Zero _ (λ z. absurd (omega arith)) (λ a. asks-law Zero _ (λ z. absurd (omega arith)) (λ b.
@@ -63,29 +63,29 @@ module _ (p : Plain) (n size attributes : ℕ) (optional tail lent : List ℕ) w
 
 module _ {image : List ℕ} {p : Plain} (on : OnDisc image p) (n size attributes : ℕ) (optional tail lent : List ℕ) {q : Plain}
     (is : newFile p n size attributes optional tail lent ≡ done q lent) where
-  yes : Yes p (layersFor p n (p .files)) n size attributes
+  yes : Yes p (layersFor (p .H) (sysOf p) n (p .files)) n size attributes
   yes = new-file-yes p n size attributes optional tail lent (ap (λ (x : Outcome). x .answer .result) is)
 
   unit-is : newFile p n size attributes optional tail lent .unit ≡ q
   unit-is = ap (λ (x : Outcome). x .unit) is
 
   -- the key has no unused place
-  full : 16 * p .layers ≤ placesTaken (p .H) (keyOf (p .H) n) (p .files)
+  full : 16 * p .layers ≤ placesTaken (p .H) (keyOf (p .H) n) (sysOf p) (p .files)
       → (t : ℕ) → t < placeCount (p .H) (p .layers) → t / 16 % p .H ≡ keyOf (p .H) n → Unused (unitPlaces image p) t → ⊥
-  full h t x k u = let r = unused-room on t n x u k in omega arith
+  full h t x k u = let r = unused-room p (on .good .names) (ordinary-files (on .good)) (on .layout .sys .places) (keyOf (p .H) n) t x k u in omega arith
 
   pub created-on : {after : List ℕ} → WordsOf 3 optional → WordsOf 6 tail → Created p image n size attributes optional tail after q → OnDisc after q
   created-on three six (stays c e) =
       subst (λ (i : List ℕ). OnDisc i q) (sym (c .written))
-      (subst (OnDisc (createdImage p image (c .place) n (newFileOf p size attributes optional tail))) unit-is
+      (subst (OnDisc (createdImage p (sysOf p) image (c .place) n (newFileOf p size attributes optional tail))) unit-is
       (new-file-stays on n size attributes optional tail lent yes three six (c .place) (c .first .inside) (c .first .unused) (c .first .key)))
   created-on {after} three six (grows g e) =
       let s = g .grows in
-      let j : List ℕ = grownImage p image (s .place) (layerSlices p) in
+      let j : List ℕ = grownSys p image (s .place) (layerSlices p) in
       let c : CreatedOn (grownUnit p) j n (newFileOf (grownUnit p) size attributes optional tail) after =
       subst (λ (i : List ℕ). CreatedOn (grownUnit p) i n (newFileOf (grownUnit p) size attributes optional tail) after) (s .written) (g .created) in
       subst (λ (i : List ℕ). OnDisc i q) (sym (c .written))
-      (subst (OnDisc (createdImage (grownUnit p) j (c .place) n (newFileOf (grownUnit p) size attributes optional tail))) unit-is
+      (subst (OnDisc (createdImage (grownUnit p) (sysOf (grownUnit p)) j (c .place) n (newFileOf (grownUnit p) size attributes optional tail))) unit-is
       (new-file-grows on n size attributes optional tail lent yes three six (full (g .full)) (s .place) (s .inside) (s .named) (c .place) (c .first .inside) (c .first .unused) (c .first .key)))
 
   -- the areas are of other names
@@ -93,8 +93,8 @@ module _ {image : List ℕ} {p : Plain} (on : OnDisc image p) (n size attributes
   created-areas {state} r (stays c e) =
       subst (SameAreas state) (sym e) (create-areas n (newFileOf p size attributes optional tail) (on .good) (entry-none p n (yes .vacant) .0) r)
   created-areas {state} r (grows g e) =
-      let y = subst (λ (l : ℕ). Yes p l n size attributes) (layers-grow p n (p .files) (g .full)) yes in
-      let good : Good (grownUnit p) = grown-good on (sys-room p n size attributes optional tail on y) (sys-few p n size attributes optional tail on y) in
+      let y = subst (λ (l : ℕ). Yes p l n size attributes) (layers-grow (p .H) (sysOf p) n (p .files) (g .full)) yes in
+      let good : Good (grownUnit p) = grown-good p (suc (p .layers)) (on .good) (sys-room y) (omega arith) (sys-few y) in
       subst (SameAreas state) (sym e) (create-areas n (newFileOf (grownUnit p) size attributes optional tail) good (entry-none p n (yes .vacant) .0) (grow-areas r))
 
 -- ---- the messages
@@ -153,8 +153,8 @@ module _ {image : List ℕ} {p : Plain} {name : Name} {lent : List ℕ} {after :
       let b = asks-through (isRecord lent) _ _ (λ q. omega arith) (ap (λ (y : Outcome). y .answer .result) (sym (a .1)) ∙ z) in
       let long : 16 ≤ length lent = leb→le 16 (length lent) (b .0) in
       record {
-        three = wordsOf-take 3 (drop 3 lent) (omega (arith, length-drop 3 lent)) (words-drop 3 lent words);
-        six = wordsOf-take 6 (drop 10 lent) (omega (arith, length-drop 10 lent)) (words-drop 10 lent words);
+        three = optional-words lent words long;
+        six = tail-words lent words long;
         is = a .1 ∙ b .1;
       }
 

@@ -4,47 +4,51 @@ use mathlib.Core.List.{List, []}
 use Prim.Native.Nat.{ℕ, _+_, _*_, _%_, _≤_, _<_}
 use native.Mathlib.Omega.{arith}
 use native.Mathlib.Nat.{mul-comm, mul-le-mul-left}
-use lib.ListN.{length, drop, length-drop}
+use lib.ListN.{length}
 use Rattle.disc.specs.Numbers.{need}
 use Rattle.disc.specs.Map.{onesInMap}
 use Rattle.disc.specs.Stretches.{sectorIn, fileFrom}
 use Rattle.disc.specs.Entries.{entryWords, indexSector}
+use Rattle.disc.specs.Catalog.{placeSector}
 use Rattle.disc.proofs.NumberLaws.{need-le}
 use Rattle.disc.proofs.SliceLaws.{sum-law, length-taken}
-use Rattle.disc.proofs.WordLaws.{words-drop}
 use Rattle.words.specs.Store.{store, zeroWords}
 use Rattle.words.proofs.StoreLaws.{length-store}
 use Rattle.index.specs.Block.{wholeIndex, jointSector}
 use Rattle.index.proofs.BlockLaws.{wholeIndex-none}
 use Rattle.catalog.specs.declared.Place.{Place}
 use Rattle.catalog.specs.Catalog.{placeStart}
-use Rattle.plain.specs.Unit.{Plain, File, M, held, fileEntry}
+use Rattle.plain.specs.Unit.{Plain, File, sysOf, M, held, fileEntry}
 use Rattle.plain.specs.Catalog.{optionalIn, tailIn}
 use Rattle.plain.specs.Good.{WordsOf}
 use Rattle.plain.proofs.AttributeLaws.{given-legal}
-use Rattle.plain.proofs.WordLaws.{wordsOf-take, length-zeroSectors}
+use Rattle.plain.proofs.WordLaws.{optional-words, tail-words, length-zeroSectors}
+use Rattle.plain.proofs.CreateUnit.{NewFile}
 use Rattle.refine.specs.OnDisc.{OnDisc}
-use Rattle.refine.specs.Writes.{countedFree, placeSector, storePlace, zeroedSectors, takenImage, createdImage}
+use Rattle.refine.specs.Writes.{countedFree, storePlace, zeroedSectors, takenImage, createdImage}
 use Rattle.refine.proofs.Ground.{Ground, ground, top}
-use Rattle.steps.proofs.CreateStep.{NewFile, create-on}
+use Rattle.steps.proofs.WriteLaws.{zeroed-size}
+use Rattle.steps.proofs.CreateStep.{create-on}
+use Rattle.steps.specs.Units.{newFileOf}
 use Rattle.unit.specs.declared.Opened.{Opened}
 use Rattle.unit.specs.Opened.{NumbersOf}
 use Rattle.unit.proofs.OpenLaws.{on-catalog}
 use Rattle.unit.proofs.FindLaws.{place-room}
-use Rattle.writes.specs.Writes.{FileBlock, CanZeroFrom, CanZero, Zeroed, CanLengthenFrom, CanLengthen, Lengthened}
-use Rattle.writes.proofs.WriteLaws.{length-zeroed, length-taken-image, longer-file}
-use Rattle.writes.proofs.FileLaws.{unit-file, index-told}
+use Rattle.slices.specs.FileBlock.{FileBlock}
+use Rattle.slices.specs.Take.{CanLengthenFrom, CanLengthen, Lengthened}
+use Rattle.slices.specs.Zero.{CanZeroFrom, CanZero, Zeroed}
+use Rattle.slices.proofs.BlockLaws.{unit-file, index-told}
+use Rattle.slices.proofs.StoreLaws.{length-taken-image, longer-file}
 use Rattle.grow.proofs.BlockLaws.{counted-word}
-use Rattle.steps.specs.Units.{newFileOf}
 use Rattle.create.specs.Create.{unitWith, CreatedOn, AskedFrom, CanWriteFrom}
 use Rattle.create.proofs.LegalLaws.{Legal, legal-all}
 
 module _ {image : List ℕ} {o : Opened} {n size attributes : ℕ} {words : List ℕ} {p : Plain} (asked : AskedFrom image o n size attributes words p) where
   pub three : WordsOf 3 (optionalIn words)
-  three = wordsOf-take 3 (drop 3 words) (omega (arith, length-drop 3 words, asked .long)) (words-drop 3 words (asked .lent))
+  three = optional-words words (asked .lent) (asked .long)
 
   pub six : WordsOf 6 (tailIn words)
-  six = wordsOf-take 6 (drop 10 words) (omega (arith, length-drop 10 words, asked .long)) (words-drop 10 words (asked .lent))
+  six = tail-words words (asked .lent) (asked .long)
 
   pub legal : Legal n size attributes
   legal = legal-all n size attributes (asked .legal)
@@ -91,7 +95,7 @@ module _ {image : List ℕ} {o : Opened} {place : Place} {n size attributes : �
         few = can .few;
       }
 
-  on-created : OnDisc (createdImage p image t n f) (unitWith p n size attributes (optionalIn words) (tailIn words))
+  on-created : OnDisc (createdImage p (sysOf p) image t n f) (unitWith p n size attributes (optionalIn words) (tailIn words))
   on-created = let a = can .place-for .at in create-on (asked .on) new t (a .is .inside) (a .first .unused) (a .first .key)
 
   length-slices : length (f .slices) ≡ count
@@ -165,7 +169,7 @@ module _ {image : List ℕ} {o : Opened} {place : Place} {n size attributes : �
 
       length-zeroed-image : length zeroed ≡ length image
       length-zeroed-image =
-          ap length zeroed-is ∙ length-zeroed i₂ (p .F) (p .s) (f .slices) fileFrom (length (f .sectors))
+          ap length zeroed-is ∙ zeroed-size i₂ (p .F) (p .s) (f .slices) fileFrom (length (f .sectors))
           ∙ length-taken-image image (sectorIn (p .F) (p .s) (f .slices) 0) (p .F) (p .s) [] (f .slices)
 
       pub can-enter : (16 ≤ length words) × (placeStart place + 16 ≤ length zeroed)
@@ -175,15 +179,15 @@ module _ {image : List ℕ} {o : Opened} {place : Place} {n size attributes : �
 
       module _ {entered : List ℕ} {sector : ℕ} (first : sector ≡ jointSector block 0 0)
           (stored : entered ≡ store zeroed (placeStart place) (entryWords n (optionalIn words) attributes size sector (o .slice * k) (tailIn words))) where
-        entered-is : entered ≡ storePlace p i₃ t (fileEntry (p .F) (p .s) n f)
+        entered-is : entered ≡ storePlace p (sysOf p) i₃ t (fileEntry (p .F) (p .s) n f)
         entered-is =
             let is = can .place-for .at .is in
-            let start : placeStart place ≡ placeSector p t * 256 + t % 16 * 16 = ap₂ (λ (q i : ℕ). q * 256 + i * 16) (is .sector) (is .slot) in
+            let start : placeStart place ≡ placeSector (p .F) (p .s) (sysOf p) t * 256 + t % 16 * 16 = ap₂ (λ (q i : ℕ). q * 256 + i * 16) (is .sector) (is .slot) in
             let index : sector ≡ indexSector (p .F) (p .s) count (f .slices) = first ∙ index-told file ∙ ap (λ (c : ℕ). indexSector (p .F) (p .s) c (f .slices)) length-slices in
             let reserved : o .slice * k ≡ p .s * count = ap₂ (λ (a b : ℕ). a * b) (num .slice) (count-is q) in
             stored
             ∙ ap₂ (λ (l : List ℕ) (i : ℕ). store l i (entryWords n (optionalIn words) attributes size sector (o .slice * k) (tailIn words))) zeroed-is start
-            ∙ ap₂ (λ (a b : ℕ). store i₃ (placeSector p t * 256 + t % 16 * 16) (entryWords n (optionalIn words) attributes size a b (tailIn words))) index reserved
+            ∙ ap₂ (λ (a b : ℕ). store i₃ (placeSector (p .F) (p .s) (sysOf p) t * 256 + t % 16 * 16) (entryWords n (optionalIn words) attributes size a b (tailIn words))) index reserved
 
         pub can-count : (2560 ≤ length entered) × (o .slice * onesInMap entered < 65536)
         unfolding createdImage

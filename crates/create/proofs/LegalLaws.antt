@@ -7,20 +7,12 @@ use lib.Dec.{T}
 use Rattle.disc.specs.Numbers.{negative}
 use Rattle.disc.specs.Names.{legalName}
 use Rattle.disc.specs.Attributes.{legalAttributes, givesEntryOnly}
-use Rattle.disc.proofs.DecideLaws.{true≢false}
+use Rattle.disc.proofs.DecideLaws.{true≢false, was-true, was-false}
 use Rattle.plain.specs.Unit.{Plain}
 use Rattle.plain.specs.Questions.{Outcome, asks, replies}
 use Rattle.plain.specs.Catalog.{newFile}
 use Rattle.plain.proofs.QuestionLaws.{and-left, and-right}
 use Rattle.create.specs.Create.{legalNew}
-
-pub off : (b : Bool) → not b ≡ true → b ≡ false
-off true e = sym e
-off false e = refl
-
-pub on : (b : Bool) → not b ≡ false → b ≡ true
-on true e = refl
-on false e = sym e
 
 and-no : (x y : Bool) → x ≡ false → false ≡ x && y
 and-no x y e = sym (ap (λ (b : Bool). b && y) e)
@@ -37,12 +29,12 @@ module _ (n size attributes : ℕ) where
   module _ {a : Bool} (name : a ≡ legalName n) where
     pub name-illegal : not a ≡ true → false ≡ legalNew n size attributes
     unfolding legalNew
-    name-illegal h = and-no (legalName n) (not (negative size) && rest) (sym name ∙ off a h)
+    name-illegal h = and-no (legalName n) (not (negative size) && rest) (was-false name h)
 
     module _ (legal : not a ≡ false) where
       after-name : {r : Bool} → r ≡ not (negative size) && rest → r ≡ legalNew n size attributes
       unfolding legalNew
-      after-name {r} = and-yes (legalName n) (not (negative size) && rest) r (sym name ∙ on a legal)
+      after-name {r} = and-yes (legalName n) (not (negative size) && rest) r (was-true name legal)
 
       module _ {b : Bool} (short : b ≡ negative size) where
         pub size-illegal : b ≡ true → false ≡ legalNew n size attributes
@@ -54,10 +46,10 @@ module _ (n size attributes : ℕ) where
 
           module _ {c : Bool} (allowed : c ≡ legalAttributes attributes) where
             pub attributes-illegal : not c ≡ true → false ≡ legalNew n size attributes
-            attributes-illegal h = after-size (and-no (legalAttributes attributes) (not (givesEntryOnly attributes)) (sym allowed ∙ off c h))
+            attributes-illegal h = after-size (and-no (legalAttributes attributes) (not (givesEntryOnly attributes)) (was-false allowed h))
 
             pub bit-decides : {d : Bool} → not c ≡ false → d ≡ givesEntryOnly attributes → not d ≡ legalNew n size attributes
-            bit-decides h q = after-size (and-yes (legalAttributes attributes) (not (givesEntryOnly attributes)) _ (sym allowed ∙ on c h) (ap not q))
+            bit-decides h q = after-size (and-yes (legalAttributes attributes) (not (givesEntryOnly attributes)) _ (was-true allowed h) (ap not q))
 
   -- ---- the questions
 

@@ -12,22 +12,23 @@ use borrow.Author.Tests.{le-leb, lt-leb}
 use Rattle.types.specs.declared.Name.{Name}
 use Rattle.disc.specs.Words.{Words}
 use Rattle.disc.specs.Names.{keyOf, named, unitIn}
+use Rattle.disc.proofs.DecideLaws.{was-true, was-false}
 use Rattle.catalog.specs.declared.Place.{Place}
 use Rattle.catalog.specs.declared.Found.{Found}
 use Rattle.catalog.specs.declared.Found.the-variants.{At, Nothing}
-use Rattle.plain.specs.Unit.{Plain, entry}
+use Rattle.plain.specs.Unit.{Plain, entry, sysOf}
 use Rattle.plain.specs.Questions.{Outcome, asks, replies}
 use Rattle.plain.specs.Catalog.{optionalIn, attributesIn, sizeIn, tailIn, newFile}
+use Rattle.plain.proofs.QuestionLaws.{asks-yes, asks-no}
 use Rattle.refine.specs.OnDisc.{OnDisc}
 use Rattle.refine.specs.Replies.{Replies, refused}
 use Rattle.unit.specs.declared.Opened.{Opened}
 use Rattle.unit.specs.Opened.{NumbersOf, OpenedOn, MeantOn}
 use Rattle.unit.specs.Find.{UnusedFound, FindsName, FindsUnused}
 use Rattle.unit.proofs.OpenLaws.{on-catalog}
-use Rattle.unit.proofs.AskLaws.{asks-yes, asks-no}
 use Rattle.unit.proofs.MeantLaws.{meant-on-known}
 use Rattle.create.specs.Create.{legalNew, NewFileStep, NewFileMade, Creates, Sets, AskedFrom, CanPlaceFrom, CanGrowForFrom}
-use Rattle.create.proofs.LegalLaws.{Legal, legal-all, on, off, not-legal}
+use Rattle.create.proofs.LegalLaws.{Legal, legal-all, not-legal}
 
 -- ---- a new file, up to its place
 
@@ -35,13 +36,13 @@ module _ (image : List ℕ) (o : Opened) (n size attributes : ℕ) {b : Bool} (j
   pub refused-legal : (words : List ℕ) → not b ≡ true → NewFileMade image o n size attributes words image 0x1200
   refused-legal words h = record {
     all = λ p on-disc num. record {
-      step = λ lent. refused (λ z. omega arith) (not-legal p n size attributes (optionalIn words) (tailIn words) lent (sym judged ∙ off b h)) refl;
+      step = λ lent. refused (λ z. omega arith) (not-legal p n size attributes (optionalIn words) (tailIn words) lent (was-false judged h)) refl;
     };
   }
 
   module _ (yes : not b ≡ false) {found : Found} (finds : FindsName image o n found) where
     legal : T (legalNew n size attributes)
-    legal = subst T (sym (sym judged ∙ on b yes)) tt
+    legal = subst T (sym (was-true judged yes)) tt
 
     -- "6. New name unused? 1010h"
     name-used : {p : Plain} (words lent : List ℕ) {w : List ℕ} → entry p n ≡ some w
@@ -69,10 +70,10 @@ module _ (image : List ℕ) (o : Opened) (n size attributes : ℕ) {b : Bool} (j
         lent = lent;
       }
 
-      module _ {key : ℕ} {place-found : Found} (q : key ≡ keyOf (o .keys) n) (unused : FindsUnused image o key place-found) where
-        unused-own : {p : Plain} → OnDisc image p → NumbersOf o p → UnusedFound image p (keyOf (p .H) n) place-found
+      module _ {key : ℕ} {place-found : Found} (q : key ≡ keyOf (o .catalog .keys) n) (unused : FindsUnused image o key place-found) where
+        unused-own : {p : Plain} → OnDisc image p → NumbersOf o p → UnusedFound image p (sysOf p) (p .files) (keyOf (p .H) n) place-found
         unused-own {p} on-disc num =
-            subst (λ (x : ℕ). UnusedFound image p x place-found) (q ∙ ap (λ (h : ℕ). keyOf h n) (num .keys)) (unused .all p (on-catalog on-disc) num)
+            subst (λ (x : ℕ). UnusedFound image p (sysOf p) (p .files) x place-found) (q ∙ ap (λ (h : ℕ). keyOf h n) (num .catalog .keys)) (unused .all p (on-catalog on-disc) num)
 
         pub place-from : {p : Plain} {place : Place} → place-found ≡ At place → OnDisc image p → NumbersOf o p → CanPlaceFrom image o place n size attributes words p
         place-from {place = place} e on-disc num = record { asked = asked on-disc num; at = unused-own on-disc num .at place e }
@@ -81,10 +82,10 @@ module _ (image : List ℕ) (o : Opened) (n size attributes : ℕ) {b : Bool} (j
         grow-for e on-disc num = record { asked = asked on-disc num; full = unused-own on-disc num .nothing e }
 
 -- a key is one of the unit's
-pub key-below : {image : List ℕ} {o : Opened} {key : ℕ} (n : ℕ) → OpenedOn image o → key ≡ keyOf (o .keys) n → key < o .keys
+pub key-below : {image : List ℕ} {o : Opened} {key : ℕ} (n : ℕ) → OpenedOn image o → key ≡ keyOf (o .catalog .keys) n → key < o .catalog .keys
 key-below {o = o} n opened q =
-    let some-key : 1 ≤ o .keys = omega (arith, opened .numbers .keys, opened .on .good .limits .keys-low) in
-    let small : keyOf (o .keys) n < o .keys = mod-lt _ some-key in
+    let some-key : 1 ≤ o .catalog .keys = omega (arith, opened .numbers .catalog .keys, opened .on .good .limits .keys-low) in
+    let small : keyOf (o .catalog .keys) n < o .catalog .keys = mod-lt _ some-key in
     omega (arith, q)
 
 -- ---- the messages

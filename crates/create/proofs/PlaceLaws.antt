@@ -18,34 +18,34 @@ use Rattle.catalog.specs.declared.Place.{Place}
 use Rattle.catalog.specs.declared.Found.{Found}
 use Rattle.catalog.specs.declared.Found.the-variants.{At, Nothing}
 use Rattle.plain.specs.Table.{Table, tablePut, isSome}
-use Rattle.plain.specs.Unit.{Plain, File, entry}
+use Rattle.plain.specs.Unit.{Plain, File, entry, sysOf}
 use Rattle.plain.specs.Questions.{Outcome, replies, done}
 use Rattle.plain.specs.Taking.{Taking, taking, layersFor, enough}
 use Rattle.plain.specs.Catalog.{optionalIn, tailIn, newFile}
+use Rattle.plain.proofs.TakingLaws.{layers-stay, layers-grow}
+use Rattle.plain.proofs.CreateUnit.{NewFile, unitAfter, Yes, newFile-done, sys-room, sys-few, unit-grown, new-grown, unit-stays, new-stays}
+use Rattle.plain.proofs.QuestionLaws.{asks-yes}
 use Rattle.refine.specs.OnDisc.{OnDisc}
 use Rattle.refine.specs.Replies.{refused, written}
-use Rattle.refine.proofs.Ground.{Ground, ground, part-sys}
+use Rattle.refine.proofs.Ground.{Ground, ground, sys-ground}
 use Rattle.steps.proofs.WriteLaws.{part-sectors}
-use Rattle.steps.proofs.CreateStep.{NewFile, layers-stay, layers-grow}
-use Rattle.steps.proofs.NewFileStep.{unitAfter, Yes, newFile-done, unit-stays, new-stays, unit-grows, sys-room, sys-few, new-grows}
+use Rattle.steps.specs.Units.{grownUnit, fileWith, newFileOf}
 use Rattle.unit.specs.declared.Opened.{Opened}
 use Rattle.unit.specs.Opened.{NumbersOf, Searchable}
 use Rattle.unit.specs.Find.{UnusedFound, FindsUnused}
 use Rattle.unit.proofs.OpenLaws.{on-catalog}
-use Rattle.unit.proofs.AskLaws.{asks-yes}
 use Rattle.grow.specs.Room.{AskedOf, RoomFor}
 use Rattle.grow.specs.Grow.{CanGrowFrom, GrownFrom, Grows}
 use Rattle.grow.proofs.RoomLaws.{enough-yes, enough-no}
 use Rattle.grow.proofs.GrowLaws.{grown-on}
-use Rattle.steps.specs.Units.{grownUnit, fileWith, newFileOf}
 use Rattle.create.specs.Create.{unitWith, stays, grows, NewFileStep, AskedFrom, CanPlaceFrom, CanGrowForFrom, CanWriteFrom, FileWritten}
 use Rattle.create.proofs.FileLaws.{three, six, legal}
 
 -- Questions 7 and 8, with SYS at l layers.
 abbrev roomOutcome : Plain → ℕ → ℕ → ℕ → ℕ → List ℕ → List ℕ → List ℕ → Outcome
 roomOutcome p l n size attributes optional tail lent =
-    let t : Taking = taking p l 0 (need (p .s) size) in
-    enough p t (t .fileNew) lent (tablePut n (fileWith p size attributes optional tail (t .fileNew)) (p .files))
+    let t : Taking = taking p (sysOf p) l 0 (need (p .s) size) in
+    enough p (sysOf p) t (t .fileNew) lent (tablePut n (fileWith p size attributes optional tail (t .fileNew)) (p .files))
 
 module _ {image : List ℕ} {o : Opened} {n size attributes : ℕ} {words : List ℕ} {p : Plain} (asked : AskedFrom image o n size attributes words p) where
   abbrev optional : List ℕ
@@ -67,7 +67,7 @@ module _ {image : List ℕ} {o : Opened} {n size attributes : ℕ} {words : List
     part = λ k. omega arith;
   }
 
-  module _ {l : ℕ} (layers : layersFor p n (p .files) ≡ l) where
+  module _ {l : ℕ} (layers : layersFor (p .H) (sysOf p) n (p .files) ≡ l) where
     -- the questions before are answered yes
     rest-is : (lent : List ℕ) → newFile p n size attributes optional tail lent ≡ roomOutcome p l n size attributes optional tail lent
     unfolding newFile
@@ -86,12 +86,12 @@ module _ {image : List ℕ} {o : Opened} {n size attributes : ℕ} {words : List
       room-word lent =
           let c : k ≡ need (p .s) size = count ∙ ap (λ (s : ℕ). need s size) (asked .numbers .slice) in
           let own : RoomFor image o l none (need (p .s) size) r = rw (is, c) at answer in
-          own .all p [] (asked-of e) lent (tablePut n (fileWith p size attributes optional tail (taking p l 0 (need (p .s) size) .fileNew)) (p .files))
+          own .all p [] (asked-of e) lent (tablePut n (fileWith p size attributes optional tail (taking p (sysOf p) l 0 (need (p .s) size) .fileNew)) (p .files))
 
       room-refused : (r ≡ 0 → ⊥) → NewFileStep p image n size attributes optional tail image r
       room-refused ne = record {
         step = λ lent.
-            let t : Taking = taking p l 0 (need (p .s) size) in
+            let t : Taking = taking p (sysOf p) l 0 (need (p .s) size) in
             let files : Table File = tablePut n (fileWith p size attributes optional tail (t .fileNew)) (p .files) in
             refused ne
             (rest-is lent ∙ enough-no p t (t .fileNew) lent files (λ z. ne (room-word lent ∙ z)) ∙ ap (λ (w : ℕ). replies p w lent) (sym (room-word lent)))
@@ -100,7 +100,7 @@ module _ {image : List ℕ} {o : Opened} {n size attributes : ℕ} {words : List
 
       room-yes : r ≡ 0 → Yes p l n size attributes
       room-yes z =
-          let t : Taking = taking p l 0 (need (p .s) size) in
+          let t : Taking = taking p (sysOf p) l 0 (need (p .s) size) in
           let files : Table File = tablePut n (fileWith p size attributes optional tail (t .fileNew)) (p .files) in
           let en = enough-yes p t (t .fileNew) [] files (sym (room-word []) ∙ z) in
           let ok = legal asked in
@@ -119,16 +119,16 @@ module _ {image : List ℕ} {o : Opened} {n size attributes : ℕ} {words : List
 
 module _ {image : List ℕ} {o : Opened} {place : Place} {n size attributes : ℕ} {words : List ℕ} {p : Plain}
     (can : CanPlaceFrom image o place n size attributes words p) where
-  same-layers : layersFor p n (p .files) ≡ p .layers
-  same-layers = layers-stay p n (p .files) (can .at .room)
+  same-layers : layersFor (p .H) (sysOf p) n (p .files) ≡ p .layers
+  same-layers = layers-stay (p .H) (sysOf p) n (p .files) (can .at .room)
 
-  module _ {none : List ℕ} {k r : ℕ} (e : none ≡ zeroWords 256) (count : k ≡ need (o .slice) size) (answer : RoomFor image o (o .layers) none k r) where
+  module _ {none : List ℕ} {k r : ℕ} (e : none ≡ zeroWords 256) (count : k ≡ need (o .slice) size) (answer : RoomFor image o (o .catalog .layers) none k r) where
     pub place-refused : (r ≡ 0 → ⊥) → NewFileStep p image n size attributes (optionalIn words) (tailIn words) image r
-    place-refused = room-refused (can .asked) same-layers e (can .asked .numbers .layers) count answer
+    place-refused = room-refused (can .asked) same-layers e (can .asked .numbers .catalog .layers) count answer
 
     module _ (z : r ≡ 0) where
       yes : Yes p (p .layers) n size attributes
-      yes = room-yes (can .asked) same-layers e (can .asked .numbers .layers) count answer z
+      yes = room-yes (can .asked) same-layers e (can .asked .numbers .catalog .layers) count answer z
 
       pub place-write : CanWriteFrom image o place n size attributes words p
       place-write =
@@ -149,28 +149,28 @@ module _ {image : List ℕ} {o : Opened} {n size attributes : ℕ} {words : List
   num : NumbersOf o p
   num = can .asked .numbers
 
-  more-layers : layersFor p n (p .files) ≡ suc (p .layers)
-  more-layers = layers-grow p n (p .files) (can .full)
+  more-layers : layersFor (p .H) (sysOf p) n (p .files) ≡ suc (p .layers)
+  more-layers = layers-grow (p .H) (sysOf p) n (p .files) (can .full)
 
-  next : o .layers + 1 ≡ suc (p .layers)
-  next = ap (λ (l : ℕ). l + 1) (num .layers) ∙ add-one (p .layers)
+  next : o .catalog .layers + 1 ≡ suc (p .layers)
+  next = ap (λ (l : ℕ). l + 1) (num .catalog .layers) ∙ add-one (p .layers)
 
-  pub layers-fit : o .layers + 1 < 65536
+  pub layers-fit : o .catalog .layers + 1 < 65536
   layers-fit =
       let gr : Ground p = ground p (can .asked .on .good) in
       omega (
         arith,
-        num .layers,
+        num .catalog .layers,
         mul-le-mul-right (p .layers) (can .asked .on .good .limits .keys-low),
         gr .sysCover,
         mul-comm (p .s) (length (p .sys)),
-        part-sectors p gr (p .sys) (part-sys p gr),
+        part-sectors p gr (p .sys) (sys-ground gr .part),
       )
 
-  pub some-key : 1 ≤ o .keys
-  some-key = omega (arith, num .keys, can .asked .on .good .limits .keys-low)
+  pub some-key : 1 ≤ o .catalog .keys
+  some-key = omega (arith, num .catalog .keys, can .asked .on .good .limits .keys-low)
 
-  module _ {none : List ℕ} {k r : ℕ} (e : none ≡ zeroWords 256) (count : k ≡ need (o .slice) size) (answer : RoomFor image o (o .layers + 1) none k r) where
+  module _ {none : List ℕ} {k r : ℕ} (e : none ≡ zeroWords 256) (count : k ≡ need (o .slice) size) (answer : RoomFor image o (o .catalog .layers + 1) none k r) where
     pub grow-refused : (r ≡ 0 → ⊥) → NewFileStep p image n size attributes (optionalIn words) (tailIn words) image r
     grow-refused = room-refused (can .asked) more-layers e next count answer
 
@@ -182,12 +182,12 @@ module _ {image : List ℕ} {o : Opened} {n size attributes : ℕ} {words : List
       can-grow = record {
         on = can .asked .on;
         numbers = num;
-        room = sys-room p n size attributes (optionalIn words) (tailIn words) (can .asked .on) yes-grown;
-        few = sys-few p n size attributes (optionalIn words) (tailIn words) (can .asked .on) yes-grown;
+        room = sys-room yes-grown;
+        few = sys-few yes-grown;
       }
 
       new : NewFile (grownUnit p) n (newFileOf (grownUnit p) size attributes (optionalIn words) (tailIn words))
-      new = new-grows p n size attributes (optionalIn words) (tailIn words) (can .asked .on) yes-grown (three (can .asked)) (six (can .asked))
+      new = new-grown p (suc (p .layers)) n size attributes (optionalIn words) (tailIn words) (can .asked .on .good) yes-grown (three (can .asked)) (six (can .asked))
 
       module _ {middle : List ℕ} {o′ : Opened} (g : Grows image o middle o′) where
         grown : GrownFrom image p middle × NumbersOf o′ (grownUnit p)
@@ -196,15 +196,15 @@ module _ {image : List ℕ} {o : Opened} {n size attributes : ℕ} {words : List
         on′ : OnDisc middle (grownUnit p)
         on′ = grown-on can-grow (grown .0)
 
-        pub grown-search : {key : ℕ} → key ≡ keyOf (o .keys) n → Searchable middle o′ × (key < o′ .keys)
+        pub grown-search : {key : ℕ} → key ≡ keyOf (o .catalog .keys) n → Searchable middle o′ × (key < o′ .catalog .keys)
         grown-search q =
-            let small : keyOf (o .keys) n < o .keys = mod-lt _ some-key in
-            (record { unit = grownUnit p; on = on-catalog on′; numbers = grown .1 }, omega (arith, q, grown .1 .keys, num .keys))
+            let small : keyOf (o .catalog .keys) n < o .catalog .keys = mod-lt _ some-key in
+            (record { unit = grownUnit p; on = on-catalog on′; numbers = grown .1 }, omega (arith, q, grown .1 .catalog .keys, num .catalog .keys))
 
-        module _ {key : ℕ} {found : Found} (q : key ≡ keyOf (o .keys) n) (finds : FindsUnused middle o′ key found) where
-          unused : UnusedFound middle (grownUnit p) (keyOf (p .H) n) found
+        module _ {key : ℕ} {found : Found} (q : key ≡ keyOf (o .catalog .keys) n) (finds : FindsUnused middle o′ key found) where
+          unused : UnusedFound middle (grownUnit p) (sysOf (grownUnit p)) ((grownUnit p) .files) (keyOf (p .H) n) found
           unused =
-              subst (λ (x : ℕ). UnusedFound middle (grownUnit p) x found) (q ∙ ap (λ (h : ℕ). keyOf h n) (num .keys)) (finds .all (grownUnit p) (on-catalog on′) (grown .1))
+              subst (λ (x : ℕ). UnusedFound middle (grownUnit p) (sysOf (grownUnit p)) ((grownUnit p) .files) x found) (q ∙ ap (λ (h : ℕ). keyOf h n) (num .catalog .keys)) (finds .all (grownUnit p) (on-catalog on′) (grown .1))
 
           -- the new layer has unused places
           pub never-full : found ≡ Nothing → ⊥
@@ -232,6 +232,6 @@ module _ {image : List ℕ} {o : Opened} {n size attributes : ℕ} {words : List
             grown-done w = record {
               step = λ lent.
                   written refl (unitWith (grownUnit p) n size attributes (optionalIn words) (tailIn words))
-                  (done-at (can .asked) more-layers yes-grown lent ∙ ap (λ (u : Plain). done u lent) (unit-grows p n size attributes (optionalIn words) (tailIn words)))
+                  (done-at (can .asked) more-layers yes-grown lent ∙ ap (λ (u : Plain). done u lent) (unit-grown p (suc (p .layers)) n size attributes (optionalIn words) (tailIn words)))
                   (grows (record { full = can .full; grown = middle; grows = grown .0; created = w .all (grownUnit p) grown-write }) refl);
             }

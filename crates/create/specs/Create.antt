@@ -15,7 +15,7 @@ use Rattle.disc.specs.Slices.{taken}
 use Rattle.disc.specs.Stretches.{stretchCount}
 use Rattle.catalog.specs.declared.Place.{Place}
 use Rattle.plain.specs.Table.{tablePut}
-use Rattle.plain.specs.Unit.{Plain, File, freeSlices, entry, withFiles}
+use Rattle.plain.specs.Unit.{Plain, File, sysOf, freeSlices, entry, withFiles}
 use Rattle.plain.specs.Taking.{placesTaken}
 use Rattle.plain.specs.Catalog.{optionalIn, attributesIn, sizeIn, tailIn, newFile, stepCreate, stepSet}
 use Rattle.refine.specs.OnDisc.{OnDisc}
@@ -40,12 +40,12 @@ unitWith p n size attributes optional tail = withFiles p (tablePut n (newFileOf 
 -- The file f is entered under name n: "an entry takes the first unused place" of its key.
 pub record CreatedOn (p : Plain) (image : List ℕ) (n : ℕ) (f : File) (after : List ℕ) : Type 0 where
   pub place : ℕ
-  pub first : FirstUnused image p (keyOf (p .H) n) place
-  pub written : after ≡ createdImage p image place n f
+  pub first : FirstUnused image p (sysOf p) (keyOf (p .H) n) place
+  pub written : after ≡ createdImage p (sysOf p) image place n f
 
 -- "With all 16 times L places taken by other names, SYS first grows": then the file is that of the grown unit.
 pub record CreatedGrown (p : Plain) (image : List ℕ) (n size attributes : ℕ) (optional tail after : List ℕ) : Type 0 where
-  pub full : 16 * p .layers ≤ placesTaken (p .H) (keyOf (p .H) n) (p .files)
+  pub full : 16 * p .layers ≤ placesTaken (p .H) (keyOf (p .H) n) (sysOf p) (p .files)
   pub grown : List ℕ
   pub grows : GrownFrom image p grown
   pub created : CreatedOn (grownUnit p) grown n (newFileOf (grownUnit p) size attributes optional tail) after
@@ -96,11 +96,11 @@ pub record AskedFrom (image : List ℕ) (o : Opened) (n size attributes : ℕ) (
 -- The key has an unused place, or none.
 pub record CanPlaceFrom (image : List ℕ) (o : Opened) (place : Place) (n size attributes : ℕ) (words : List ℕ) (p : Plain) : Type 0 where
   pub asked : AskedFrom image o n size attributes words p
-  pub at : UnusedAt image p (keyOf (p .H) n) place
+  pub at : UnusedAt image p (sysOf p) (p .files) (keyOf (p .H) n) place
 
 pub record CanGrowForFrom (image : List ℕ) (o : Opened) (n size attributes : ℕ) (words : List ℕ) (p : Plain) : Type 0 where
   pub asked : AskedFrom image o n size attributes words p
-  pub full : 16 * p .layers ≤ placesTaken (p .H) (keyOf (p .H) n) (p .files)
+  pub full : 16 * p .layers ≤ placesTaken (p .H) (keyOf (p .H) n) (sysOf p) (p .files)
 
 -- Questions 7 and 8 too are answered yes, and the key has an unused place.
 pub record CanWriteFrom (image : List ℕ) (o : Opened) (place : Place) (n size attributes : ℕ) (words : List ℕ) (p : Plain) : Type 0 where

@@ -83,8 +83,8 @@ fn write_file(
 {
     let count = numbers::need(o.slice, size);
     let none = index::empty_block();
-    let block = writes::take_more(image, none, o.first, o.slice, o.slices, count);
-    writes::zero_sectors(image, block, 1, size);
+    let block = slices::take_more(image, none, o.first, o.slice, o.slices, count);
+    slices::zero_sectors(image, block, 1, size);
     let sector = index::block_sector(block, 0, Block(0));
     enter(
         image,
@@ -96,7 +96,7 @@ fn write_file(
         o.slice * count,
         words,
     );
-    writes::count_free(image, o.slice);
+    slices::count_free(image, o.slice);
 }
 
 // The file in an unused place, once questions 7 and 8 are answered.
@@ -113,7 +113,13 @@ fn create_in(
     ensures { λ r. ⌜ Placed (now (image .entry)) o place (pack (name .0) (name .1) (name .2)) size attributes (now (words .entry)) (now (image .exit)) r ⌝ }
 {
     let none = index::empty_block();
-    let room = grow::room(image, o, o.layers, none, numbers::need(o.slice, size));
+    let room = grow::room(
+        image,
+        o,
+        o.catalog.layers,
+        none,
+        numbers::need(o.slice, size),
+    );
     if room != 0 {
         return room;
     }
@@ -134,12 +140,19 @@ fn create_grown(
     ensures { λ r. ⌜ PlacedGrown (now (image .entry)) o (pack (name .0) (name .1) (name .2)) size attributes (now (words .entry)) (now (image .exit)) r ⌝ }
 {
     let none = index::empty_block();
-    let room = grow::room(image, o, o.layers + 1, none, numbers::need(o.slice, size));
+    let room = grow::room(
+        image,
+        o,
+        o.catalog.layers + 1,
+        none,
+        numbers::need(o.slice, size),
+    );
     if room != 0 {
         return room;
     }
     let grown = grow::grow(image, o);
-    let Found::At(place) = unit::find_unused(image, grown, numbers::key(name, o.keys)) else {
+    let Found::At(place) = unit::find_unused(image, grown, numbers::key(name, o.catalog.keys))
+    else {
         return 0;
     };
     write_file(image, grown, place, name, size, attributes, words);
@@ -164,7 +177,7 @@ fn new_file(
     let Found::Nothing = unit::find_name(image, o, name) else {
         return 0x1010;
     };
-    let Found::At(place) = unit::find_unused(image, o, numbers::key(name, o.keys)) else {
+    let Found::At(place) = unit::find_unused(image, o, numbers::key(name, o.catalog.keys)) else {
         return create_grown(image, o, name, size, attributes, words);
     };
     create_in(image, o, place, name, size, attributes, words)

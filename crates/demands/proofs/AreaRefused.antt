@@ -36,7 +36,7 @@ use Rattle.refine.proofs.StateLaws.{same-absent}
 use Rattle.steps.proofs.AreaMessages.{area-set-same, reserve-refused, area-found, area-other, reserve-outcome, sender-absent, sender-found, area-file}
 use Rattle.steps.proofs.AreaUnit.{area-shut, area-reserved, area-nobody, area-strange, area-asked, operation-reserve, operation-stranger, operation-user, user-release}
 use Rattle.sharing.specs.Sharing.{atPosition, positionWord, positionReached}
-use Rattle.sharing.specs.Leaves.{Seat, areaUsers, areaUser}
+use Rattle.sharing.specs.Seat.{Seat, areaUsers, areaUser}
 use Rattle.sharing.proofs.ShareLaws.{own-position, positioned-by}
 use Rattle.transput.specs.Transput.{transputState}
 use Rattle.transput.proofs.TransputLaws.{kept-image, kept-state}

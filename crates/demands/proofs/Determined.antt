@@ -14,7 +14,7 @@ use Rattle.disc.specs.Names.{SYS, named}
 use Rattle.disc.specs.Entries.{placeCount, nameAt}
 use Rattle.disc.proofs.Compare.{same-or, below-or}
 use Rattle.plain.specs.Table.{tableFind}
-use Rattle.plain.specs.Unit.{Plain, File}
+use Rattle.plain.specs.Unit.{Plain, File, sysOf}
 use Rattle.plain.specs.Questions.{Outcome, answer}
 use Rattle.plain.specs.Catalog.{stepChange}
 use Rattle.plain.specs.Step.{Reply}
@@ -50,10 +50,10 @@ use Rattle.perform.specs.Perform.{performed, Wrote, Untouched, Performs, unknow
 -- a name stands in one place
 module _ {image : List ℕ} {p : Plain} (on : OnDisc image p) (n : ℕ) (positive : n ≢ 0) where
   one-place : (t u : ℕ) → t < placeCount (p .H) (p .layers) → u < placeCount (p .H) (p .layers) → nameAt (unitPlaces image p) t ≡ n → nameAt (unitPlaces image p) u ≡ n → t ≡ u
-  one-place t u h k e f = on .layout .catalog .alone t u h k (e ∙ sym f) (λ z. positive (sym e ∙ z))
+  one-place t u h k e f = on .layout .sys .places .alone t u h k (e ∙ sym f) (λ z. positive (sym e ∙ z))
 
 -- the first unused place of a key is one
-first-one : {image : List ℕ} {p : Plain} {k t u : ℕ} → FirstUnused image p k t → FirstUnused image p k u → t ≡ u
+first-one : {image : List ℕ} {p : Plain} {k t u : ℕ} → FirstUnused image p (sysOf p) k t → FirstUnused image p (sysOf p) k u → t ≡ u
 first-one {t = t} {u = u} x y =
     below-or t u (λ h. absurd (y .earlier t h (x .key) (x .unused))) (λ h. same-or t u (λ e. e) (λ d. absurd (x .earlier u (omega arith) (y .key) (y .unused))))
 
@@ -78,7 +78,7 @@ grown-one : {image : List ℕ} {p : Plain} {a b : List ℕ} → OnDisc image p �
 grown-one on x y = x .written ∙ rw (one-place on SYS (λ z. omega arith) (x .place) (y .place) (x .inside) (y .inside) (x .named) (y .named)) (sym (y .written))
 
 created-one : {p : Plain} {image : List ℕ} {n : ℕ} {f : File} {a b : List ℕ} → CreatedOn p image n f a → CreatedOn p image n f b → a ≡ b
-created-one {p} {image} {n} {f} x y = x .written ∙ ap (λ (t : ℕ). createdImage p image t n f) (first-one (x .first) (y .first)) ∙ sym (y .written)
+created-one {p} {image} {n} {f} x y = x .written ∙ ap (λ (t : ℕ). createdImage p (sysOf p) image t n f) (first-one (x .first) (y .first)) ∙ sym (y .written)
 
 created-same : {p : Plain} {image : List ℕ} {n size attributes : ℕ} {optional tail a b : List ℕ} {u v : Plain} → OnDisc image p → u ≡ v
     → Created p image n size attributes optional tail a u → Created p image n size attributes optional tail b v → a ≡ b
@@ -92,7 +92,7 @@ created-same on e (grows x _) (grows y _) = created-one (rw (grown-one on (x .gr
 removed-same : {p : Plain} {image : List ℕ} {n : ℕ} {a b : List ℕ} {u v : Plain} → OnDisc image p → Removed p image n a u → Removed p image n b v → a ≡ b
 removed-same {p} {image} {n} on x y =
     let place = one-place on n (file-positive (on .good) n (x .file)) (x .t) (y .t) (x .inside) (y .inside) (x .stands) (y .stands) in
-    x .written ∙ ap₂ (λ (t : ℕ) (f : File). removedImage p image t f) place (some-inj (sym (x .file) ∙ y .file)) ∙ sym (y .written)
+    x .written ∙ ap₂ (λ (t : ℕ) (f : File). removedImage p (sysOf p) image t f) place (some-inj (sym (x .file) ∙ y .file)) ∙ sym (y .written)
 
 -- ---- Change
 
@@ -100,7 +100,7 @@ rewrites-one : {image : List ℕ} {p : Plain} {t n m : ℕ} {f f′ : File} {a b
 rewrites-one (stayed _ x) (stayed _ y) = x ∙ sym y
 rewrites-one (stayed e x) (moved d u first y) = absurd (d e)
 rewrites-one (moved d u first x) (stayed e y) = absurd (d e)
-rewrites-one {image} {p} {t} {n} {m} {f} {f′} (moved d u x e) (moved _ v y g) = e ∙ ap (λ (i : ℕ). renamedImage p image t i m f f′) (first-one x y) ∙ sym g
+rewrites-one {image} {p} {t} {n} {m} {f} {f′} (moved d u x e) (moved _ v y g) = e ∙ ap (λ (i : ℕ). renamedImage p (sysOf p) image t i m f f′) (first-one x y) ∙ sym g
 
 changed-one : {p : Plain} {image : List ℕ} {n : ℕ} {f : File} {lent a b : List ℕ} → OnDisc image p → n ≢ 0 → change.ChangedOn p image n f lent a → change.ChangedOn p image n f lent b → a ≡ b
 changed-one {n = n} on positive x y =
@@ -156,7 +156,7 @@ module _ {image : List ℕ} {state : State} {p : Plain} (g : Good p) (r : Repres
       let place = one-place (on-disc g r) n (file-positive g n (m .file)) (m .t) (k .t) (m .inside) (k .inside) (m .stands) (k .stands) in
       let file = some-inj (sym (m .file) ∙ k .file) in
       let j : m .j ≡ k .j = at-one (sym (m .found) ∙ k .found) in
-      (m .written ∙ ap₂ (λ (t : ℕ) (f : File). bookedImage p image t n f) place file ∙ sym (k .written), m .left ∙ ap (areaClosed state) j ∙ sym (k .left))
+      (m .written ∙ ap₂ (λ (t : ℕ) (f : File). bookedImage p (sysOf p) image t n f) place file ∙ sym (k .written), m .left ∙ ap (areaClosed state) j ∙ sym (k .left))
 
   -- ---- every message
 

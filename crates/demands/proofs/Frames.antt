@@ -8,12 +8,13 @@ use lib.ListN.{length, drop}
 use Rattle.disc.specs.Slices.{occurrences}
 use Rattle.disc.specs.Stretches.{sectorIn, stretchCount}
 use Rattle.disc.specs.Kit.{kitSector, mapSector}
+use Rattle.disc.specs.Catalog.{placeSector}
 use Rattle.words.specs.Store.{store, zeroWords}
 use Rattle.words.proofs.StoreLaws.{length-zeroWords}
 use Rattle.map.specs.Marks.{allMarked, allFree}
 use Rattle.map.proofs.MarkLaws.{InMap, length-all-marked}
-use Rattle.plain.specs.Unit.{Plain}
-use Rattle.refine.specs.Writes.{countedFree, placeSector, storePlace, emptyPlace, zeroedSectors, takenImage}
+use Rattle.plain.specs.Unit.{Plain, sysOf}
+use Rattle.refine.specs.Writes.{countedFree, storePlace, emptyPlace, zeroedSectors, takenImage}
 use Rattle.refine.proofs.Sectors.{Same, same-trans, store-outside, sector-outside, marked-outside-map}
 use Rattle.steps.proofs.WriteLaws.{counted-keep, zeroed-keep, taken-keep}
 use Rattle.steps.proofs.ResizeLaws.{Resizes, occurrences-old, occurrences-new, resliced, resliced-keep}
@@ -28,8 +29,8 @@ module _ (q : ℕ) where
   pub marks-keep : (v : ℕ) (i l : List ℕ) → v ≤ 1 → InMap l → 2560 ≤ length i → q ≢ mapSector → Same i (allMarked v i l) q
   marks-keep v i l bit inside far d = marked-outside-map v i l bit inside far .same q (d, tt)
 
-  pub place-keep : (p : Plain) (i : List ℕ) (t : ℕ) (e : List ℕ) → length e ≡ 16 → q ≢ placeSector p t → Same i (storePlace p i t e) q
-  place-keep p i t e len d = store-outside i e (placeSector p t) (t % 16 * 16) (omega arith) .same q (d, tt)
+  pub place-keep : (p : Plain) (i : List ℕ) (t : ℕ) (e : List ℕ) → length e ≡ 16 → q ≢ placeSector (p .F) (p .s) (sysOf p) t → Same i (storePlace p (sysOf p) i t e) q
+  place-keep p i t e len d = store-outside i e (placeSector (p .F) (p .s) (sysOf p) t) (t % 16 * 16) (omega arith) .same q (d, tt)
 
   pub block-keep : (i : List ℕ) (r : ℕ) (words : List ℕ) → length words ≤ 256 → q ≢ r → Same i (store i (r * 256) words) q
   block-keep i r words len d = sector-outside i words r len .same q (d, tt)
@@ -51,16 +52,16 @@ module _ (q : ℕ) where
 
   -- ---- the end of a message: sectors zeroed, an entry stored, the free sectors counted
 
-  pub finish-keep : (p : Plain) (i slices : List ℕ) (b n t : ℕ) (e : List ℕ) → length e ≡ 16 → q ≢ kitSector → q ≢ placeSector p t
-      → ((x : ℕ) → b ≤ x → x < b + n → q ≢ sectorIn (p .F) (p .s) slices x) → Same i (countedFree (storePlace p (zeroedSectors i (p .F) (p .s) slices b n) t e) (p .s)) q
+  pub finish-keep : (p : Plain) (i slices : List ℕ) (b n t : ℕ) (e : List ℕ) → length e ≡ 16 → q ≢ kitSector → q ≢ placeSector (p .F) (p .s) (sysOf p) t
+      → ((x : ℕ) → b ≤ x → x < b + n → q ≢ sectorIn (p .F) (p .s) slices x) → Same i (countedFree (storePlace p (sysOf p) (zeroedSectors i (p .F) (p .s) slices b n) t e) (p .s)) q
   finish-keep p i slices b n t e len kit place off =
       same-trans (zeroed-keep i (p .F) (p .s) slices b n q off)
       (same-trans (place-keep p (zeroedSectors i (p .F) (p .s) slices b n) t e len place) (counted-keep _ (p .s) q kit))
 
   -- a rename empties a place before
-  pub rename-keep : (p : Plain) (i slices : List ℕ) (b n t u : ℕ) (e : List ℕ) → length e ≡ 16 → q ≢ kitSector → q ≢ placeSector p t → q ≢ placeSector p u
+  pub rename-keep : (p : Plain) (i slices : List ℕ) (b n t u : ℕ) (e : List ℕ) → length e ≡ 16 → q ≢ kitSector → q ≢ placeSector (p .F) (p .s) (sysOf p) t → q ≢ placeSector (p .F) (p .s) (sysOf p) u
       → ((x : ℕ) → b ≤ x → x < b + n → q ≢ sectorIn (p .F) (p .s) slices x)
-      → Same i (countedFree (storePlace p (emptyPlace p (zeroedSectors i (p .F) (p .s) slices b n) t) u e) (p .s)) q
+      → Same i (countedFree (storePlace p (sysOf p) (emptyPlace p (sysOf p) (zeroedSectors i (p .F) (p .s) slices b n) t) u e) (p .s)) q
   rename-keep p i slices b n t u e len kit place other off =
       same-trans (zeroed-keep i (p .F) (p .s) slices b n q off)
       (same-trans (place-keep p _ t (zeroWords 16) (length-zeroWords 16) place) (same-trans (place-keep p _ u e len other) (counted-keep _ (p .s) q kit)))

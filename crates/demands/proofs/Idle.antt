@@ -7,9 +7,9 @@ use native.Mathlib.Omega.{arith}
 use Rattle.disc.specs.Stretches.{sectorIn, sysFrom, fileFrom}
 use Rattle.disc.specs.Kit.{sysIndexSector, kitSector, mapSector}
 use Rattle.disc.specs.Entries.{placeCount}
+use Rattle.disc.specs.Catalog.{placeSector}
 use Rattle.plain.specs.Table.{tableFind}
-use Rattle.plain.specs.Unit.{Plain, File}
-use Rattle.refine.specs.Writes.{placeSector}
+use Rattle.plain.specs.Unit.{Plain, File, sysOf}
 use Rattle.demands.specs.Slack.{system, catalog, index, block, Idle}
 use Rattle.demands.proofs.MessageFrames.{Off, OffIndex}
 
@@ -27,7 +27,7 @@ module _ {p : Plain} {q : ℕ} (idle : Idle p q) where
   pub idle-sys : (b : ℕ) → b < p .H * p .layers → q ≢ sectorIn (p .F) (p .s) (p .sys) b
   idle-sys b h e = let z : b ≡ b + sysFrom = omega arith in idle (catalog b h (e ∙ ap (sectorIn (p .F) (p .s) (p .sys)) z))
 
-  pub idle-place : (t : ℕ) → t < placeCount (p .H) (p .layers) → q ≢ placeSector p t
+  pub idle-place : (t : ℕ) → t < placeCount (p .H) (p .layers) → q ≢ placeSector (p .F) (p .s) (sysOf p) t
   idle-place t h e = idle (catalog (t / 16) (omega arith) e)
 
   module _ (n : ℕ) (f : File) (found : tableFind n (p .files) ≡ some f) where

@@ -17,7 +17,7 @@ use Rattle.plain.specs.Table.{tableFind}
 use Rattle.plain.specs.Unit.{Plain, File, M, held}
 use Rattle.plain.specs.Good.{Good}
 use Rattle.plain.proofs.TableLaws.{some-inj}
-use Rattle.refine.proofs.Ground.{Ground, ground, positive, part-sys, part-file, sys-in, first-in, block-in, sys-data, file-data, sys-file, file-file, in-file, in-sys}
+use Rattle.refine.proofs.Ground.{Ground, ground, positive, sys-ground, part-file, joined-in, first-in, block-in, catalog-data, file-data, catalog-file, file-file, in-file, in-catalog}
 use Rattle.demands.specs.Slack.{InUse, system, catalog, index, block, Idle, Slack, ofSys, ofFile, SectorOf, LeftAlone, slack, freed, free, below}
 
 module _ {p : Plain} (good : Good p) where
@@ -31,22 +31,22 @@ module _ {p : Plain} (good : Good p) where
   used : {C : Type 0} {q : ℕ} → InUse p q → (6 ≤ q → q ≤ 9 → C) → ((b : ℕ) → b < p .H * p .layers → b / p .s < length (p .sys) → q ≡ sector (p .sys) b → C)
       → ((n : ℕ) (f : File) → tableFind n (p .files) ≡ some f → (b : ℕ) → b < length (f .sectors) + 1 → b / p .s < length (f .slices) → q ≡ sector (f .slices) b → C) → C
   used (system a b) low sys file = low a b
-  used (catalog b h e) low sys file = sys (b + sysFrom) (omega arith) (sys-in p g (b + sysFrom) (omega arith)) e
+  used (catalog b h e) low sys file = sys (b + sysFrom) (omega arith) (joined-in (sys-ground g) (b + sysFrom) (omega arith)) e
   used (index n f t h e) low sys file = file n f t 0 (omega arith) (first-in p g (f .slices) h) e
   used (block n f t b h e) low sys file = file n f t (b + fileFrom) (omega arith) (block-in p g n f t b h) e
 
   slack-idle : {q : ℕ} → Slack p q → Idle p q
   slack-idle (ofSys b past inside e) u =
-      let d = sys-data p g (b + sysFrom) inside in
+      let d = catalog-data (sys-ground g) (b + sysFrom) inside in
       used u
       (λ lo hi. omega (arith, d .0, e))
-      (λ c h in₀ x. let z : b + sysFrom ≡ c = in-sys p g (b + sysFrom) c inside in₀ (sym e ∙ x) in omega arith)
-      (λ n f t c h in₀ x. sys-file p g n f t c (b + sysFrom) in₀ inside (sym x ∙ e))
+      (λ c h in₀ x. let z : b + sysFrom ≡ c = in-catalog (sys-ground g) (b + sysFrom) c inside in₀ (sym e ∙ x) in omega arith)
+      (λ n f t c h in₀ x. catalog-file (sys-ground g) n f t c (b + sysFrom) in₀ inside (sym x ∙ e))
   slack-idle (ofFile n f t b past inside e) u =
       let d = file-data p g n f t (b + fileFrom) inside in
       used u
       (λ lo hi. omega (arith, d .0, e))
-      (λ c h in₀ x. sys-file p g n f t (b + fileFrom) c inside in₀ (sym e ∙ x))
+      (λ c h in₀ x. catalog-file (sys-ground g) n f t (b + fileFrom) c inside in₀ (sym e ∙ x))
       (λ m a v c h in₀ x. same-or m n
       (λ k.
       let same : a ≡ f = some-inj (sym v ∙ ap (λ (y : ℕ). tableFind y (p .files)) k ∙ t) in
@@ -70,7 +70,7 @@ module _ {p : Plain} (good : Good p) where
         apart (p .F) (p .s) (M p) (k ∷ held p) (positive p g) once l (k ∷ []) b (of .j) (λ x. omega (arith, part x)) inside (omega (arith, zeroth)) (sym e ∙ there)
 
     free-idle : Idle p q
-    free-idle u = used u (λ lo hi. omega (arith, of .at, g .limits .first)) (λ b h in₀. not-held (p .sys) (part-sys p g) b in₀) (λ n f t b h in₀. not-held (f .slices) (part-file p g n f t) b in₀)
+    free-idle u = used u (λ lo hi. omega (arith, of .at, g .limits .first)) (λ b h in₀. not-held (p .sys) (sys-ground g .part) b in₀) (λ n f t b h in₀. not-held (f .slices) (part-file p g n f t) b in₀)
 
   pub left-idle : {before : Plain} {q : ℕ} → LeftAlone before p q → Idle p q
   left-idle (slack x) u = slack-idle x u

@@ -17,11 +17,11 @@ use Rattle.plain.specs.Questions.{Outcome, answer, asks, replies, fill, known}
 use Rattle.plain.specs.Reports.{joined, stepListing}
 use Rattle.plain.specs.Step.{Reply, reply}
 use Rattle.plain.specs.Good.{Good}
+use Rattle.plain.proofs.UnitLaws.{sorted-entries}
 use Rattle.refine.specs.Represents.{Represents}
 use Rattle.refine.specs.Demands.{Performed}
 use Rattle.refine.proofs.Ground.{entry-named, entry-length}
 use Rattle.refine.proofs.SoundRepresents.{sound-represents}
-use Rattle.steps.proofs.PlaceLaws.{sorted-entries}
 use Rattle.reports.proofs.OrderLaws.{groupWord, ListingOf, Entries, table-listing, names-increase}
 use Rattle.perform.specs.Perform.{Performs, unknown, unsound, obeyed}
 use Rattle.demands.specs.Listing.{listedName, ByName, ListedByName}
@@ -30,7 +30,7 @@ use Rattle.demands.specs.Listing.{listedName, ByName, ListedByName}
 
 module _ (p : Plain) (g : Good p) (rest : List ℕ) where
   sorted : SortedFrom 0 (entries p)
-  sorted = sorted-entries p g
+  sorted = sorted-entries p (g .names)
 
   ok : Entries (entries p)
   unfolding entry

@@ -11,19 +11,20 @@ use Rattle.disc.specs.Slices.{occurrences}
 use Rattle.disc.specs.Stretches.{sectorIn, blockSector, stretchCount, sysFrom, fileFrom}
 use Rattle.disc.specs.Kit.{sysIndexSector, kitSector, mapSector}
 use Rattle.disc.specs.Entries.{placeCount, indexSector}
+use Rattle.disc.specs.Catalog.{placeSector}
 use Rattle.disc.proofs.SliceLaws.{occurrences-append}
 use Rattle.disc.proofs.EntryLaws.{length-entry}
 use Rattle.words.specs.Store.{zeroWords}
 use Rattle.words.proofs.StoreLaws.{length-store, length-zeroWords}
 use Rattle.map.proofs.MarkLaws.{InMap}
 use Rattle.plain.specs.Table.{Table, tableFind, tablePut, tableRemove}
-use Rattle.plain.specs.Unit.{Plain, File, AreaUser, withFiles, withTables, fileEntry}
+use Rattle.plain.specs.Unit.{Plain, File, sysOf, AreaUser, withFiles, withTables, fileEntry}
 use Rattle.plain.specs.Areas.{bookLive}
 use Rattle.plain.specs.Good.{Good}
 use Rattle.plain.proofs.TableLaws.{find-put}
-use Rattle.refine.specs.Writes.{placeSector, takenImage, emptyPlace, removedImage, grownImage, createdImage, resizedImage, changedImage, renamedImage, bookedImage, replacedImage, appendedImage}
+use Rattle.refine.specs.Writes.{takenImage, emptyPlace, removedImage, grownImage, createdImage, resizedImage, changedImage, renamedImage, bookedImage, replacedImage, appendedImage, grownSys}
 use Rattle.refine.proofs.Sectors.{Same, same-trans}
-use Rattle.refine.proofs.Ground.{ground, part-sys, part-file, place-in}
+use Rattle.refine.proofs.Ground.{ground, sys-ground, part-file, place-in}
 use Rattle.steps.proofs.WriteLaws.{part-in-map, counted-keep}
 use Rattle.steps.proofs.ResizeLaws.{Resizes, resliced}
 use Rattle.demands.proofs.Frames.{in-map-part, marks-keep, place-keep, block-keep, taking-keep, reslicing-keep, finish-keep, rename-keep, append-keep}
@@ -32,7 +33,7 @@ use Rattle.demands.proofs.Frames.{in-map-part, marks-keep, place-keep, 
 pub record Off (p : Plain) (f : File) (q : ℕ) : Type 0 where
   pub map : q ≢ mapSector
   pub kit : q ≢ kitSector
-  pub place : (t : ℕ) → t < placeCount (p .H) (p .layers) → q ≢ placeSector p t
+  pub place : (t : ℕ) → t < placeCount (p .H) (p .layers) → q ≢ placeSector (p .F) (p .s) (sysOf p) t
   pub joined : (x : ℕ) → 1 ≤ x → x < length (f .sectors) + 1 → q ≢ sectorIn (p .F) (p .s) (f .slices) x
 
 -- Sector q is not the index block of file f.
@@ -52,15 +53,15 @@ module _ {p : Plain} (g : Good p) (n : ℕ) (f : File) (found : tableFind n (p .
 
 -- ---- Remove and Remove area: file f, whose entry stands in place t
 
-module _ (p : Plain) (g : Good p) (n : ℕ) (f : File) (found : tableFind n (p .files) ≡ some f) (i : List ℕ) (far : 2560 ≤ length i) (t q : ℕ) (place : q ≢ placeSector p t) where
-  pub removed-keep : q ≢ mapSector → q ≢ kitSector → Same i (removedImage p i t f) q
+module _ (p : Plain) (g : Good p) (n : ℕ) (f : File) (found : tableFind n (p .files) ≡ some f) (i : List ℕ) (far : 2560 ≤ length i) (t q : ℕ) (place : q ≢ placeSector (p .F) (p .s) (sysOf p) t) where
+  pub removed-keep : q ≢ mapSector → q ≢ kitSector → Same i (removedImage p (sysOf p) i t f) q
   unfolding removedImage
   removed-keep map kit =
-      let size = length-store i (placeSector p t * 256 + t % 16 * 16) (zeroWords 16) in
+      let size = length-store i (placeSector (p .F) (p .s) (sysOf p) t * 256 + t % 16 * 16) (zeroWords 16) in
       same-trans (place-keep q p i t (zeroWords 16) (length-zeroWords 16) place)
-      (same-trans (marks-keep q 1 (emptyPlace p i t) (f .slices) (omega arith) (file-in-map g n f found) (omega (arith, far)) map) (counted-keep _ (p .s) q kit))
+      (same-trans (marks-keep q 1 (emptyPlace p (sysOf p) i t) (f .slices) (omega arith) (file-in-map g n f found) (omega (arith, far)) map) (counted-keep _ (p .s) q kit))
 
-  pub booked-keep : Same i (bookedImage p i t n f) q
+  pub booked-keep : Same i (bookedImage p (sysOf p) i t n f) q
   unfolding bookedImage
   booked-keep =
       let fg = g .files n f found in
@@ -74,12 +75,12 @@ module _ (p : Plain) (g : Good p) (new : List ℕ) (files : Table File) (areas :
   grown = withTables p (suc (p .layers)) (p .sys ++ new) files areas
 
   new-in-map : InMap new
-  new-in-map = part-in-map grown (ground grown g′) new (λ k. omega (arith, part-sys grown (ground grown g′) k, occurrences-append k (p .sys) new))
+  new-in-map = part-in-map grown (ground grown g′) new (λ k. omega (arith, sys-ground (ground grown g′) .part k, occurrences-append k (p .sys) new))
 
   -- the old places stand where they stood
-  old-sector : (t : ℕ) → t < placeCount (p .H) (p .layers) → placeSector grown t ≡ placeSector p t
+  old-sector : (t : ℕ) → t < placeCount (p .H) (p .layers) → placeSector (grown .F) (grown .s) (sysOf grown) t ≡ placeSector (p .F) (p .s) (sysOf p) t
   old-sector t inside =
-      ap (λ (k : ℕ). sliceStart (p .F) (p .s) k + (t / 16 + sysFrom) % p .s) (List·getD-append (p .sys) new 0 ((t / 16 + sysFrom) / p .s) (place-in p (ground p g) t inside))
+      ap (λ (k : ℕ). sliceStart (p .F) (p .s) k + (t / 16 + sysFrom) % p .s) (List·getD-append (p .sys) new 0 ((t / 16 + sysFrom) / p .s) (place-in (sys-ground (ground p g)) t inside))
 
   module _ (i : List ℕ) (far : 2560 ≤ length i) (t : ℕ) (inside : t < placeCount (p .H) (p .layers)) (q : ℕ) (kit : q ≢ kitSector)
       (blocks : (b : ℕ) → b < p .H * suc (p .layers) → q ≢ sectorIn (p .F) (p .s) (p .sys ++ new) b) where
@@ -87,13 +88,13 @@ module _ (p : Plain) (g : Good p) (new : List ℕ) (files : Table File) (areas :
     longer = takenImage i sysIndexSector (p .F) (p .s) (p .sys) new
 
     -- after the index block
-    pub layer-keep : Same longer (grownImage p i t new) q
+    pub layer-keep : Same longer (grownSys p i t new) q
     unfolding grownImage
     layer-keep =
         finish-keep q p longer (p .sys ++ new) (p .H * p .layers + sysFrom) (p .H) t _ refl kit (λ e. blocks (t / 16 + sysFrom) (omega arith) (e ∙ sym (old-sector t inside)))
         (λ x lo hi. blocks x (omega arith))
 
-    pub grown-keep : q ≢ mapSector → q ≢ sysIndexSector → Same i (grownImage p i t new) q
+    pub grown-keep : q ≢ mapSector → q ≢ sysIndexSector → Same i (grownSys p i t new) q
     grown-keep map six = same-trans (taking-keep q i sysIndexSector (p .F) (p .s) (p .sys) new (g′ .sysFew) new-in-map far map (λ _. six)) layer-keep
 
 -- ---- Create and Set: the file f is entered under name n
@@ -107,13 +108,13 @@ module _ (p : Plain) (n : ℕ) (f : File) (g′ : Good (withFiles p (tablePut n 
 
   module _ (off : Off (withFiles p (tablePut n f (p .files))) f q) where
     -- after the index block
-    pub entered-keep : Same described (createdImage p i t n f) q
+    pub entered-keep : Same described (createdImage p (sysOf p) i t n f) q
     unfolding createdImage
     entered-keep =
         finish-keep q p described (f .slices) fileFrom (length (f .sectors)) t _ (file-entry g′ n f here n) (off .kit) (off .place t inside)
         (λ x lo hi. off .joined x (omega arith) (omega arith))
 
-    pub created-keep : OffIndex p f q → Same i (createdImage p i t n f) q
+    pub created-keep : OffIndex p f q → Same i (createdImage p (sysOf p) i t n f) q
     created-keep own =
         same-trans (taking-keep q i _ (p .F) (p .s) [] (f .slices) (g′ .files n f here .few) (file-in-map g′ n f here) far (off .map) own) entered-keep
 
@@ -134,18 +135,18 @@ module _ (p : Plain) (n m : ℕ) (f f′ : File) (old : InMap (f .slices)) (re :
   off-new x lo hi = off .joined x (omega arith) (omega arith)
 
   -- after the index block
-  pub rewritten-keep : Same sliced (changedImage p i t m f f′) q
+  pub rewritten-keep : Same sliced (changedImage p (sysOf p) i t m f f′) q
   unfolding changedImage resizedImage
   rewritten-keep = finish-keep q p sliced (f′ .slices) _ _ t _ (file-entry g′ m f′ now m) (off .kit) (off .place t inside) off-new
 
-  pub moved-keep : (u : ℕ) → u < placeCount (p .H) (p .layers) → Same sliced (renamedImage p i t u m f f′) q
+  pub moved-keep : (u : ℕ) → u < placeCount (p .H) (p .layers) → Same sliced (renamedImage p (sysOf p) i t u m f f′) q
   unfolding renamedImage resizedImage
   moved-keep u there = rename-keep q p sliced (f′ .slices) _ _ t u _ (file-entry g′ m f′ now m) (off .kit) (off .place t inside) (off .place u there) off-new
 
-  pub changed-keep : OffIndex p f′ q → Same i (changedImage p i t m f f′) q
+  pub changed-keep : OffIndex p f′ q → Same i (changedImage p (sysOf p) i t m f f′) q
   changed-keep own = same-trans (sliced-keep own) rewritten-keep
 
-  pub renamed-keep : OffIndex p f′ q → (u : ℕ) → u < placeCount (p .H) (p .layers) → Same i (renamedImage p i t u m f f′) q
+  pub renamed-keep : OffIndex p f′ q → (u : ℕ) → u < placeCount (p .H) (p .layers) → Same i (renamedImage p (sysOf p) i t u m f f′) q
   renamed-keep own u there = same-trans (sliced-keep own) (moved-keep u there)
 
 -- ---- Output: the file f of name n has other slices or sectors

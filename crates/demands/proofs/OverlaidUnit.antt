@@ -9,13 +9,13 @@ use Rattle.types.specs.declared.Message.the-variants.{Init, Set, Create, LookUp
 use Rattle.disc.specs.Words.{Words}
 use Rattle.disc.specs.Names.{keyOf}
 use Rattle.disc.specs.Entries.{nameAt}
-use Rattle.plain.specs.Unit.{Plain, File}
+use Rattle.disc.specs.Catalog.{placeSector}
+use Rattle.plain.specs.Unit.{Plain, File, sysOf}
 use Rattle.plain.specs.Good.{Good}
 use Rattle.sound.specs.Places.{Unused}
 use Rattle.sound.specs.Sound.{SoundUnit}
 use Rattle.refine.specs.Represents.{Represents}
 use Rattle.refine.specs.Demands.{Performed}
-use Rattle.refine.specs.Writes.{placeSector}
 use Rattle.refine.proofs.Sectors.{Same, bit-kept}
 use Rattle.refine.proofs.Ground.{ground}
 use Rattle.refine.proofs.Writers.{kit-kept, low-write}
@@ -56,12 +56,12 @@ module _ (x : List ℕ) where
 
   module _ (p : Plain) (low : 6 ≤ p .F) where
     pub places-overlaid : (i : List ℕ) → unitPlaces (overlaid x i) p ≡ unitPlaces i p
-    places-overlaid i = λ j t w. word-overlaid x i (placeSector p t) (t % 16 * 16 + w) (omega arith) j
+    places-overlaid i = λ j t w. word-overlaid x i (placeSector (p .F) (p .s) (sysOf p) t) (t % 16 * 16 + w) (omega arith) j
 
     name-overlaid : (i : List ℕ) (t : ℕ) {n : ℕ} → nameAt (unitPlaces i p) t ≡ n → nameAt (unitPlaces (overlaid x i) p) t ≡ n
     name-overlaid i t e = ap (λ (P : ℕ → ℕ → ℕ). nameAt P t) (places-overlaid i) ∙ e
 
-    first-overlaid : {i : List ℕ} {k u : ℕ} → FirstUnused i p k u → FirstUnused (overlaid x i) p k u
+    first-overlaid : {i : List ℕ} {k u : ℕ} → FirstUnused i p (sysOf p) k u → FirstUnused (overlaid x i) p (sysOf p) k u
     first-overlaid {i} {k} {u} f = record {
       inside = f .inside;
       key = f .key;
@@ -94,7 +94,7 @@ module _ (x : List ℕ) where
     rewrites : {i j : List ℕ} {t n m : ℕ} {f f′ : File} → Rewrites i p t n m f f′ j → Rewrites (overlaid x i) p t n m f f′ (overlaid x j)
     rewrites {i} {t = t} {n} {m} {f} {f′} (stayed e w) = stayed e (ap (overlaid x) w ∙ beyond-changed p low t n f f′ .past x i)
     rewrites {i} {t = t} {n} {m} {f} {f′} (moved d u first w) =
-        moved d u (subst (λ (k : List ℕ). FirstUnused k p (keyOf (p .H) m) u) (beyond-emptied p low t f f′ .past x i) (first-overlaid first))
+        moved d u (subst (λ (k : List ℕ). FirstUnused k p (sysOf p) (keyOf (p .H) m) u) (beyond-emptied p low t f f′ .past x i) (first-overlaid first))
         (ap (overlaid x) w ∙ beyond-renamed p low t u m f f′ .past x i)
 
     changed-on : {i j : List ℕ} {n : ℕ} {f : File} {lent : List ℕ} → change.ChangedOn p i n f lent j → change.ChangedOn p (overlaid x i) n f lent (overlaid x j)

@@ -12,9 +12,9 @@ use Rattle.disc.specs.Names.{SYS, MAP, keyOf}
 use Rattle.disc.specs.Stretches.{sectorIn, blockSector, sysFrom, fileFrom}
 use Rattle.disc.specs.Kit.{sysIndexSector}
 use Rattle.words.specs.Store.{zeroWords}
-use Rattle.plain.specs.Unit.{Plain, File}
+use Rattle.plain.specs.Unit.{Plain, File, sysOf}
 use Rattle.plain.specs.Transput.{isOutput}
-use Rattle.refine.specs.Writes.{storePlace, removedImage, grownImage, createdImage, resizedImage, changedImage, renamedImage, bookedImage, replacedImage, appendedImage}
+use Rattle.refine.specs.Writes.{storePlace, removedImage, grownImage, createdImage, resizedImage, changedImage, renamedImage, bookedImage, replacedImage, appendedImage, grownSys}
 use Rattle.refine.specs.Format.{storeBlock, mapPlace, systemSectors, clearSys, enterAt, freshCatalog, formatted}
 use Rattle.steps.specs.Units.{appendSlices}
 use Rattle.output.specs.Output.{outputImage}
@@ -25,7 +25,7 @@ use Rattle.demands.proofs.Overlaid.{Beyond, beyond-none, beyond-then, b
 -- ---- the messages: all sectors of the unit's slices are data sectors, F or above
 
 module _ (p : Plain) (data-low : 6 ≤ p .F) where
-  beyond-place : (t : ℕ) (words : List ℕ) → Beyond (λ i. storePlace p i t words)
+  beyond-place : (t : ℕ) (words : List ℕ) → Beyond (λ i. storePlace p (sysOf p) i t words)
   beyond-place t words = beyond-store _ words (omega arith)
 
   pub beyond-resized : (f f′ : File) → Beyond (λ i. resizedImage p i f f′)
@@ -35,36 +35,36 @@ module _ (p : Plain) (data-low : 6 ≤ p .F) where
       (beyond-then (beyond-taken (sectorIn (p .F) (p .s) (f′ .slices) 0) (p .F) (p .s) (f .slices) (drop (length (f .slices)) (f′ .slices)) (omega arith))
       (beyond-cut (sectorIn (p .F) (p .s) (f′ .slices) 0) (p .F) (p .s) (f .slices) (length (f′ .slices)) (omega arith)))
 
-  pub beyond-emptied : (t : ℕ) (f f′ : File) → Beyond (λ i. storePlace p (resizedImage p i f f′) t (zeroWords 16))
+  pub beyond-emptied : (t : ℕ) (f f′ : File) → Beyond (λ i. storePlace p (sysOf p) (resizedImage p i f f′) t (zeroWords 16))
   beyond-emptied t f f′ = beyond-then (beyond-place t (zeroWords 16)) (beyond-resized f f′)
 
-  pub beyond-removed : (t : ℕ) (f : File) → Beyond (λ i. removedImage p i t f)
+  pub beyond-removed : (t : ℕ) (f : File) → Beyond (λ i. removedImage p (sysOf p) i t f)
   unfolding removedImage
   beyond-removed t f = beyond-then (beyond-counted (p .s)) (beyond-then (beyond-all-marked 1 (f .slices)) (beyond-place t (zeroWords 16)))
 
-  pub beyond-grown : (t : ℕ) (new : List ℕ) → Beyond (λ i. grownImage p i t new)
+  pub beyond-grown : (t : ℕ) (new : List ℕ) → Beyond (λ i. grownSys p i t new)
   unfolding grownImage
   beyond-grown t new =
       beyond-then (beyond-counted (p .s)) (beyond-then (beyond-place t _)
       (beyond-then (beyond-zeroed (p .F) (p .s) (p .sys ++ new) (p .H * p .layers + sysFrom) (p .H) data-low)
       (beyond-taken sysIndexSector (p .F) (p .s) (p .sys) new (omega arith))))
 
-  pub beyond-created : (t n : ℕ) (f : File) → Beyond (λ i. createdImage p i t n f)
+  pub beyond-created : (t n : ℕ) (f : File) → Beyond (λ i. createdImage p (sysOf p) i t n f)
   unfolding createdImage
   beyond-created t n f =
       beyond-then (beyond-counted (p .s)) (beyond-then (beyond-place t _)
       (beyond-then (beyond-zeroed (p .F) (p .s) (f .slices) fileFrom (length (f .sectors)) data-low)
       (beyond-taken (sectorIn (p .F) (p .s) (f .slices) 0) (p .F) (p .s) [] (f .slices) (omega arith))))
 
-  pub beyond-changed : (t n : ℕ) (f f′ : File) → Beyond (λ i. changedImage p i t n f f′)
+  pub beyond-changed : (t n : ℕ) (f f′ : File) → Beyond (λ i. changedImage p (sysOf p) i t n f f′)
   unfolding changedImage
   beyond-changed t n f f′ = beyond-then (beyond-counted (p .s)) (beyond-then (beyond-place t _) (beyond-resized f f′))
 
-  pub beyond-renamed : (t u m : ℕ) (f f′ : File) → Beyond (λ i. renamedImage p i t u m f f′)
+  pub beyond-renamed : (t u m : ℕ) (f f′ : File) → Beyond (λ i. renamedImage p (sysOf p) i t u m f f′)
   unfolding renamedImage
   beyond-renamed t u m f f′ = beyond-then (beyond-counted (p .s)) (beyond-then (beyond-place u _) (beyond-emptied t f f′))
 
-  pub beyond-booked : (t n : ℕ) (f : File) → Beyond (λ i. bookedImage p i t n f)
+  pub beyond-booked : (t n : ℕ) (f : File) → Beyond (λ i. bookedImage p (sysOf p) i t n f)
   unfolding bookedImage
   beyond-booked t n f = beyond-place t _
 

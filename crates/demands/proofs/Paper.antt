@@ -22,9 +22,9 @@ use Rattle.plain.specs.Transput.{input, append, output, stepTransput}
 use Rattle.plain.specs.Step.{Call, Reply, userStep, operationStep, after, answers}
 use Rattle.plain.specs.Good.{Good}
 use Rattle.plain.specs.Claims.{LentWords}
-use Rattle.plain.specs.Cases.{callsOf, answersIn}
-use Rattle.plain.specs.Paper.{paperUnit, pass, slicesIn, passSlices, lookedUp, sixCalls, sevenCalls, eightCalls, sixth, seventh}
-use Rattle.plain.proofs.Paper.{paper}
+use Rattle.examples.specs.Cases.{callsOf, answersIn}
+use Rattle.examples.specs.Paper.{paperUnit, pass, slicesIn, passSlices, lookedUp, sixCalls, sevenCalls, eightCalls, sixth, seventh}
+use Rattle.examples.proofs.Paper.{paper}
 use Rattle.refine.specs.Represents.{Represents}
 use Rattle.refine.proofs.Format.{format-paper}
 use Rattle.known.specs.Known.{Known}

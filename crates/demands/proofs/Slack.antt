@@ -15,7 +15,7 @@ use Rattle.disc.specs.Slices.{taken, lastOf}
 use Rattle.disc.proofs.SliceLaws.{length-taken}
 use Rattle.map.proofs.MarkLaws.{InMap}
 use Rattle.plain.specs.Table.{Table, tableFind, tableRemove}
-use Rattle.plain.specs.Unit.{Plain, File, AreaUser, M, held, withTables}
+use Rattle.plain.specs.Unit.{Plain, File, sysOf, AreaUser, M, held, withTables}
 use Rattle.plain.specs.Questions.{Outcome}
 use Rattle.plain.specs.Catalog.{newName, slicesAfter}
 use Rattle.plain.specs.Step.{Call, Reply, step}
@@ -122,7 +122,7 @@ module _ (p : Plain) (n : ℕ) (f : File) (lent : List ℕ) where
     changed-on-kept {j} c = go (c .rewrites)
       where
         go : Rewrites i p (c .t) n m f f′ j → Same i j q
-        go (stayed e w) = rw (w ∙ ap (λ (k : ℕ). changedImage p i (c .t) k f f′) (sym e)) (changed-keep p n m f f′ old changed-resizes g′ i far (c .t) (c .inside) q off own)
+        go (stayed e w) = rw (w ∙ ap (λ (k : ℕ). changedImage p (sysOf p) i (c .t) k f f′) (sym e)) (changed-keep p n m f f′ old changed-resizes g′ i far (c .t) (c .inside) q off own)
         go (moved d u first w) = rw w (renamed-keep p n m f f′ old changed-resizes g′ i far (c .t) (c .inside) q off own u (first .inside))
 
 module _ {p : Plain} (g : Good p) {i : List ℕ} (far : 2560 ≤ length i) (q : ℕ) where

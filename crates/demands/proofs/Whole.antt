@@ -228,7 +228,7 @@ module _ {image : List ℕ} {state : State} {p : Plain} {message : Message} {len
       wrote-whole (s .good) image (s .represents .layout .size) state message lent r (step-keeps p message lent (s .good) w) (all p (s .good) (s .represents) .wrote)
 
   call-emptied : Performs image state message lent r → EmptiedZero (step p message lent .unit) (r .image)
-  call-emptied c t h e = ⊎-elim (λ z. z) (λ x. absurd (some≢none (sym (x .entered) ∙ e))) (one-call s w c .1 .represents .layout .catalog .each t h)
+  call-emptied c t h e = ⊎-elim (λ z. z) (λ x. absurd (some≢none (sym (x .entered) ∙ e))) (one-call s w c .1 .represents .layout .sys .places .each t h)
 
 pub written-whole : WrittenWhole Performs
 written-whole = record {

@@ -16,13 +16,13 @@ use Rattle.map.proofs.MarkLaws.{InMap, length-all-marked}
 use Rattle.index.specs.Block.{wholeIndex}
 use Rattle.index.proofs.BlockLaws.{length-wholeIndex}
 use Rattle.plain.specs.Table.{Table, tableFind, tablePut}
-use Rattle.plain.specs.Unit.{Plain, File, AreaUser, withFiles, withTables}
+use Rattle.plain.specs.Unit.{Plain, File, sysOf, AreaUser, withFiles, withTables}
 use Rattle.plain.specs.Catalog.{newName}
 use Rattle.plain.specs.Good.{Good}
 use Rattle.plain.proofs.TableLaws.{find-put}
-use Rattle.refine.specs.Writes.{takenImage, grownImage, createdImage, changedImage, appendedImage}
+use Rattle.refine.specs.Writes.{takenImage, createdImage, changedImage, appendedImage, grownSys}
 use Rattle.refine.proofs.Sectors.{Same, holds-kept}
-use Rattle.refine.proofs.Ground.{Ground, ground, sys-in, first-in, block-in, place-in, sys-data, file-data, sys-file, in-file}
+use Rattle.refine.proofs.Ground.{Ground, ground, joined-in, sys-ground, first-in, block-in, place-in, catalog-data, file-data, catalog-file, in-file}
 use Rattle.steps.proofs.ResizeLaws.{Resizes, resliced, remarked, resliced-cases, remarked-size}
 use Rattle.rewrite.specs.Rewrite.{Rewrites, stayed, moved}
 use Rattle.change.specs.Change as change
@@ -50,15 +50,15 @@ module _ {p : Plain} (good : Good p) (n : ℕ) (f : File) (found : tableFind n (
   g = ground p good
 
   -- the blocks lie in the file's slices
-  joined-in : (x : ℕ) → 1 ≤ x → x < length (f .sectors) + 1 → x / p .s < length (f .slices)
-  joined-in x lo hi = let z : x - 1 + 1 ≡ x = omega arith in rw z at (block-in p g n f found (x - 1) (omega arith))
+  file-joined : (x : ℕ) → 1 ≤ x → x < length (f .sectors) + 1 → x / p .s < length (f .slices)
+  file-joined x lo hi = let z : x - 1 + 1 ≡ x = omega arith in rw z at (block-in p g n f found (x - 1) (omega arith))
 
   pub system-off : Off p f sysIndexSector
   system-off = record {
     map = omega arith;
     kit = omega arith;
-    place = λ t h e. omega (arith, sys-data p g (t / 16 + sysFrom) (place-in p g t h) .0);
-    joined = λ x lo hi e. omega (arith, file-data p g n f found x (joined-in x lo hi) .0);
+    place = λ t h e. omega (arith, catalog-data (sys-ground g) (t / 16 + sysFrom) (place-in (sys-ground g) t h) .0);
+    joined = λ x lo hi e. omega (arith, file-data p g n f found x (file-joined x lo hi) .0);
   }
 
   pub system-index : OffIndex p f sysIndexSector
@@ -72,8 +72,8 @@ module _ {p : Plain} (good : Good p) (n : ℕ) (f : File) (found : tableFind n (
     index-off = record {
       map = λ e. omega (arith, index-data .0);
       kit = λ e. omega (arith, index-data .0);
-      place = λ t h e. sys-file p g n f found 0 (t / 16 + sysFrom) (first-in p g (f .slices) has) (place-in p g t h) e;
-      joined = λ x lo hi e. let z : 0 ≡ x = in-file p g n f found 0 x (first-in p g (f .slices) has) (joined-in x lo hi) e in omega arith;
+      place = λ t h e. catalog-file (sys-ground g) n f found 0 (t / 16 + sysFrom) (first-in p g (f .slices) has) (place-in (sys-ground g) t h) e;
+      joined = λ x lo hi e. let z : 0 ≡ x = in-file p g n f found 0 x (first-in p g (f .slices) has) (file-joined x lo hi) e in omega arith;
     }
 
 -- ---- SYS grows
@@ -82,11 +82,11 @@ module _ (p : Plain) (good : Good p) (new : List ℕ) (files : Table File) (area
   abbrev grown : Plain
   grown = withTables p (suc (p .layers)) (p .sys ++ new) files areas
 
-  pub grown-whole : (i : List ℕ) → 2560 ≤ length i → (t : ℕ) → t < placeCount (p .H) (p .layers) → 0 < length new → Holds (grownImage p i t new) sysIndexSector (wholeIndex (p .F) (p .s) (p .sys ++ new))
+  pub grown-whole : (i : List ℕ) → 2560 ≤ length i → (t : ℕ) → t < placeCount (p .H) (p .layers) → 0 < length new → Holds (grownSys p i t new) sysIndexSector (wholeIndex (p .F) (p .s) (p .sys ++ new))
   grown-whole i far t inside has =
       let gr : Ground grown = ground grown g′ in
       holds-kept (taken-whole i sysIndexSector (p .F) (p .s) (omega (arith, far)) (p .sys) new (g′ .sysFew) has)
-      (layer-keep p good new files areas g′ i far t inside sysIndexSector (omega arith) (λ b h e. omega (arith, sys-data grown gr b (sys-in grown gr b h) .0)))
+      (layer-keep p good new files areas g′ i far t inside sysIndexSector (omega arith) (λ b h e. omega (arith, catalog-data (sys-ground gr) b (joined-in (sys-ground gr) b (omega (arith, h))) .0)))
 
 -- ---- Create and Set
 
@@ -97,12 +97,12 @@ module _ (p : Plain) (n : ℕ) (f : File) (g′ : Good (withFiles p (tablePut n 
   far : 2560 ≤ length i
   far = omega (arith, g′ .limits .first, g′ .limits .some-data)
 
-  pub created-whole : 0 < length (f .slices) → Holds (createdImage p i t n f) (sectorIn (p .F) (p .s) (f .slices) 0) (wholeIndex (p .F) (p .s) (f .slices))
+  pub created-whole : 0 < length (f .slices) → Holds (createdImage p (sysOf p) i t n f) (sectorIn (p .F) (p .s) (f .slices) 0) (wholeIndex (p .F) (p .s) (f .slices))
   created-whole has =
       holds-kept (taken-whole i _ (p .F) (p .s) (omega (arith, index-data g′ n f here has .1)) [] (f .slices) (g′ .files n f here .few) has)
       (entered-keep p n f g′ i far t inside _ (index-off g′ n f here has))
 
-  pub created-system : Same i (createdImage p i t n f) sysIndexSector
+  pub created-system : Same i (createdImage p (sysOf p) i t n f) sysIndexSector
   created-system = created-keep p n f g′ i far t inside sysIndexSector (system-off g′ n f here) (system-index g′ n f here)
 
 -- ---- Change
@@ -135,7 +135,7 @@ module _ (p : Plain) (n : ℕ) (f : File) (lent : List ℕ) (old : InMap (f .sli
 
       go : Rewrites i p (c .t) n m f f′ j → Holds j q (wholeIndex (p .F) (p .s) (f′ .slices))
       go (stayed e w) =
-          rw (w ∙ ap (λ (k : ℕ). changedImage p i (c .t) k f f′) (sym e)) (holds-kept stored (rewritten-keep p n m f f′ old (changed-resizes p n f lent) g′ i long (c .t) (c .inside) q off))
+          rw (w ∙ ap (λ (k : ℕ). changedImage p (sysOf p) i (c .t) k f f′) (sym e)) (holds-kept stored (rewritten-keep p n m f f′ old (changed-resizes p n f lent) g′ i long (c .t) (c .inside) q off))
       go (moved x u first w) = rw w (holds-kept stored (moved-keep p n m f f′ old (changed-resizes p n f lent) g′ i long (c .t) (c .inside) q off u (first .inside)))
 
 -- ---- Output

@@ -1,5 +1,5 @@
 -- Section 'Worked on paper' on the image: P5 to P8 begin with Format, whatever stood on the image before, go on with Init and the calls
--- of `Rattle.plain.specs.Paper`, and are read from the words of the image and from what Look-up hands out.
+-- of `Rattle.examples.specs.Paper`, and are read from the words of the image and from what Look-up hands out.
 use mathlib.Core.Path.{_≡_}
 use mathlib.Core.Bool.{false}
 use mathlib.Core.List.{List, [], _∷_}
@@ -12,8 +12,8 @@ use Rattle.disc.specs.Words.{word, Words, Holds}
 use Rattle.disc.specs.Kit.{kitSector, mapSector}
 use Rattle.plain.specs.Step.{Call, Reply, after, answers}
 use Rattle.plain.specs.Claims.{LentWords}
-use Rattle.plain.specs.Cases.{Case, callsOf, expected, answersIn, Shows}
-use Rattle.plain.specs.Paper.{paperUnit, pass, sixCalls, sevenCalls, eightCalls}
+use Rattle.examples.specs.Cases.{Case, callsOf, expected, answersIn, Shows}
+use Rattle.examples.specs.Paper.{paperUnit, pass, sixCalls, sevenCalls, eightCalls}
 use Rattle.sound.specs.State.{Shaped}
 use Rattle.refine.specs.Represents.{Represents}
 use Rattle.refine.specs.Demands.{Performed, Run}

@@ -11,7 +11,7 @@ use Rattle.disc.specs.Stretches.{sectorIn}
 use Rattle.disc.specs.Entries.{entryWords, indexSector}
 
 -- a list of three words
-three-words : (P : List ℕ → Type 0) (l : List ℕ) → length l ≡ 3 → ((x y z : ℕ) → P (x ∷ y ∷ z ∷ [])) → P l
+pub three-words : (P : List ℕ → Type 0) (l : List ℕ) → length l ≡ 3 → ((x y z : ℕ) → P (x ∷ y ∷ z ∷ [])) → P l
 three-words P [] e f = absurd (omega arith)
 three-words P (x ∷ []) e f = absurd (omega arith)
 three-words P (x ∷ y ∷ []) e f = absurd (omega arith)

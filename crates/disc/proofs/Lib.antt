@@ -5,6 +5,7 @@ pub mod WordLaws
 pub mod NameLaws
 pub mod CapitalLaws
 pub mod SliceLaws
+pub mod TakenLaws
 pub mod StretchLaws
 pub mod Geometry
 pub mod EntryLaws

@@ -1,11 +1,11 @@
 -- Laws of counting slices, the sum of free and held slices, and the taking of slices.
-use mathlib.Core.Path.{_≡_, refl, sym, ap, _∙_}
+use mathlib.Core.Path.{_≡_, refl, ap}
 use mathlib.Core.List.{List, [], _∷_, _++_}
 use mathlib.Core.Logic.{_≢_}
-use Prim.Native.Nat.{ℕ, zero, suc, _+_, _≤_, _<_, compare, Ordering, Ordering·lt, Ordering·eq, Ordering·gt}
+use Prim.Native.Nat.{ℕ, zero, suc, _+_, _-_, _≤_, _<_, compare, Ordering, Ordering·lt, Ordering·eq, Ordering·gt}
 use native.Mathlib.Omega.{arith}
-use lib.ListN.{length}
-use Rattle.disc.specs.Slices.{oneIfSame, occurrences, oneIfBelow, inUnit, InRangeOnce, oneIfNone, freeCount, firstIf, lowestFrom, nextOr, choose, taken}
+use lib.ListN.{length, take, drop, length-append, length-take, take-append-drop}
+use Rattle.disc.specs.Slices.{oneIfSame, occurrences, oneIfBelow, inUnit, InRangeOnce, oneIfNone, freeCount, firstIf, lowestFrom, nextOr, choose, taken, lastOf}
 use Rattle.disc.proofs.Compare.{Tri, less, same, more, tri, tri-less, tri-more, tri-same}
 
 pub same-le : (o : Ordering) → oneIfSame o ≤ 1
@@ -68,6 +68,19 @@ occurrences-other j k h d = go (compare j k) (tri j k)
 pub occurrences-append : (k : ℕ) (s t : List ℕ) → occurrences k (s ++ t) ≡ occurrences k s + occurrences k t
 occurrences-append k [] t = omega arith
 occurrences-append k (x ∷ s) t = omega (arith, occurrences-append k s t)
+
+pub occurrences-take : (k c : ℕ) (l : List ℕ) → occurrences k (take c l) ≤ occurrences k l
+occurrences-take k c l = omega (arith, ap (occurrences k) (take-append-drop c l), occurrences-append k (take c l) (drop c l))
+
+-- the first ones kept, and as many taken as are wanted beyond those there are
+pub length-after : (l l′ new : List ℕ) (count : ℕ) → length new ≡ count - length l → l′ ≡ take count l ++ new → length l′ ≡ count
+length-after l l′ new count len e = omega (arith, ap length e, length-append (take count l) new, length-take count l)
+
+-- the last of a longer list
+pub last-snoc : (l : List ℕ) (k : ℕ) → lastOf (l ++ (k ∷ [])) ≡ k
+last-snoc [] k = refl
+last-snoc (x ∷ []) k = refl
+last-snoc (x ∷ y ∷ l) k = last-snoc (y ∷ l) k
 
 -- the sum of `occurrences` over 1 to m
 abbrev total : ℕ → List ℕ → ℕ

@@ -10,3 +10,4 @@ pub mod Kit
 pub mod Map
 pub mod Entries
 pub mod Pairs
+pub mod Catalog

@@ -23,11 +23,6 @@ module _ (image : List ℕ) (F s : ℕ) (slices : List ℕ) where
   pub in-sector : (t : ℕ) → SameWords (sysPlaces image F s slices) t (sectorPlaces image (sectorIn F s slices (t / 16))) (t % 16)
   in-sector t = record { words = λ w h. ap (λ (b : ℕ). word image (sectorIn F s slices b) (t % 16 * 16 + w)) (add-zero (t / 16)) }
 
-  -- a word of place t, read in that sector
-  pub place-word : (t w : ℕ) {q v : ℕ} → q ≡ sectorIn F s slices (t / 16) → v ≡ word image q (t % 16 * 16 + w) → v ≡ sysPlaces image F s slices t w
-  place-word t w e f =
-      f ∙ ap (λ (x : ℕ). word image x (t % 16 * 16 + w)) e ∙ ap (λ (b : ℕ). word image (sectorIn F s slices b) (t % 16 * 16 + w)) (sym (add-zero (t / 16)))
-
   -- place i of block b
   pub in-block : (b i : ℕ) → i < 16 → SameWords (sysPlaces image F s slices) (16 * b + i) (sectorPlaces image (sectorIn F s slices b)) i
   in-block b i h =

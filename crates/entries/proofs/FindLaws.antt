@@ -1,107 +1,59 @@
--- Laws of the search for a name: sector by sector of its key, place by place.
-use mathlib.Core.Path.{_≡_, sym, ap, _∙_, subst}
+-- What a search of SYS finds, by the numbers of its places.
+use mathlib.Core.Path.{_≡_, refl, sym, ap, ap₂, _∙_}
 use mathlib.Core.List.{List}
-use Prim.Native.Nat.{ℕ, _+_, _*_, _/_, _%_, _≤_, _<_, compare, Ordering}
+use Prim.Native.Nat.{ℕ, _*_, _≤_}
 use native.Mathlib.Omega.{arith}
-use native.Mathlib.Nat.{div-add-mod', mul-le-mul-right, mod-le, mod-mod, add-mod-right}
+use lib.ListN.{length}
 use Rattle.disc.specs.Names.{keyOf}
+use Rattle.disc.specs.Stretches.{blockSector, sysFrom}
 use Rattle.disc.specs.Entries.{nameAt}
-use Rattle.disc.specs.Stretches.{sectorIn}
-use Rattle.disc.specs.Decide.{Decides}
-use Rattle.disc.proofs.Compare.{Tri, less, same, more, tri, below-or}
-use Rattle.disc.proofs.DecideLaws.{holds, fails}
-use Rattle.sound.specs.Sound.{sysPlaces}
-use Rattle.entries.specs.declared.Found.{Found}
-use Rattle.entries.specs.declared.Found.the-variants.{At, Nothing}
-use Rattle.entries.specs.Legal.{sectorPlaces}
-use Rattle.entries.specs.Found.{Stands, FirstAt, NoneAt, FoundIs, wordOf, SomeAt, NameSought, SlotIs}
-use Rattle.entries.proofs.PlaceLaws.{name-moved}
-use Rattle.entries.proofs.BlockLaws.{in-block}
+use Rattle.disc.proofs.IndexLaws.{slicesAt-above}
+use Rattle.catalog.specs.declared.Catalog.{Catalog}
+use Rattle.catalog.specs.declared.Place.{Place}
+use Rattle.catalog.specs.declared.Found.{Found}
+use Rattle.catalog.specs.declared.Found.the-variants.{At, Nothing}
+use Rattle.catalog.specs.Catalog.{sysValue, placeNamed, NamePlace}
+use Rattle.catalog.proofs.PlaceLaws.{LiesIn, FirstWith, NoneWith, named-at, named-nothing}
+use Rattle.kit.specs.declared.Geometry.{Geometry}
+use Rattle.entries.specs.Sys.{sysSlices, placesIn, SysOf, SysIn}
+use Rattle.entries.proofs.SysLaws.{sys-few, sys-inside}
 
--- r is the first place of block b that has the name n, or 16
-pub record BlockSlot (P : ℕ → ℕ → ℕ) (n b r : ℕ) : Type 0 where
-  pub here : r < 16 → nameAt P (16 * b + r) ≡ n
-  pub before : (i : ℕ) → i < r → nameAt P (16 * b + i) ≡ n → ⊥
+-- SYS is a catalog in its slices
+pub sys-lies : {image : List ℕ} {g : Geometry} {L : ℕ} → SysOf image g → g .keys * L ≤ g .slice * length (sysSlices image g)
+    → LiesIn image (sysValue (g .keys) L) (g .first .0) (g .slice) (sysSlices image g)
+sys-lies {image} {g} sys room = record {
+  pos = omega (arith, sys .unit .limits .slice-low);
+  few = sys-few sys;
+  above = slicesAt-above image (g .first .0) (g .slice) 6;
+  holds = sys .index .pairs;
+  words = λ b h. omega (arith, sys-inside sys b h, sys .unit .limits .sectors);
+  room = omega arith;
+}
 
-pub slot-block : (image : List ℕ) (F s : ℕ) (slices : List ℕ) (n b : ℕ) {q r : ℕ} → q ≡ sectorIn F s slices b → SlotIs (sectorPlaces image q) n r
-    → BlockSlot (sysPlaces image F s slices) n b r
-slot-block image F s slices n b {q} {r} e l =
-    let m : SlotIs (sectorPlaces image (sectorIn F s slices b)) n r = subst (λ (x : ℕ). SlotIs (sectorPlaces image x) n r) e l in
-    record {
-      here = λ h. name-moved (in-block image F s slices b r h) ∙ m .here h;
-      before = λ i h x. m .before i h (sym (name-moved (in-block image F s slices b i (omega (arith, l .upto)))) ∙ x);
-    }
+pub sys-in : {image : List ℕ} {g : Geometry} {c : Catalog} {L : ℕ} → SysOf image g → c ≡ sysValue (g .keys) L → g .keys * L ≤ g .slice * length (sysSlices image g)
+    → SysIn image g c
+sys-in sys e room = rw e (record { sys = sys; is = refl; room = room })
 
--- a place of block b with the name
-in-slot : {P : ℕ → ℕ → ℕ} {n b r : ℕ} → BlockSlot P n b r → (u : ℕ) → u / 16 ≡ b → u % 16 < r → nameAt P u ≡ n → ⊥
-in-slot {P} {b = b} l u e h x =
-    let f : u ≡ 16 * b + u % 16 = omega arith in
-    l .before (u % 16) h (ap (nameAt P) (sym f) ∙ x)
+pub in-keys : {image : List ℕ} {g : Geometry} {c : Catalog} → SysIn image g c → c .keys ≡ g .keys
+in-keys sys = ap (λ (x : Catalog). x .keys) (sys .is)
 
--- two numbers with the same rest that are less than the divisor apart
-near : (H x b : ℕ) → b ≤ x → x < b + H → x % H ≡ b % H → x ≡ b
-near H x b low high e = go (compare (x / H) (b / H)) (tri (x / H) (b / H))
-  where
-    go : (o : Ordering) → Tri (x / H) (b / H) o → x ≡ b
-    go o (less h) = absurd (omega (arith, div-add-mod' x H, div-add-mod' b H, mul-le-mul-right H h))
-    go o (same h) = omega (arith, div-add-mod' x H, div-add-mod' b H, ap (λ (y : ℕ). y * H) h)
-    go o (more h) = absurd (omega (arith, div-add-mod' x H, div-add-mod' b H, mul-le-mul-right H h))
+pub some-key : {image : List ℕ} {g : Geometry} {c : Catalog} → SysIn image g c → 1 ≤ c .keys
+some-key sys = omega (arith, in-keys sys, sys .sys .unit .limits .keys-low)
 
--- no place in the blocks before block b, a block of the name's key, has the name
-pub record Searched (P : ℕ → ℕ → ℕ) (H n b : ℕ) : Type 0 where
-  pub key : b % H ≡ keyOf H n
-  pub before : (u : ℕ) → u / 16 < b → Stands P H n u → ⊥
+-- the first place with the name n in the sectors of its key, and that there is none
+abbrev pub FirstNamed : List ℕ → Geometry → ℕ → ℕ → Place → Type 0
+FirstNamed image g L n p =
+    FirstWith (λ t. nameAt (placesIn image g) t ≡ n) (blockSector (g .first .0) (g .slice) (sysSlices image g) sysFrom) (g .keys) L (keyOf (g .keys) n) p
 
-module _ {P : ℕ → ℕ → ℕ} {H n : ℕ} where
-  pub searched-none : {b : ℕ} → b ≡ keyOf H n → Searched P H n b
-  searched-none {b} e =
-      record {
-        key = ap (λ (x : ℕ). x % H) e ∙ mod-mod _ H;
-        before = λ u h s. omega (arith, mod-le (u / 16) H, s .key);
-      }
+abbrev pub NoneNamed : List ℕ → Geometry → ℕ → ℕ → Type 0
+NoneNamed image g L n = NoneWith (λ t. nameAt (placesIn image g) t ≡ n) (g .keys) L (keyOf (g .keys) n)
 
-  module _ {b r : ℕ} (so : Searched P H n b) (slot : BlockSlot P n b r) where
-    pub searched-more : 16 ≤ r → Searched P H n (b + H)
-    searched-more full =
-        record {
-          key = add-mod-right b H ∙ so .key;
-          before = λ u h s. below-or (u / 16) b
-              (λ l. so .before u l s)
-              (λ ge. in-slot slot u (near H (u / 16) b ge h (s .key ∙ sym (so .key))) (omega arith) (s .named));
-        }
+module _ {image : List ℕ} {g : Geometry} {c : Catalog} (sys : SysIn image g c) {n m : ℕ} (same : n ≡ m) {r : Found} (found : NamePlace image c n r) where
+  sought : {f : Found} → r ≡ f → placeNamed image (sysValue (g .keys) (c .layers)) m ≡ f
+  sought e = sym (found .place ∙ ap₂ (placeNamed image) (sys .is) same) ∙ e
 
-    pub searched-found : {blocks : ℕ} → b < blocks → r < 16 → FirstAt P H n (16 * blocks) (16 * b + r)
-    searched-found hb hr =
-        let e : (16 * b + r) / 16 ≡ b = omega arith in
-        record {
-          inside = omega arith;
-          here = record { key = ap (λ (x : ℕ). x % H) e ∙ so .key; named = slot .here hr };
-          before = λ u h s. below-or (u / 16) b
-              (λ l. so .before u l s)
-              (λ ge. in-slot slot u (omega arith) (omega arith) (s .named));
-        }
+  pub sys-at : {p : Place} → r ≡ At p → FirstNamed image g (c .layers) m p
+  sys-at {p} e = named-at image (sysValue (g .keys) (c .layers)) (g .first .0) (g .slice) (sysSlices image g) (sys-lies (sys .sys) (sys .room)) m (sys .sys .unit .limits .keys-low) p (sought e)
 
-  pub searched-done : {b blocks : ℕ} → Searched P H n b → blocks ≤ b → NoneAt P H n (16 * blocks)
-  searched-done so h = record { none = λ u l. so .before u (omega arith) }
-
-  -- what the search promises of a place and of none
-  pub sought-at : {count t : ℕ} → FirstAt P H n count t → NameSought P H n count (At t)
-  sought-at {t = t} f =
-      let some : SomeAt P H n _ = record { place = t; inside = f .inside; here = f .here } in
-      record { place = f; sound = holds some; areaSound = holds some }
-
-  pub sought-none : {count : ℕ} → NoneAt P H n count → NameSought P H n count Nothing
-  sought-none f = record { place = f; sound = fails (λ s. f .none (s .place) (s .inside) (s .here)); areaSound = fails (λ s. f .none (s .place) (s .inside) (s .here)) }
-
-  pub found-at : {count t : ℕ} {r : Found} → r ≡ At t → FoundIs P H n count r → FirstAt P H n count t
-  found-at {count} e f = subst (λ (x : Found). FoundIs P H n count x) e f
-
-  pub found-none : {count : ℕ} {r : Found} → r ≡ Nothing → FoundIs P H n count r → NoneAt P H n count
-  found-none {count} e f = subst (λ (x : Found). FoundIs P H n count x) e f
-
-  -- the same name, written otherwise
-  pub first-as : {m count t : ℕ} → n ≡ m → FirstAt P H n count t → FirstAt P H m count t
-  first-as {count = count} {t} e f = subst (λ (x : ℕ). FirstAt P H x count t) e f
-
-  pub none-as : {m count : ℕ} → n ≡ m → NoneAt P H n count → NoneAt P H m count
-  none-as {count = count} e f = subst (λ (x : ℕ). NoneAt P H x count) e f
+  pub sys-none : r ≡ Nothing → NoneNamed image g (c .layers) m
+  sys-none e = named-nothing image (sysValue (g .keys) (c .layers)) (g .first .0) (g .slice) (sysSlices image g) (sys-lies (sys .sys) (sys .room)) m (sys .sys .unit .limits .keys-low) (sought e)

@@ -1,18 +1,24 @@
 -- The names are sound exactly if every place is legal, SYS and MAP were met, and every name is alone.
 use mathlib.Core.Path.{_≡_, sym, ap, _∙_}
 use mathlib.Core.List.{List}
-use mathlib.Core.Logic.{_↔_}
-use Prim.Native.Nat.{ℕ, _≤_, _<_}
+use Prim.Native.Nat.{ℕ, _/_, _%_, _≤_, _<_}
 use native.Mathlib.Omega.{arith}
 use lib.Dec.{lit<}
 use Rattle.disc.specs.Names.{keyOf, SYS, MAP}
-use Rattle.disc.specs.Entries.{nameAt, sysEntry, mapEntry}
+use Rattle.disc.specs.Entries.{placeCount, nameAt, sysEntry, mapEntry}
 use Rattle.sound.specs.Places.{Used}
 use Rattle.sound.specs.Parts.{SoundNames}
+use Rattle.catalog.specs.declared.Catalog.{Catalog}
+use Rattle.catalog.specs.declared.Place.{Place}
+use Rattle.catalog.specs.declared.Found.{Found}
+use Rattle.catalog.specs.declared.Found.the-variants.{At, Nothing}
+use Rattle.catalog.specs.Catalog.{NamePlace}
+use Rattle.kit.specs.declared.Geometry.{Geometry}
+use Rattle.entries.specs.Sys.{placesIn, SysIn}
 use Rattle.entries.specs.Legal.{HoldsEntry, PlacesLegal}
-use Rattle.entries.specs.Found.{Stands, FirstAt, NoneAt}
 use Rattle.entries.specs.Names.{Met, NamesLegal, NamesAlone}
 use Rattle.entries.proofs.PlaceLaws.{unused-name}
+use Rattle.entries.proofs.FindLaws.{sys-at, sys-none}
 
 -- a place with a name is used
 pub named-used : (P : ℕ → ℕ → ℕ) (t : ℕ) → 1 ≤ nameAt P t → Used P t
@@ -62,11 +68,10 @@ module _ (P : ℕ → ℕ → ℕ) (H s L : ℕ) (slices : List ℕ) (count : �
     sound-alone = record { alone = n .alone }
 
     -- SYS stands in a sector of its key
-    pub sound-stands : Stands P H SYS (n .sysEntered .place)
-    sound-stands =
+    pub sound-key : n .sysEntered .place / 16 % H ≡ keyOf H SYS
+    sound-key =
         let p = n .sysEntered in
-        let k = n .legal (p .place) (p .inside) (named-used P (p .place) (omega (arith, sound-sys))) .key in
-        record { key = k ∙ ap (keyOf H) sound-sys; named = sound-sys }
+        n .legal (p .place) (p .inside) (named-used P (p .place) (omega (arith, sound-sys))) .key ∙ ap (keyOf H) sound-sys
 
   pub names-sound : NamesLegal P H (sysEntry H s L slices) count → NamesAlone P count → SoundNames H s L slices P count
   names-sound l a =
@@ -79,18 +84,17 @@ module _ (P : ℕ → ℕ → ℕ) (H s L : ℕ) (slices : List ℕ) (count : �
         alone = a .alone;
       }
 
-  pub names-parts : SoundNames H s L slices P count ↔ (NamesLegal P H (sysEntry H s L slices) count × NamesAlone P count)
-  names-parts = (λ n. (sound-legal n, sound-alone n), λ x. names-sound (x .0) (x .1))
-
 -- ---- what the search for SYS or MAP says, where every place is legal
 
-module _ {P : ℕ → ℕ → ℕ} {H : ℕ} {count : ℕ} {n x : ℕ} (e : n ≡ x) where
-  pub met : {t : ℕ} → FirstAt P H n count t → Met P x count
-  met {t} f = record { place = t; inside = f .inside; named = f .here .named ∙ e }
+module _ {image : List ℕ} {g : Geometry} {c : Catalog} (sys : SysIn image g c) {count : ℕ} (all : count ≡ placeCount (g .keys) (c .layers))
+    {n x : ℕ} (same : n ≡ x) {r : Found} (found : NamePlace image c n r) where
+  abbrev places : ℕ → ℕ → ℕ
+  places = placesIn image g
 
-  pub not-met : {sys : List ℕ} → 1 ≤ x → PlacesLegal P H sys count → NoneAt P H n count → Met P x count → ⊥
-  not-met p l none m =
-      none .none (m .place) (m .inside) (record {
-        key = l .each (m .place) (m .inside) .key (named-used P (m .place) (omega (arith, m .named))) ∙ ap (keyOf H) (m .named ∙ sym e);
-        named = m .named ∙ sym e;
-      })
+  pub met : {p : Place} → r ≡ At p → Met places x count
+  met e = let f = sys-at sys same found e in record { place = f .place; inside = omega (arith, f .inside); named = f .has }
+
+  pub not-met : {own : List ℕ} → 1 ≤ x → PlacesLegal places (g .keys) own count → r ≡ Nothing → Met places x count → ⊥
+  not-met some l e m =
+      let key = l .each (m .place) (m .inside) .key (named-used places (m .place) (omega (arith, m .named))) in
+      sys-none sys same found e .lacks (m .place) (omega (arith, m .inside)) (key ∙ ap (keyOf (g .keys)) (m .named)) (m .named)

@@ -7,11 +7,11 @@ use native.Mathlib.Nat.{div-mul-le-self, mul-le-mul-left, mul-comm}
 use native.Mathlib.Numerals.{add-one}
 use lib.ListN.{length}
 use Rattle.disc.specs.Words.{word}
-use Rattle.disc.specs.Stretches.{sectorIn}
+use Rattle.disc.specs.Stretches.{stretchCount, sectorIn}
 use Rattle.disc.specs.Pairs.{pairLength, pairStart}
 use Rattle.disc.proofs.SliceLaws.{sum-law}
 use Rattle.disc.proofs.IndexLaws.{index-pairs}
-use Rattle.disc.proofs.WalkLaws.{sectorsBefore, walk-sector, walk-total, walk-more, walk-within, sector-inside}
+use Rattle.disc.proofs.WalkLaws.{sectorsBefore, walk-sector, walk-more, walk-within, sector-inside}
 use Rattle.kit.specs.declared.Geometry.{Geometry}
 use Rattle.entries.specs.Sys.{sysSlices, SysOf}
 
@@ -34,17 +34,17 @@ module _ {image : List ℕ} {g : Geometry} (sys : SysOf image g) where
       let i = sector-inside (g .first .0) (g .slice) (g .slices) (sysSlices image g) pos (sys .once) b h in
       omega (arith, i .1, ap (λ (m : ℕ). m * g .slice) (sys .unit .slices), div-mul-le-self (g .sectors - g .first .0) (g .slice), sys .unit .limits .some-data)
 
-  pub sys-total : sectorsBefore image 6 (word image 6 0) ≡ g .slice * length (sysSlices image g)
-  sys-total = walk-total image (g .first .0) (g .slice) 6 pos (sys .index .few) (sys .index .pairs)
+  pub sys-few : stretchCount (sysSlices image g) ≤ 127
+  sys-few = omega (arith, sys .index .few, sys .index .pairs .at 0 (omega arith) (omega arith))
 
-  pub sys-sector : (j c : ℕ) → j < word image 6 0 → c < pairLength image 6 j
+  sys-sector : (j c : ℕ) → j < word image 6 0 → c < pairLength image 6 j
       → sectorIn (g .first .0) (g .slice) (sysSlices image g) (sectorsBefore image 6 j + c) ≡ pairStart image 6 j + c
   sys-sector = walk-sector image (g .first .0) (g .slice) 6 pos (sys .index .few) (sys .index .pairs)
 
-  pub sys-more : (j : ℕ) → j ≤ word image 6 0 → sectorsBefore image 6 j < g .slice * length (sysSlices image g) → j < word image 6 0
+  sys-more : (j : ℕ) → j ≤ word image 6 0 → sectorsBefore image 6 j < g .slice * length (sysSlices image g) → j < word image 6 0
   sys-more = walk-more image (g .first .0) (g .slice) 6 pos (sys .index .few) (sys .index .pairs)
 
-  pub sys-within : (j : ℕ) → j < word image 6 0 → sectorsBefore image 6 j + pairLength image 6 j ≤ g .slice * length (sysSlices image g)
+  sys-within : (j : ℕ) → j < word image 6 0 → sectorsBefore image 6 j + pairLength image 6 j ≤ g .slice * length (sysSlices image g)
   sys-within = walk-within image (g .first .0) (g .slice) 6 pos (sys .index .few) (sys .index .pairs)
 
   -- SYS's sectors are some of the data sectors
@@ -82,15 +82,3 @@ module _ {image : List ℕ} {g : Geometry} (sys : SysOf image g) where
     where
       x′ : b ≡ sectorsBefore image 6 j → n ≡ pairLength image 6 j → b + n ≡ sectorsBefore image 6 (suc j)
       x′ x z = omega arith
-
-  -- block b lies past pair j, or in it
-  pub pass-pair : {b n rest : ℕ} (j : ℕ) → j < word image 6 0 → sectorsBefore image 6 j + rest ≡ b → b < g .slice * length (sysSlices image g)
-      → n ≡ pairLength image 6 j → n ≤ rest → (j + 1 < word image 6 0) × (sectorsBefore image 6 (j + 1) + (rest - n) ≡ b)
-  pass-pair {b} {n} {rest} j h e lt f le =
-      let z : sectorsBefore image 6 (j + 1) ≡ sectorsBefore image 6 j + pairLength image 6 j = ap (sectorsBefore image 6) (add-one j) in
-      (sys-more (j + 1) (omega arith) (omega arith), omega arith)
-
-  pub in-pair : {b n rest start : ℕ} (j : ℕ) → j < word image 6 0 → sectorsBefore image 6 j + rest ≡ b → n ≡ pairLength image 6 j → rest < n → start ≡ pairStart image 6 j
-      → (start + rest ≡ sectorIn (g .first .0) (g .slice) (sysSlices image g) b) × (start + rest < g .sectors)
-  in-pair {rest = rest} j h e f lt i =
-      (ap (λ (x : ℕ). x + rest) i ∙ sym (sys-sector j rest h (omega arith)) ∙ ap (sectorIn (g .first .0) (g .slice) (sysSlices image g)) e, omega (arith, pair-inside j h))

@@ -1,7 +1,7 @@
 -- A legal place, by its words: of a sector, of a run of sectors, of all of SYS.
 use mathlib.Core.Path.{_≡_}
 use mathlib.Core.List.{List}
-use Prim.Native.Nat.{ℕ, _+_, _*_, _/_, _%_, _<_}
+use Prim.Native.Nat.{ℕ, _+_, _*_, _/_, _%_, _≤_, _<_}
 use lib.ListN.{getD}
 use lib.Dec.{T}
 use Rattle.types.specs.declared.Name.{Name}
@@ -10,7 +10,9 @@ use Rattle.disc.specs.Names.{legalName, keyOf, SYS, MAP}
 use Rattle.disc.specs.Kit.{sysIndexSector}
 use Rattle.disc.specs.Entries.{nameAt, systemEntry, mapEntry}
 use Rattle.sound.specs.Places.{Used}
-use Rattle.entries.specs.declared.Catalog.{Catalog}
+use Rattle.kit.specs.declared.Geometry.{Geometry}
+use Rattle.entries.specs.declared.Expected.{Expected}
+use Rattle.entries.specs.Sys.{SysIn}
 
 -- The sixteen places of sector q: "Entry, 16 words".
 abbrev pub sectorPlaces : List ℕ → ℕ → ℕ → ℕ → ℕ
@@ -30,8 +32,8 @@ pub record HoldsEntry (P : ℕ → ℕ → ℕ) (t : ℕ) (entry : List ℕ) : T
   pub at : (w : ℕ) → w < 16 → P t w ≡ getD entry w 0
 
 -- SYS's own entry: "SYS has length H times L", and its reserved sectors.
-unfoldable pub ownEntry : Catalog → List ℕ
-ownEntry c = systemEntry SYS (c .size) sysIndexSector (c .reserved)
+unfoldable pub ownEntry : Expected → List ℕ
+ownEntry e = systemEntry SYS (e .size) sysIndexSector (e .reserved)
 
 -- "SYS and MAP are entered with attributes 8010h, zero optional and tail, index 6 and 7": a place with one of the two names
 -- holds its entry.
@@ -48,3 +50,9 @@ pub record PlaceLegal (P : ℕ → ℕ → ℕ) (H k : ℕ) (sys : List ℕ) (t 
 -- The first `count` places of SYS.
 pub record PlacesLegal (P : ℕ → ℕ → ℕ) (H : ℕ) (sys : List ℕ) (count : ℕ) : Type 0 where
   pub each : (t : ℕ) → t < count → PlaceLegal P H (t / 16 % H) sys t
+
+-- What is known of the first `size` sectors of SYS while they are judged, and of what they are judged by: "SYS has length H times L".
+pub record Judging (image : List ℕ) (g : Geometry) (e : Expected) (size : ℕ) : Type 0 where
+  pub catalog : SysIn image g (e .catalog)
+  pub whole : e .size ≡ g .keys * e .catalog .layers
+  pub room : size ≤ e .size

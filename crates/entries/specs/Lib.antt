@@ -1,4 +1,3 @@
 pub mod Sys
 pub mod Legal
-pub mod Found
 pub mod Names

@@ -10,7 +10,12 @@ use Rattle.disc.specs.Names.{SYS, MAP}
 use Rattle.disc.specs.Entries.{placeCount, nameAt}
 use Rattle.sound.specs.Places.{Used}
 use Rattle.sound.specs.Parts.{SoundNames}
-use Rattle.entries.specs.Found.{FirstAt, NoneAt}
+use Rattle.catalog.specs.declared.Catalog.{Catalog}
+use Rattle.catalog.specs.declared.Found.{Found}
+use Rattle.catalog.specs.declared.Found.the-variants.{At, Nothing}
+use Rattle.catalog.specs.Catalog.{sysValue, entryWord, placeNamed}
+use Rattle.kit.specs.declared.Geometry.{Geometry}
+use Rattle.entries.specs.Sys.{sysSlices, placesIn}
 use Rattle.entries.specs.Legal.{PlacesLegal}
 
 -- Some place has the name n.
@@ -33,17 +38,19 @@ pub record NamesAlone (P : ℕ → ℕ → ℕ) (count : ℕ) : Type 0 where
 abbrev pub layersBy : ℕ → ℕ → ℕ → ℕ → ℕ
 layersBy H s count size = cond (eqb (size / H * H) size && eqb (ceilDiv size s) count) (size / H) 0
 
--- The places of the complete layers that fit SYS's slices: "SYS has H times L sectors".
-abbrev pub fullPlaces : ℕ → ℕ → List ℕ → ℕ
-fullPlaces H s slices = 16 * (s * length slices / H * H)
+-- SYS with all complete layers that fit its slices: "SYS has H times L sectors".
+abbrev pub fullSys : List ℕ → Geometry → Catalog
+fullSys image g = sysValue (g .keys) (g .slice * length (sysSlices image g) / g .keys)
 
--- r is read from SYS's own entry, the first place there with its name; 0 if there is none.
-pub data LayersRead (H s : ℕ) (slices : List ℕ) (P : ℕ → ℕ → ℕ) (r : ℕ) : Type 0 where
-  nowhere : NoneAt P H SYS (fullPlaces H s slices) → r ≡ 0 → LayersRead H s slices P r
-  entered : (t : ℕ) → FirstAt P H SYS (fullPlaces H s slices) t → r ≡ layersBy H s (length slices) (P t 7) → LayersRead H s slices P r
+-- L as SYS's own entry says it, in the place where a search found it; 0 if it found none.
+abbrev pub layersIn : List ℕ → Geometry → Found → ℕ
+layersIn image g (At place) = layersBy (g .keys) (g .slice) (length (sysSlices image g)) (entryWord image place 7)
+layersIn image g Nothing = 0
 
--- So r is a number of layers that fits SYS's slices, or 0; and no other number of layers has sound names.
-pub record LayersOf (H s : ℕ) (slices : List ℕ) (P : ℕ → ℕ → ℕ) (r : ℕ) : Type 0 where
-  pub read : LayersRead H s slices P r
-  pub fits : (r ≡ 0 → ⊥) → (1 ≤ r) × (length slices ≡ ceilDiv (H * r) s)
-  pub only : (L : ℕ) → 1 ≤ L → length slices ≡ ceilDiv (H * L) s → SoundNames H s L slices P (placeCount H L) → r ≡ L
+-- r is read from the first place named SYS. So it is a number of layers that fits SYS's slices, or 0; and no other number of layers
+-- has sound names.
+pub record LayersOf (image : List ℕ) (g : Geometry) (r : ℕ) : Type 0 where
+  pub read : r ≡ layersIn image g (placeNamed image (fullSys image g) SYS)
+  pub fits : (r ≡ 0 → ⊥) → (1 ≤ r) × (length (sysSlices image g) ≡ ceilDiv (g .keys * r) (g .slice))
+  pub only : (L : ℕ) → 1 ≤ L → length (sysSlices image g) ≡ ceilDiv (g .keys * L) (g .slice)
+      → SoundNames (g .keys) (g .slice) L (sysSlices image g) (placesIn image g) (placeCount (g .keys) L) → r ≡ L

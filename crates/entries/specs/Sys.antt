@@ -1,11 +1,15 @@
 -- SYS as its entries are judged: its slices, its places, and what is known of them by then.
+use mathlib.Core.Path.{_≡_}
 use mathlib.Core.List.{List}
-use Prim.Native.Nat.{ℕ}
+use Prim.Native.Nat.{ℕ, _*_, _≤_}
+use lib.ListN.{length}
 use Rattle.disc.specs.Slices.{InRangeOnce}
 use Rattle.disc.specs.Stretches.{slicesAt}
 use Rattle.disc.specs.Kit.{sysIndexSector}
 use Rattle.sound.specs.Places.{IndexBlock}
 use Rattle.sound.specs.Sound.{sysPlaces}
+use Rattle.catalog.specs.declared.Catalog.{Catalog}
+use Rattle.catalog.specs.Catalog.{sysValue}
 use Rattle.kit.specs.declared.Geometry.{Geometry}
 use Rattle.kit.specs.Geometry.{UnitOf}
 
@@ -22,3 +26,9 @@ pub record SysOf (image : List ℕ) (g : Geometry) : Type 0 where
   pub unit : UnitOf image g
   pub index : IndexBlock image (g .first .0) (g .slice) sysIndexSector
   pub once : InRangeOnce (g .slices) (sysSlices image g)
+
+-- The catalog is SYS, and its slices have room for the layers.
+pub record SysIn (image : List ℕ) (g : Geometry) (c : Catalog) : Type 0 where
+  pub sys : SysOf image g
+  pub is : c ≡ sysValue (g .keys) (c .layers)
+  pub room : g .keys * c .layers ≤ g .slice * length (sysSlices image g)

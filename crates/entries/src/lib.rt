@@ -5,53 +5,28 @@ ghost use Prim.Native.Nat.{_+_, _*_, _/_, _%_, _≤_, _<_, min};
 ghost use lib.ListN.{length};
 ghost use Rattle.disc.specs.Decide.{Decides};
 ghost use Rattle.disc.specs.Names.{pack, keyOf};
-ghost use Rattle.disc.specs.Kit.{sysIndexSector};
-ghost use Rattle.disc.specs.Stretches.{sectorIn};
-ghost use Rattle.disc.specs.Pairs.{pairLength, pairStart};
 ghost use Rattle.disc.specs.Entries.{systemEntry};
 ghost use Rattle.names.specs.Classes.{ClassesOf};
 ghost use Rattle.sound.specs.Places.{Unused};
-ghost use Rattle.entries.specs.Legal.{sectorPlaces, NameIn, HoldsEntry, ownEntry, SystemLegal, PlaceLegal, PlacesLegal};
-ghost use Rattle.entries.specs.Found.{NameSought, SlotIs};
+ghost use Rattle.entries.specs.Legal.{sectorPlaces, NameIn, HoldsEntry, ownEntry, SystemLegal, PlaceLegal, PlacesLegal, Judging};
 ghost use Rattle.entries.specs.Names.{NamesLegal, LayersOf};
 ghost use Rattle.entries.specs.Sys.{sysSlices, placesIn, SysOf};
+use catalog::Catalog;
+use catalog::Found;
 use kit::Geometry;
-use types::Block;
 use types::Name;
 use types::Sector;
 
 // An inverse is so many times one.
 const SCALE: u32 = 0x8000_0000;
 
-// What the places of SYS are judged by: the number of keys with its inverse, and the length and the reserved sectors that SYS's entry
-// must say.
-pub struct Catalog {
-    pub keys: u16,
+// What is expected of the places of SYS: the catalog that they are of, the inverse of its number of keys, and the length and the reserved
+// sectors that SYS's entry must say.
+pub struct Expected {
+    pub catalog: Catalog,
     pub inverse: u32,
     pub size: u16,
     pub reserved: u16,
-}
-
-// Where a name stands among the places of SYS: the place's number, counted over all sectors.
-pub enum Found {
-    At(u32),
-    Nothing,
-}
-
-// The length in sectors of pair j of SYS's index block.
-pub fn pair_length(image: &[u16], j: usize) -> u16
-    requires { ⌜ j ≤ 127 ⌝ }
-    ensures { λ r. ⌜ r ≡ pairLength (now (image .entry)) sysIndexSector j ⌝ }
-{
-    words::word(image, Sector(6), 2 * j + 1)
-}
-
-// The first sector of pair j of SYS's index block.
-pub fn pair_start(image: &[u16], j: usize) -> Sector
-    requires { ⌜ j ≤ 127 ⌝ }
-    ensures { λ r. ⌜ r .0 ≡ pairStart (now (image .entry)) sysIndexSector j ⌝ }
-{
-    Sector(words::word(image, Sector(6), 2 * j + 2))
 }
 
 // The sectors of all of SYS's slices.
@@ -59,30 +34,7 @@ pub fn sys_sectors(image: &[u16], g: Geometry) -> u16
     requires { ⌜ SysOf (now image) g ⌝ }
     ensures { λ r. ⌜ r ≡ g .slice * length (sysSlices (now (image .entry)) g) ⌝ }
 {
-    let count = words::word(image, Sector(6), 0) as usize;
-    let mut sum = 0;
-    let mut j = 0;
-    while j < count {
-        sum += pair_length(image, j);
-        j += 1;
-    }
-    sum
-}
-
-// The sector of block b of SYS, found pair by pair.
-fn sector_of(image: &[u16], g: Geometry, b: Block) -> Sector
-    requires { ⌜ SysOf (now image) g × (b .0 < g .slice * length (sysSlices (now image) g)) ⌝ }
-    ensures { λ r. ⌜ r .0 ≡ sectorIn (g .first .0) (g .slice) (sysSlices (now (image .entry)) g) (b .0) ⌝ }
-{
-    let mut rest = b.0;
-    let mut j = 0;
-    let mut n = pair_length(image, 0);
-    while n <= rest {
-        rest -= n;
-        j += 1;
-        n = pair_length(image, j);
-    }
-    Sector(pair_start(image, j).0 + rest)
+    index::sector_total_at(image, Sector(6)) as u16
 }
 
 // Whether the sixteen words of place i of sector q are 0; the bits of all are gathered, with no exit on the way.
@@ -162,12 +114,20 @@ fn is_entry(
 }
 
 // Whether place i of sector q, if its name is SYS or MAP, holds that entry.
-fn named_legal(image: &[u16], q: Sector, i: usize, name: Name, catalog: Catalog) -> bool
+fn named_legal(image: &[u16], q: Sector, i: usize, name: Name, expected: Expected) -> bool
     requires { ⌜ (q .0 * 256 + 256 ≤ length (now image)) × (i < 16) × NameIn (sectorPlaces (now image) (q .0)) i name ⌝ }
-    ensures { λ r. ⌜ Decides r (SystemLegal (sectorPlaces (now (image .entry)) (q .0)) (ownEntry catalog) i) ⌝ }
+    ensures { λ r. ⌜ Decides r (SystemLegal (sectorPlaces (now (image .entry)) (q .0)) (ownEntry expected) i) ⌝ }
 {
     if names::same_name(name, names::sys_name()) {
-        return is_entry(image, q, i, name, catalog.size, Sector(6), catalog.reserved);
+        return is_entry(
+            image,
+            q,
+            i,
+            name,
+            expected.size,
+            Sector(6),
+            expected.reserved,
+        );
     }
     if names::same_name(name, names::map_name()) {
         return is_entry(image, q, i, name, 1, Sector(7), 1);
@@ -176,12 +136,12 @@ fn named_legal(image: &[u16], q: Sector, i: usize, name: Name, catalog: Catalog)
 }
 
 // The same: by the first word, as few other names begin with that of SYS or MAP.
-fn system_legal(image: &[u16], q: Sector, i: usize, name: Name, catalog: Catalog) -> bool
+fn system_legal(image: &[u16], q: Sector, i: usize, name: Name, expected: Expected) -> bool
     requires { ⌜ (q .0 * 256 + 256 ≤ length (now image)) × (i < 16) × NameIn (sectorPlaces (now image) (q .0)) i name ⌝ }
-    ensures { λ r. ⌜ Decides r (SystemLegal (sectorPlaces (now (image .entry)) (q .0)) (ownEntry catalog) i) ⌝ }
+    ensures { λ r. ⌜ Decides r (SystemLegal (sectorPlaces (now (image .entry)) (q .0)) (ownEntry expected) i) ⌝ }
 {
     if names::begins_as_system(name) {
-        return named_legal(image, q, i, name, catalog);
+        return named_legal(image, q, i, name, expected);
     }
     true
 }
@@ -196,13 +156,13 @@ pub fn inverse(keys: u16) -> u32
 
 // Whether a name is of the key. A product with the inverse guesses the quotient; the sum is divided only if the guess does not
 // show the key.
-fn has_key(name: Name, key: u16, catalog: Catalog) -> bool
-    requires { ⌜ key < catalog .keys ⌝ }
-    ensures { λ r. ⌜ Decides r (key ≡ keyOf (catalog .keys) (pack (name .0) (name .1) (name .2))) ⌝ }
+fn has_key(name: Name, key: u16, expected: Expected) -> bool
+    requires { ⌜ key < expected .catalog .keys ⌝ }
+    ensures { λ r. ⌜ Decides r (key ≡ keyOf (expected .catalog .keys) (pack (name .0) (name .1) (name .2))) ⌝ }
 {
-    let keys = catalog.keys;
+    let keys = expected.catalog.keys;
     let sum = std::num::wrapping_add_u16(std::num::wrapping_add_u16(name.0, name.1), name.2);
-    let quotient = sum as u64 * catalog.inverse as u64 / SCALE as u64;
+    let quotient = sum as u64 * expected.inverse as u64 / SCALE as u64;
     if quotient * keys as u64 + key as u64 == sum as u64 {
         return true;
     }
@@ -215,11 +175,11 @@ pub fn place_legal(
     q: Sector,
     i: usize,
     key: u16,
-    catalog: Catalog,
+    expected: Expected,
     classes: &[u8; 256],
 ) -> bool
-    requires { ⌜ (q .0 * 256 + 256 ≤ length (now image)) × (i < 16) × (key < catalog .keys) × ClassesOf (now classes) ⌝ }
-    ensures { λ r. ⌜ Decides r (PlaceLegal (sectorPlaces (now (image .entry)) (q .0)) (catalog .keys) key (ownEntry catalog) i) ⌝ }
+    requires { ⌜ (q .0 * 256 + 256 ≤ length (now image)) × (i < 16) × (key < expected .catalog .keys) × ClassesOf (now classes) ⌝ }
+    ensures { λ r. ⌜ Decides r (PlaceLegal (sectorPlaces (now (image .entry)) (q .0)) (expected .catalog .keys) key (ownEntry expected) i) ⌝ }
 {
     let name = place_name(image, q, i);
     if name.0 == 0 {
@@ -228,10 +188,10 @@ pub fn place_legal(
     if !names::legal_by(name, classes) {
         return false;
     }
-    if !has_key(name, key, catalog) {
+    if !has_key(name, key, expected) {
         return false;
     }
-    system_legal(image, q, i, name, catalog)
+    system_legal(image, q, i, name, expected)
 }
 
 // The key after a key, 0 after the last.
@@ -255,47 +215,16 @@ pub fn lesser(a: u16, b: u16) -> u16
     b
 }
 
-// The first place of sector q that has the name, or 16.
-fn find_in(image: &[u16], q: Sector, name: Name) -> usize
-    requires { ⌜ q .0 * 256 + 256 ≤ length (now image) ⌝ }
-    ensures { λ r. ⌜ SlotIs (sectorPlaces (now (image .entry)) (q .0)) (pack (name .0) (name .1) (name .2)) r ⌝ }
-{
-    let mut i = 0;
-    while i < 16 {
-        if names::same_name(place_name(image, q, i), name) {
-            return i;
-        }
-        i += 1;
-    }
-    i
-}
-
-// The first place of the name in the sectors of its key, among the first `blocks` sectors of SYS.
-pub fn find(image: &[u16], g: Geometry, name: Name, blocks: u16) -> Found
-    requires { ⌜ SysOf (now image) g × (blocks ≤ g .slice * length (sysSlices (now image) g)) ⌝ }
-    ensures { λ r. ⌜ NameSought (placesIn (now (image .entry)) g) (g .keys) (pack (name .0) (name .1) (name .2)) (16 * blocks) r ⌝ }
-{
-    let keys = g.keys;
-    let mut b = Block(numbers::key(name, keys));
-    while b.0 < blocks {
-        let i = find_in(image, sector_of(image, g, b), name);
-        if i < 16 {
-            return Found::At(16 * b.0 as u32 + i as u32);
-        }
-        b = Block(b.0 + keys);
-    }
-    Found::Nothing
-}
-
 // Whether SYS and MAP are entered too, where every place of SYS is legal.
-pub fn system_entered(image: &[u16], g: Geometry, catalog: Catalog) -> bool
-    requires { ⌜ SysOf (now image) g × (catalog .size ≤ g .slice * length (sysSlices (now image) g)) × PlacesLegal (placesIn (now image) g) (g .keys) (ownEntry catalog) (16 * catalog .size) ⌝ }
-    ensures { λ r. ⌜ Decides r (NamesLegal (placesIn (now (image .entry)) g) (g .keys) (ownEntry catalog) (16 * catalog .size)) ⌝ }
+pub fn system_entered(image: &[u16], g: Geometry, expected: Expected) -> bool
+    requires { ⌜ Judging (now image) g expected (expected .size) × PlacesLegal (placesIn (now image) g) (g .keys) (ownEntry expected) (16 * expected .size) ⌝ }
+    ensures { λ r. ⌜ Decides r (NamesLegal (placesIn (now (image .entry)) g) (g .keys) (ownEntry expected) (16 * expected .size)) ⌝ }
 {
-    let Found::At(_) = find(image, g, names::sys_name(), catalog.size) else {
+    let sys = expected.catalog;
+    let Found::At(_) = catalog::find(image, sys, names::sys_name()) else {
         return false;
     };
-    let Found::At(_) = find(image, g, names::map_name(), catalog.size) else {
+    let Found::At(_) = catalog::find(image, sys, names::map_name()) else {
         return false;
     };
     true
@@ -304,15 +233,15 @@ pub fn system_entered(image: &[u16], g: Geometry, catalog: Catalog) -> bool
 // The number of SYS's layers, by the first entry of SYS in the complete layers that fit its slices; 0 if it fits no number.
 pub fn find_layers(image: &[u16], g: Geometry) -> u16
     requires { ⌜ SysOf (now image) g ⌝ }
-    ensures { λ r. ⌜ LayersOf (g .keys) (g .slice) (sysSlices (now (image .entry)) g) (placesIn (now (image .entry)) g) r ⌝ }
+    ensures { λ r. ⌜ LayersOf (now (image .entry)) g r ⌝ }
 {
     let keys = g.keys;
     let reserved = sys_sectors(image, g);
-    let Found::At(t) = find(image, g, names::sys_name(), reserved / keys * keys) else {
+    let full = catalog::sys(keys, reserved / keys);
+    let Found::At(place) = catalog::find(image, full, names::sys_name()) else {
         return 0;
     };
-    let q = sector_of(image, g, Block((t / 16) as u16));
-    let size = words::word(image, q, (t % 16) as usize * 16 + 7);
+    let size = catalog::entry_word(image, place, 7);
     let layers = size / keys;
     if layers * keys != size {
         return 0;

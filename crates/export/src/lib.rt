@@ -326,7 +326,7 @@ fn step(state: UnitState, image: &mut [u16], lent: &mut [u16], message: UnitMess
         };
     };
     let own = state_of(state);
-    let o = lent::drive(own, image, lent, asked);
+    let o = perform::perform(image, own, asked, lent);
     let next = o.state;
     let answer = o.answer;
     UnitOutcome {

@@ -534,8 +534,8 @@ fn stretches_sound(
     let mut b: u16 = 0;
     let mut j: usize = 0;
     while b < size {
-        let n = entries::lesser(entries::pair_length(image, j), size - b);
-        let start = entries::pair_start(image, j);
+        let n = entries::lesser(index::pair_length(image, Sector(6), j), size - b);
+        let start = index::pair_start(image, Sector(6), j);
         if !run_sound(
             image,
             start.0 as usize * 256,

@@ -1,44 +1,26 @@
--- What the block of a file says of its slices, and SYS's block; the free word is a word.
-use mathlib.Core.Path.{_≡_, ap, _∙_}
+-- SYS's block; the free word is a word.
+use mathlib.Core.Path.{_≡_, _∙_}
 use mathlib.Core.List.{List, [], _∷_}
 use Prim.Native.Nat.{ℕ, _+_, _*_, _≤_, _<_}
 use native.Mathlib.Omega.{arith}
 use lib.ListN.{length, getD}
 use Rattle.disc.specs.Words.{Words}
-use Rattle.disc.specs.Slices.{lastOf}
-use Rattle.disc.specs.Stretches.{stretchCount}
 use Rattle.disc.specs.Map.{onesInMap}
 use Rattle.words.specs.Store.{store}
 use Rattle.words.proofs.StoreLaws.{store-in}
-use Rattle.index.specs.Block.{wholeIndex, blockAt, pairCount, sliceTotal, lastSlice}
-use Rattle.index.proofs.BlockLaws.{holds-wholeIndex}
-use Rattle.index.proofs.ReadLaws.{read-count, read-block, read-total, read-last}
+use Rattle.index.specs.Block.{blockAt}
+use Rattle.index.proofs.ReadLaws.{read-block}
 use Rattle.plain.specs.Unit.{Plain, M}
 use Rattle.refine.specs.OnDisc.{OnDisc}
 use Rattle.refine.specs.Writes.{countedFree}
 use Rattle.unit.proofs.OpenLaws.{on-catalog, sys-once}
-use Rattle.writes.specs.Writes.{FileBlock}
-use Rattle.writes.proofs.WriteLaws.{slice-in}
-use Rattle.writes.proofs.FileLaws.{unit-file}
-
-module _ {image block : List ℕ} {F s m : ℕ} {slices : List ℕ} (file : FileBlock image block F s m slices) where
-  pub block-count : pairCount block 0 ≡ stretchCount slices
-  block-count = ap (λ (w : List ℕ). pairCount w 0) (file .words) ∙ read-count (wholeIndex F s slices) F s 0 slices (file .few) (holds-wholeIndex F s slices)
-
-  pub block-total : sliceTotal s block 0 ≡ length slices
-  block-total =
-      ap (λ (w : List ℕ). sliceTotal s w 0) (file .words)
-      ∙ read-total (wholeIndex F s slices) F s 0 slices (file .few) (holds-wholeIndex F s slices) (omega (arith, file .size))
-
-  pub block-last : lastSlice F s block 0 ≡ lastOf slices
-  block-last =
-      ap (λ (w : List ℕ). lastSlice F s w 0) (file .words)
-      ∙ read-last (wholeIndex F s slices) F s 0 slices (file .few) (holds-wholeIndex F s slices) (omega (arith, file .size)) (λ j x. slice-in file j x .0)
+use Rattle.slices.specs.FileBlock.{FileBlock}
+use Rattle.slices.proofs.BlockLaws.{unit-file}
 
 -- SYS's block, as it is read
 pub sys-file : {image block : List ℕ} {p : Plain} → OnDisc image p → block ≡ blockAt image 6 → FileBlock image block (p .F) (p .s) (M p) (p .sys)
 sys-file {image} {block} {p} on e =
-    unit-file image block (p .sys) (on .good .limits) (on .layout .size) (e ∙ read-block image (p .F) (p .s) 6 (p .sys) (on .good .sysFew) (on .layout .sysIndex))
+    unit-file image block (p .sys) (on .good .limits) (on .layout .size) (e ∙ read-block image (p .F) (p .s) 6 (p .sys) (on .good .sysFew) (on .layout .sys .index))
     (on .good .sysFew) (sys-once (on-catalog on))
 
 -- where the image with its free word counted is one of words, the free word fits

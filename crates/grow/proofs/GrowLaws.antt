@@ -1,7 +1,7 @@
 -- SYS's growth on the image of a unit: what its steps ask for, and that they leave the grown unit's image.
 use mathlib.Core.Path.{_≡_, refl, sym, ap, ap₂, _∙_}
 use mathlib.Core.List.{List, _++_}
-use mathlib.Core.Option.{none, some}
+use mathlib.Core.Option.{none}
 use Prim.Native.Nat.{ℕ, suc, _+_, _*_, _-_, _%_, _≤_, _<_}
 use native.Mathlib.Omega.{arith}
 use native.Mathlib.Nat.{mul-comm, mul-le-mul-right}
@@ -12,6 +12,7 @@ use Rattle.disc.specs.Names.{SYS}
 use Rattle.disc.specs.Stretches.{sysFrom}
 use Rattle.disc.specs.Map.{onesInMap}
 use Rattle.disc.specs.Entries.{systemEntry, sysEntry}
+use Rattle.disc.specs.Catalog.{placeSector}
 use Rattle.disc.proofs.SliceLaws.{sum-law}
 use Rattle.words.specs.Store.{store}
 use Rattle.words.proofs.StoreLaws.{length-store}
@@ -20,68 +21,74 @@ use Rattle.catalog.specs.declared.Place.{Place}
 use Rattle.catalog.specs.declared.Found.{Found}
 use Rattle.catalog.specs.declared.Found.the-variants.{At, Nothing}
 use Rattle.catalog.specs.Catalog.{placeStart}
-use Rattle.plain.specs.Unit.{Plain, M, held, entry}
+use Rattle.plain.specs.Unit.{Plain, sysOf, M, held, entry}
 use Rattle.plain.specs.Taking.{taking}
 use Rattle.plain.proofs.TableLaws.{some≢none}
 use Rattle.plain.proofs.UnitLaws.{entry-sys}
-use Rattle.plain.proofs.TakingLaws.{sys-count}
+use Rattle.plain.proofs.GrowUnit.{grown-good}
+use Rattle.plain.specs.Good.{Good}
 use Rattle.refine.specs.OnDisc.{OnDisc}
-use Rattle.refine.specs.Writes.{countedFree, placeSector, storePlace, zeroedSectors, takenImage, grownImage}
-use Rattle.refine.proofs.Ground.{Ground, ground, part-sys}
-use Rattle.steps.proofs.WriteLaws.{part-sectors}
-use Rattle.steps.proofs.GrowStep.{grown-good, grow-on}
+use Rattle.refine.specs.Writes.{countedFree, storePlace, zeroedSectors, takenImage, layeredImage, grownImage, grownSys}
+use Rattle.refine.proofs.Ground.{Ground, ground, sys-ground}
+use Rattle.steps.proofs.WriteLaws.{part-sectors, zeroed-size}
+use Rattle.steps.proofs.GrowStep.{grow-on}
+use Rattle.steps.specs.Units.{layerSlices, grownUnit}
 use Rattle.unit.specs.declared.Opened.{Opened}
 use Rattle.unit.specs.Opened.{NumbersOf, Searchable}
 use Rattle.unit.specs.Find.{NameAt, FindsName}
 use Rattle.unit.proofs.OpenLaws.{on-catalog}
 use Rattle.unit.proofs.FindLaws.{place-room}
-use Rattle.writes.specs.Writes.{CanZeroFrom, CanZero, Zeroed, CanLengthenFrom, CanLengthen, LengthenedAt}
-use Rattle.writes.proofs.WriteLaws.{length-zeroed, length-taken-image, longer-file}
-use Rattle.steps.specs.Units.{layerSlices, grownUnit}
-use Rattle.grow.specs.Grow.{CanGrowFrom, layeredImage, LayerAdded, GrownFrom}
-use Rattle.grow.proofs.BlockLaws.{block-total, sys-file, counted-word}
+use Rattle.slices.specs.Take.{CanLengthenFrom, CanLengthen, LengthenedAt}
+use Rattle.slices.specs.Zero.{CanZeroFrom, CanZero, Zeroed}
+use Rattle.slices.proofs.BlockLaws.{block-total}
+use Rattle.slices.proofs.StoreLaws.{length-taken-image, longer-file}
+use Rattle.grow.specs.Grow.{CanGrowFrom, LayerAdded, withLayers, GrownFrom}
+use Rattle.grow.proofs.BlockLaws.{sys-file, counted-word}
 
 module _ {image : List ℕ} {o : Opened} {p : Plain} (can : CanGrowFrom image o p) where
   num : NumbersOf o p
   num = can .numbers
 
   abbrev more : ℕ
-  more = taking p (suc (p .layers)) 0 0 .forSys
+  more = taking p (sysOf p) (suc (p .layers)) 0 0 .forCatalog
 
   gr : Ground p
   gr = ground p (can .on .good)
 
+  good′ : Good (grownUnit p)
+  good′ = grown-good p (suc (p .layers)) (can .on .good) (can .room) (omega arith) (can .few)
+
   gr′ : Ground (grownUnit p)
-  gr′ = ground (grownUnit p) (grown-good (can .on) (can .room) (can .few))
+  gr′ = ground (grownUnit p) good′
 
   -- ---- numbers
 
   layer-count : length (p .sys ++ layerSlices p) ≡ ceilDiv (p .H * suc (p .layers)) (p .s)
-  layer-count = sys-count p (suc (p .layers)) (can .on .good) (omega arith)
+  layer-count = good′ .sysCount
 
   -- SYS's sectors are those of a unit
   small : p .H * suc (p .layers) + 10 ≤ 32767
-  small = omega (arith, gr′ .sysCover, part-sectors (grownUnit p) gr′ (p .sys ++ layerSlices p) (part-sys (grownUnit p) gr′), mul-comm (p .s) (length (p .sys ++ layerSlices p)))
+  small = omega (arith, gr′ .sysCover, part-sectors (grownUnit p) gr′ (p .sys ++ layerSlices p) (sys-ground gr′ .part), mul-comm (p .s) (length (p .sys ++ layerSlices p)))
 
-  pub layers-small : o .layers + 1 < 32768
-  layers-small = omega (arith, small, num .layers, mul-le-mul-right (suc (p .layers)) (can .on .good .limits .keys-low))
+  pub layers-small : o .catalog .layers + 1 < 32768
+  layers-small = omega (arith, small, num .catalog .layers, mul-le-mul-right (suc (p .layers)) (can .on .good .limits .keys-low))
 
-  pub blocks-small : o .keys * (o .layers + 1) < 32768
-  blocks-small = rw (num .keys, num .layers, add-one (p .layers)) (omega (arith, small))
+  pub blocks-small : o .catalog .keys * (o .catalog .layers + 1) < 32768
+  blocks-small = rw (num .catalog .keys, num .catalog .layers, add-one (p .layers)) (omega (arith, small))
 
-  pub from-small : o .keys * o .layers < 32768
+  pub from-small : o .catalog .keys * o .catalog .layers < 32768
   from-small = omega (arith, blocks-small)
 
-  slices-is : ceilDiv (o .keys * (o .layers + 1)) (o .slice) ≡ length (p .sys ++ layerSlices p)
-  slices-is = rw (num .keys, num .slice, num .layers, add-one (p .layers)) (sym layer-count)
+  slices-is : ceilDiv (o .catalog .keys * (o .catalog .layers + 1)) (o .slice) ≡ length (p .sys ++ layerSlices p)
+  slices-is = rw (num .catalog .keys, num .slice, num .catalog .layers, add-one (p .layers)) (sym layer-count)
 
-  pub reserved-small : o .slice * ceilDiv (o .keys * (o .layers + 1)) (o .slice) < 32768
-  reserved-small = rw (slices-is, num .slice) (omega (arith, part-sectors (grownUnit p) gr′ (p .sys ++ layerSlices p) (part-sys (grownUnit p) gr′)))
+  pub reserved-small : o .slice * ceilDiv (o .catalog .keys * (o .catalog .layers + 1)) (o .slice) < 32768
+  reserved-small = rw (slices-is, num .slice) (omega (arith, part-sectors (grownUnit p) gr′ (p .sys ++ layerSlices p) (sys-ground gr′ .part)))
 
-  pub slices-small : ceilDiv (o .keys * (o .layers + 1)) (o .slice) < 32768
+  pub slices-small : ceilDiv (o .catalog .keys * (o .catalog .layers + 1)) (o .slice) < 32768
   slices-small =
       let n : ℕ = length (p .sys ++ layerSlices p) in
-      omega (arith, slices-is, part-sectors (grownUnit p) gr′ (p .sys ++ layerSlices p) (part-sys (grownUnit p) gr′), mul-le-mul-right n (can .on .good .limits .slice-low))
+      omega (arith, slices-is, part-sectors (grownUnit p) gr′ (p .sys ++ layerSlices p) (sys-ground gr′ .part), mul-le-mul-right n (can .on .good .limits .slice-low))
 
   pub slice-low : 2 ≤ o .slice
   slice-low = omega (arith, num .slice, can .on .good .limits .slice-low)
@@ -89,12 +96,12 @@ module _ {image : List ℕ} {o : Opened} {p : Plain} (can : CanGrowFrom image o 
   -- ---- SYS's slices
 
   had : {block : List ℕ} → block ≡ blockAt image 6 → sliceTotal (o .slice) block 0 ≡ length (p .sys)
-  had {block} e = ap (λ (s : ℕ). sliceTotal s block 0) (num .slice) ∙ block-total (sys-file (can .on) e)
+  had {block} e = ap (λ (s : ℕ). sliceTotal s block 0) (num .slice) ∙ block-total (sys-file (can .on) e .own)
 
   pub had-small : {block : List ℕ} → block ≡ blockAt image 6 → sliceTotal (o .slice) block 0 < 65536
-  had-small e = omega (arith, had e, part-sectors p gr (p .sys) (part-sys p gr), mul-le-mul-right (length (p .sys)) (can .on .good .limits .slice-low))
+  had-small e = omega (arith, had e, part-sectors p gr (p .sys) (sys-ground gr .part), mul-le-mul-right (length (p .sys)) (can .on .good .limits .slice-low))
 
-  pub more-is : {block : List ℕ} {n : ℕ} → block ≡ blockAt image 6 → n ≡ ceilDiv (o .keys * (o .layers + 1)) (o .slice) - sliceTotal (o .slice) block 0 → n ≡ more
+  pub more-is : {block : List ℕ} {n : ℕ} → block ≡ blockAt image 6 → n ≡ ceilDiv (o .catalog .keys * (o .catalog .layers + 1)) (o .slice) - sliceTotal (o .slice) block 0 → n ≡ more
   more-is e q = q ∙ ap₂ (λ (a b : ℕ). a - b) (slices-is ∙ layer-count) (had e)
 
   pub more-small : more < 65536
@@ -106,7 +113,7 @@ module _ {image : List ℕ} {o : Opened} {p : Plain} (can : CanGrowFrom image o 
     map = can .on .layout .map;
     once = can .on .good .once;
     enough = can .room;
-    part = part-sys p gr;
+    part = sys-ground gr .part;
     few = can .few;
   }
 
@@ -136,18 +143,18 @@ module _ {image : List ℕ} {o : Opened} {p : Plain} (can : CanGrowFrom image o 
       room = λ some. omega (arith, gr′ .sysCover, mul-comm (p .s) (length (p .sys ++ layerSlices p)));
     }
 
-    pub can-zero : CanZero taken longer (o .keys * o .layers) (o .keys)
+    pub can-zero : CanZero taken longer (o .catalog .keys * o .catalog .layers) (o .catalog .keys)
     can-zero = record {
       F = p .F;
       s = p .s;
       m = M p;
       slices = p .sys ++ layerSlices p;
-      can = rw (num .keys, num .layers) zero-own;
+      can = rw (num .catalog .keys, num .catalog .layers) zero-own;
     }
 
-    pub layer-added : {after : List ℕ} → Zeroed taken longer (o .keys * o .layers) (o .keys) after → after ≡ layeredImage p image
+    pub layer-added : {after : List ℕ} → Zeroed taken longer (o .catalog .keys * o .catalog .layers) (o .catalog .keys) after → after ≡ layeredImage p (sysOf p) image (layerSlices p)
     layer-added {after} z =
-        let own : Zeroed taken longer (p .H * p .layers) (p .H) after = rw (num .keys, num .layers) at z in
+        let own : Zeroed taken longer (p .H * p .layers) (p .H) after = rw (num .catalog .keys, num .catalog .layers) at z in
         let from : p .H * p .layers ≡ p .H * p .layers + sysFrom = omega arith in
         own .all (p .F) (p .s) (M p) (p .sys ++ layerSlices p) zero-own
         ∙ ap₂ (λ (l : List ℕ) (b : ℕ). zeroedSectors l (p .F) (p .s) (p .sys ++ layerSlices p) b (p .H)) (took-is .0) from
@@ -157,9 +164,9 @@ module _ {image : List ℕ} {o : Opened} {p : Plain} (can : CanGrowFrom image o 
   pub searchable : Searchable image o
   searchable = record { unit = p; on = on-catalog (can .on); numbers = num }
 
-  length-layered : length (layeredImage p image) ≡ length image
+  length-layered : length (layeredImage p (sysOf p) image (layerSlices p)) ≡ length image
   length-layered =
-      length-zeroed (takenImage image 6 (p .F) (p .s) (p .sys) (layerSlices p)) (p .F) (p .s) (p .sys ++ layerSlices p) (p .H * p .layers + sysFrom) (p .H)
+      zeroed-size (takenImage image 6 (p .F) (p .s) (p .sys) (layerSlices p)) (p .F) (p .s) (p .sys ++ layerSlices p) (p .H * p .layers + sysFrom) (p .H)
       ∙ length-taken-image image 6 (p .F) (p .s) (p .sys) (layerSlices p)
 
   module _ {n : ℕ} {found : Found} (is : n ≡ SYS) (finds : FindsName image o n found) where
@@ -181,16 +188,16 @@ module _ {image : List ℕ} {o : Opened} {p : Plain} (can : CanGrowFrom image o 
         place-inside = omega (arith, place-room (on-catalog (can .on)) (at .is), ap length (added .all p can), length-layered)
 
         module _ {entered : List ℕ} {size reserved : ℕ} (stored : entered ≡ store layered (placeStart place) (systemEntry SYS size 6 reserved))
-            (long : size ≡ o .keys * (o .layers + 1)) (booked : reserved ≡ o .slice * ceilDiv (o .keys * (o .layers + 1)) (o .slice)) where
-          entered-is : entered ≡ storePlace p (layeredImage p image) t (sysEntry (p .H) (p .s) (suc (p .layers)) (p .sys ++ layerSlices p))
+            (long : size ≡ o .catalog .keys * (o .catalog .layers + 1)) (booked : reserved ≡ o .slice * ceilDiv (o .catalog .keys * (o .catalog .layers + 1)) (o .slice)) where
+          entered-is : entered ≡ storePlace p (sysOf p) (layeredImage p (sysOf p) image (layerSlices p)) t (sysEntry (p .H) (p .s) (suc (p .layers)) (p .sys ++ layerSlices p))
           entered-is =
-              let start : placeStart place ≡ placeSector p t * 256 + t % 16 * 16 = ap₂ (λ (q i : ℕ). q * 256 + i * 16) (at .is .sector) (at .is .slot) in
-              let a : size ≡ p .H * suc (p .layers) = rw (← num .keys, ← add-one (p .layers), ← num .layers) long in
+              let start : placeStart place ≡ placeSector (p .F) (p .s) (sysOf p) t * 256 + t % 16 * 16 = ap₂ (λ (q i : ℕ). q * 256 + i * 16) (at .is .sector) (at .is .slot) in
+              let a : size ≡ p .H * suc (p .layers) = rw (← num .catalog .keys, ← add-one (p .layers), ← num .catalog .layers) long in
               let b : reserved ≡ p .s * length (p .sys ++ layerSlices p) = booked ∙ ap₂ (λ (s c : ℕ). s * c) (num .slice) slices-is in
               stored ∙ ap₂ (λ (l : List ℕ) (i : ℕ). store l i (systemEntry SYS size 6 reserved)) (added .all p can) start
-              ∙ ap₂ (λ (x y : ℕ). store (layeredImage p image) (placeSector p t * 256 + t % 16 * 16) (systemEntry SYS x 6 y)) a b
+              ∙ ap₂ (λ (x y : ℕ). store (layeredImage p (sysOf p) image (layerSlices p)) (placeSector (p .F) (p .s) (sysOf p) t * 256 + t % 16 * 16) (systemEntry SYS x 6 y)) a b
 
-          on-grown : OnDisc (grownImage p image t (layerSlices p)) (grownUnit p)
+          on-grown : OnDisc (grownSys p image t (layerSlices p)) (grownUnit p)
           on-grown = grow-on (can .on) (can .room) (can .few) t (at .is .inside) (at .named ∙ is)
 
           pub can-count : (2560 ≤ length entered) × (o .slice * onesInMap entered < 65536)
@@ -215,11 +222,12 @@ module _ {image : List ℕ} {o : Opened} {p : Plain} (can : CanGrowFrom image o 
   grown-on g = rw (g .written) (grow-on (can .on) (can .room) (can .few) (g .place) (g .inside) (g .named))
 
   -- the numbers of the grown unit
-  pub grown-numbers : (r : Opened) → r .keys ≡ o .keys → r .slice ≡ o .slice → r .first .0 ≡ o .first .0 → r .slices ≡ o .slices → r .layers ≡ o .layers + 1 → NumbersOf r (grownUnit p)
-  grown-numbers r a b c d e = record {
-    keys = a ∙ num .keys;
-    slice = b ∙ num .slice;
-    first = c ∙ num .first;
-    slices = d ∙ num .slices;
-    layers = e ∙ ap (λ (l : ℕ). l + 1) (num .layers) ∙ add-one (p .layers);
-  }
+  pub grown-numbers : (r : Opened) → r ≡ withLayers o (o .catalog .layers + 1) → NumbersOf r (grownUnit p)
+  grown-numbers r e =
+      let c = num .catalog in
+      rw e (record {
+        slice = num .slice;
+        first = num .first;
+        slices = num .slices;
+        catalog = record { index = c .index; from = c .from; keys = c .keys; layers = ap (λ (l : ℕ). l + 1) (c .layers) ∙ add-one (p .layers) };
+      })

@@ -1,6 +1,6 @@
 -- Questions 7 and 8: the plain unit's answer by the three tests, and what the code's tests say of them.
 use mathlib.Core.Path.{_≡_, refl, sym, ap, ap₂, _∙_}
-use mathlib.Core.Bool.{true, false, not}
+use mathlib.Core.Bool.{Bool, true, false, not}
 use mathlib.Core.List.{List, _++_}
 use Prim.Native.Nat.{ℕ, _+_, _*_, _-_, _≤_, _<_}
 use native.Mathlib.Omega.{arith}
@@ -18,46 +18,45 @@ use Rattle.disc.proofs.SliceLaws.{sum-law}
 use Rattle.disc.proofs.Compare.{below-or}
 use Rattle.disc.proofs.DecideLaws.{refutes, grants}
 use Rattle.map.proofs.CountLaws.{ones-free}
-use Rattle.index.specs.Block.{blockAt, sliceTotal, lastSlice}
-use Rattle.plan.specs.declared.Growth.{Growth}
-use Rattle.plan.specs.declared.Fit.{Fit}
-use Rattle.plan.specs.Plan.{CanPlanFrom, CanPlan, Planned}
+use Rattle.index.specs.Block.{blockAt, sliceTotal}
 use Rattle.plain.specs.Table.{Table}
-use Rattle.plain.specs.Unit.{Plain, File, M, held, freeSlices, withTables}
+use Rattle.plain.specs.Unit.{Plain, File, M, held, freeSlices, withTables, sysOf}
 use Rattle.plain.specs.Questions.{Outcome, replies, done}
 use Rattle.plain.specs.Taking.{Taking, taking, enough}
-use Rattle.plain.proofs.QuestionLaws.{asks-law}
-use Rattle.refine.proofs.Ground.{Ground, ground, part-sys}
+use Rattle.plain.proofs.QuestionLaws.{asks-law, asks-yes, asks-no}
+use Rattle.refine.proofs.Ground.{Ground, ground, sys-ground}
 use Rattle.steps.proofs.WriteLaws.{part-sectors}
 use Rattle.unit.specs.declared.Opened.{Opened}
 use Rattle.unit.specs.Opened.{NumbersOf}
-use Rattle.unit.proofs.AskLaws.{asks-yes, asks-no}
-use Rattle.writes.specs.Writes.{FileBlock}
-use Rattle.writes.proofs.FileLaws.{unit-file}
-use Rattle.grow.specs.Room.{GrowthOf, AskedOf}
-use Rattle.grow.proofs.BlockLaws.{block-count, block-total, block-last, sys-file}
+use Rattle.slices.specs.declared.Growth.{Growth}
+use Rattle.slices.specs.FileBlock.{FileBlock}
+use Rattle.slices.specs.Fit.{CanFitFrom, CanFit, Fits}
+use Rattle.slices.proofs.BlockLaws.{block-total, unit-file}
+use Rattle.slices.proofs.TakeLaws.{unit-take}
+use Rattle.grow.specs.Room.{AskedOf}
+use Rattle.grow.proofs.BlockLaws.{sys-file}
 
 -- ---- the plain unit's answer
 
 -- The three tests, each answered yes.
 pub record Enough (p : Plain) (t : Taking) (slices : List ℕ) : Type 0 where
-  pub free : t .forSys + t .forFile ≤ freeSlices p
-  pub sys : stretchCount (p .sys ++ t .sysNew) ≤ 127
+  pub free : t .forCatalog + t .forFile ≤ freeSlices p
+  pub sys : stretchCount (p .sys ++ t .catalogNew) ≤ 127
   pub file : stretchCount slices ≤ 127
 
 module _ (p : Plain) (t : Taking) (slices lent : List ℕ) (files : Table File) where
-  pub too-few : freeSlices p < t .forSys + t .forFile → enough p t slices lent files ≡ replies p 0x1100 lent
+  pub too-few : freeSlices p < t .forCatalog + t .forFile → enough p (sysOf p) t slices lent files ≡ replies p 0x1100 lent
   too-few h = asks-no _ _ _ (rw (lt-leb _ _ h) tt)
 
-  module _ (free : t .forSys + t .forFile ≤ freeSlices p) where
-    pub sys-many : 127 < stretchCount (p .sys ++ t .sysNew) → enough p t slices lent files ≡ replies p 0x1008 lent
+  module _ (free : t .forCatalog + t .forFile ≤ freeSlices p) where
+    pub sys-many : 127 < stretchCount (p .sys ++ t .catalogNew) → enough p (sysOf p) t slices lent files ≡ replies p 0x1008 lent
     sys-many h = asks-yes _ _ _ (rw (le-leb _ _ free) tt) ∙ asks-no _ _ _ (rw (lt-leb _ _ h) tt)
 
-    module _ (sys : stretchCount (p .sys ++ t .sysNew) ≤ 127) where
-      pub file-many : 127 < stretchCount slices → enough p t slices lent files ≡ replies p 0x1008 lent
+    module _ (sys : stretchCount (p .sys ++ t .catalogNew) ≤ 127) where
+      pub file-many : 127 < stretchCount slices → enough p (sysOf p) t slices lent files ≡ replies p 0x1008 lent
       file-many h = asks-yes _ _ _ (rw (le-leb _ _ free) tt) ∙ asks-yes _ _ _ (rw (le-leb _ _ sys) tt) ∙ asks-no _ _ _ (rw (lt-leb _ _ h) tt)
 
-      pub all-enough : stretchCount slices ≤ 127 → enough p t slices lent files ≡ done (withTables p (t .layers) (p .sys ++ t .sysNew) files (p .areas)) lent
+      pub all-enough : stretchCount slices ≤ 127 → enough p (sysOf p) t slices lent files ≡ done (withTables p (t .layers) (p .sys ++ t .catalogNew) files (p .areas)) lent
       all-enough h = asks-yes _ _ _ (rw (le-leb _ _ free) tt) ∙ asks-yes _ _ _ (rw (le-leb _ _ sys) tt) ∙ asks-yes _ _ _ (rw (le-leb _ _ h) tt)
 
   abbrev Yes : Outcome → Type 0
@@ -67,7 +66,7 @@ module _ (p : Plain) (t : Taking) (slices lent : List ℕ) (files : Table File) 
   No o = (o .answer .result ≡ 0 → ⊥) → o ≡ replies p (o .answer .result) lent
 
   -- the answer 0: all three tests are passed
-  pub enough-yes : enough p t slices lent files .answer .result ≡ 0 → Enough p t slices
+  pub enough-yes : enough p (sysOf p) t slices lent files .answer .result ≡ 0 → Enough p t slices
   enough-yes = asks-law Yes _ (λ z. absurd (omega arith)) (λ a. asks-law Yes _ (λ z. absurd (omega arith)) (λ b. asks-law Yes _ (λ z. absurd (omega arith)) (λ c z. record {
     free = leb→le _ _ a;
     sys = leb→le _ _ b;
@@ -75,7 +74,7 @@ module _ (p : Plain) (t : Taking) (slices lent : List ℕ) (files : Table File) 
   })))
 
   -- another answer: a refusal
-  pub enough-no : (enough p t slices lent files .answer .result ≡ 0 → ⊥) → enough p t slices lent files ≡ replies p (enough p t slices lent files .answer .result) lent
+  pub enough-no : (enough p (sysOf p) t slices lent files .answer .result ≡ 0 → ⊥) → enough p (sysOf p) t slices lent files ≡ replies p (enough p (sysOf p) t slices lent files .answer .result) lent
   enough-no = asks-law No _ (λ h. refl) (λ a. asks-law No _ (λ h. refl) (λ b. asks-law No _ (λ h. refl) (λ c h. absurd (h refl))))
 
 -- ---- the code's tests
@@ -83,8 +82,8 @@ module _ (p : Plain) (t : Taking) (slices lent : List ℕ) (files : Table File) 
 abbrev word : Outcome → ℕ
 word x = x .answer .result
 
-above : (x : ℕ) → (x ≤ 127 → ⊥) → 127 < x
-above x h = below-or 127 x (λ y. y) (λ y. absurd (h y))
+abbrev growth : List ℕ → ℕ → Growth
+growth words n = record { block = record { words = words }; more = n }
 
 module _ {image : List ℕ} {o : Opened} {block : List ℕ} {p : Plain} {slices : List ℕ} (asked : AskedOf image o block p slices) where
   num : NumbersOf o p
@@ -112,17 +111,17 @@ module _ {image : List ℕ} {o : Opened} {block : List ℕ} {p : Plain} {slices 
 
   module _ {six : List ℕ} (read : six ≡ blockAt image 6) where
     had : sliceTotal (o .slice) six 0 ≡ length (p .sys)
-    had = ap (λ (s : ℕ). sliceTotal s six 0) (num .slice) ∙ block-total (sys-file (asked .on) read)
+    had = ap (λ (s : ℕ). sliceTotal s six 0) (num .slice) ∙ block-total (sys-file (asked .on) read .own)
 
     pub room-had : sliceTotal (o .slice) six 0 < 65536
-    room-had = omega (arith, had, part-sectors p gr (p .sys) (part-sys p gr), mul-le-mul-right (length (p .sys)) (asked .on .good .limits .slice-low))
+    room-had = omega (arith, had, part-sectors p gr (p .sys) (sys-ground gr .part), mul-le-mul-right (length (p .sys)) (asked .on .good .limits .slice-low))
 
-    module _ (layers : ℕ) {more : ℕ} (took : more ≡ ceilDiv (o .keys * layers) (o .slice) - sliceTotal (o .slice) six 0) (forFile : ℕ) where
+    module _ (layers : ℕ) {more : ℕ} (took : more ≡ ceilDiv (o .catalog .keys * layers) (o .slice) - sliceTotal (o .slice) six 0) (forFile : ℕ) where
       abbrev t : Taking
-      t = taking p layers (lastOf slices) forFile
+      t = taking p (sysOf p) layers (lastOf slices) forFile
 
-      pub for-sys : more ≡ t .forSys
-      for-sys = took ∙ ap₂ (λ (a b : ℕ). a - b) (rw (num .keys, num .slice) refl) had
+      pub for-sys : more ≡ t .forCatalog
+      for-sys = took ∙ ap₂ (λ (a b : ℕ). a - b) (rw (num .catalog .keys, num .slice) refl) had
 
       -- few enough for a sum of 32 bits
       pub for-small : layers ≤ 65535 → more ≤ 64 * 65535
@@ -137,53 +136,34 @@ module _ {image : List ℕ} {o : Opened} {block : List ℕ} {p : Plain} {slices 
           )
 
       pub answer-few : {free : ℕ} → free ≡ onesInMap image → free < more + forFile → (lent : List ℕ) (files : Table File)
-          → 0x1100 ≡ enough p t (slices ++ t .fileNew) lent files .answer .result
+          → 0x1100 ≡ enough p (sysOf p) t (slices ++ t .fileNew) lent files .answer .result
       answer-few e h lent files = sym (ap word (too-few p t (slices ++ t .fileNew) lent files (omega (arith, e, free-is, for-sys))))
 
-      pub free-enough : {free : ℕ} → free ≡ onesInMap image → more + forFile ≤ free → t .forSys + forFile ≤ freeSlices p
+      pub free-enough : {free : ℕ} → free ≡ onesInMap image → more + forFile ≤ free → t .forCatalog + forFile ≤ freeSlices p
       free-enough e h = omega (arith, e, free-is, for-sys)
 
-      module _ {sys file : Growth} (a : GrowthOf o six more sys) (b : GrowthOf o block forFile file) (free : t .forSys + forFile ≤ freeSlices p) where
-        -- the last slice by the unit's own numbers
-        last-own : (l : List ℕ) → lastSlice (o .first .0) (o .slice) l 0 ≡ lastSlice (p .F) (p .s) l 0
-        last-own l = rw (num .first, num .slice) refl
+      module _ (free : t .forCatalog + forFile ≤ freeSlices p) where
+        both : more + forFile ≤ freeSlices p
+        both = omega (arith, free, for-sys)
 
-        plan-own : CanPlanFrom image (M p) sys file (held p) (p .sys) slices
-        plan-own = record {
-          can-try = record {
-            long = room-long;
-            most = asked .on .good .limits .slices-high;
-            map = asked .on .layout .map;
-            once = asked .on .good .once;
-            enough = omega (arith, free, a .more, b .more, for-sys);
-          };
-          grows-sys = record {
-            stretches = a .stretches ∙ block-count (sys-file (asked .on) read);
-            last = a .last ∙ last-own six ∙ block-last (sys-file (asked .on) read);
-            part = part-sys p gr;
-          };
-          grows-file = record {
-            stretches = b .stretches ∙ block-count asked-file;
-            last = b .last ∙ last-own block ∙ block-last asked-file;
-            part = asked .part;
-          };
-        }
+        fit-own : CanFitFrom image (p .F) (p .s) (M p) (growth six more) (growth block forFile) (held p) (p .sys) slices
+        fit-own = record { first = unit-take (asked .on) (sys-file (asked .on) read) both (sys-ground gr .part); second = unit-take (asked .on) asked-file both (asked .part) }
 
-        pub can-plan : CanPlan image (o .slices) sys file
-        can-plan = record { held = held p; sysSlices = p .sys; fileSlices = slices; can = rw (num .slices) plan-own }
+        pub can-fit : CanFit image (o .first .0) (o .slice) (o .slices) (growth six more) (growth block forFile)
+        can-fit = record { held = held p; catalogSlices = p .sys; fileSlices = slices; can = rw (num .first, num .slice, num .slices) fit-own }
 
-        pub planned : {fit : Fit} → Planned image (o .slices) sys file fit
-            → Decides (fit .sys) (stretchCount (p .sys ++ t .sysNew) ≤ 127) × Decides (fit .file) (stretchCount (slices ++ t .fileNew) ≤ 127)
-        planned {fit} d =
-            let own : Planned image (M p) sys file fit = rw (num .slices) at d in
-            rw (a .more ∙ for-sys, b .more) at (own .all (held p) (p .sys) slices plan-own)
+        module _ {fit : Bool} (d : Fits image (o .first .0) (o .slice) (o .slices) (growth six more) (growth block forFile) fit) (lent : List ℕ) (files : Table File) where
+          decided : Decides fit ((stretchCount (p .sys ++ t .catalogNew) ≤ 127) × (stretchCount (slices ++ t .fileNew) ≤ 127))
+          decided =
+              let own : Fits image (p .F) (p .s) (M p) (growth six more) (growth block forFile) fit = rw (num .first, num .slice, num .slices) at d in
+              rw for-sys at (own .all (held p) (p .sys) slices fit-own)
 
-        module _ {fit : Fit} (d : Planned image (o .slices) sys file fit) (lent : List ℕ) (files : Table File) where
-          pub answer-sys : not (fit .sys) ≡ true → 0x1008 ≡ enough p t (slices ++ t .fileNew) lent files .answer .result
-          answer-sys e = sym (ap word (sys-many p t (slices ++ t .fileNew) lent files free (above _ (refutes _ (planned d .0) e))))
+          pub answer-no : not fit ≡ true → 0x1008 ≡ enough p (sysOf p) t (slices ++ t .fileNew) lent files .answer .result
+          answer-no e = sym (ap word (below-or 127 (stretchCount (p .sys ++ t .catalogNew))
+              (λ many. sys-many p t (slices ++ t .fileNew) lent files free many)
+              (λ sys. below-or 127 (stretchCount (slices ++ t .fileNew))
+              (λ many. file-many p t (slices ++ t .fileNew) lent files free sys many)
+              (λ few. absurd (refutes _ decided e (sys, few))))))
 
-          pub answer-file : not (fit .sys) ≡ false → not (fit .file) ≡ true → 0x1008 ≡ enough p t (slices ++ t .fileNew) lent files .answer .result
-          answer-file e f = sym (ap word (file-many p t (slices ++ t .fileNew) lent files free (grants _ (planned d .0) e) (above _ (refutes _ (planned d .1) f))))
-
-          pub answer-yes : not (fit .sys) ≡ false → not (fit .file) ≡ false → 0 ≡ enough p t (slices ++ t .fileNew) lent files .answer .result
-          answer-yes e f = sym (ap word (all-enough p t (slices ++ t .fileNew) lent files free (grants _ (planned d .0) e) (grants _ (planned d .1) f)))
+          pub answer-yes : not fit ≡ false → 0 ≡ enough p (sysOf p) t (slices ++ t .fileNew) lent files .answer .result
+          answer-yes e = let few = grants _ decided e in sym (ap word (all-enough p t (slices ++ t .fileNew) lent files free (few .0) (few .1)))

@@ -4,20 +4,13 @@ use mathlib.Core.List.{List, _++_}
 use Prim.Native.Nat.{ℕ, _≤_}
 use Rattle.disc.specs.Slices.{occurrences, lastOf}
 use Rattle.disc.specs.Stretches.{stretchCount}
-use Rattle.index.specs.Block.{wholeIndex, pairCount, lastSlice}
-use Rattle.plan.specs.declared.Growth.{Growth}
+use Rattle.index.specs.Block.{wholeIndex}
 use Rattle.plain.specs.Table.{Table}
-use Rattle.plain.specs.Unit.{Plain, File, held}
+use Rattle.plain.specs.Unit.{Plain, File, held, sysOf}
 use Rattle.plain.specs.Taking.{Taking, taking, enough}
 use Rattle.refine.specs.OnDisc.{OnDisc}
 use Rattle.unit.specs.declared.Opened.{Opened}
 use Rattle.unit.specs.Opened.{NumbersOf}
-
--- The stretches and the last slice that a block describes, and the slices to be taken.
-pub record GrowthOf (o : Opened) (block : List ℕ) (n : ℕ) (g : Growth) : Type 0 where
-  pub stretches : g .stretches ≡ pairCount block 0
-  pub last : g .last .0 ≡ lastSlice (o .first .0) (o .slice) block 0
-  pub more : g .more ≡ n
 
 -- The questions are asked of a unit on the image and of a file of it, whose index block is given; a new file has no slices.
 pub record AskedOf (image : List ℕ) (o : Opened) (block : List ℕ) (p : Plain) (slices : List ℕ) : Type 0 where
@@ -35,4 +28,4 @@ pub record CanAsk (image : List ℕ) (o : Opened) (block : List ℕ) : Type 0 wh
 -- The answer is the plain unit's, with so many layers and `forFile` slices for the file: 0, or the word of the first no.
 pub record RoomFor (image : List ℕ) (o : Opened) (layers : ℕ) (block : List ℕ) (forFile r : ℕ) : Type 0 where
   pub all : (p : Plain) (slices : List ℕ) → AskedOf image o block p slices → (lent : List ℕ) (files : Table File)
-      → let t : Taking = taking p layers (lastOf slices) forFile in r ≡ enough p t (slices ++ t .fileNew) lent files .answer .result
+      → let t : Taking = taking p (sysOf p) layers (lastOf slices) forFile in r ≡ enough p (sysOf p) t (slices ++ t .fileNew) lent files .answer .result

@@ -9,27 +9,28 @@ ghost use Rattle.disc.specs.Entries.{systemEntry};
 ghost use Rattle.words.specs.Store.{store};
 ghost use Rattle.index.specs.Block.{sliceTotal};
 ghost use Rattle.catalog.specs.Catalog.{placeStart};
-ghost use Rattle.grow.specs.Room.{GrowthOf, CanAsk, RoomFor};
-ghost use Rattle.grow.specs.Grow.{CanGrow, LayerAdded, Grows};
+ghost use Rattle.grow.specs.Room.{CanAsk, RoomFor};
+ghost use Rattle.grow.specs.Grow.{CanGrow, LayerAdded, withLayers, Grows};
+use catalog::Catalog;
 use catalog::Found;
 use catalog::Place;
 use index::IndexBlock;
-use plan::Growth;
+use slices::Growth;
 use types::Sector;
 use unit::Opened;
 
 // The slices of SYS with so many layers: H times L / s rounded up.
 fn sys_slices_for(o: Opened, layers: u16) -> u32
     requires { ⌜ 1 ≤ o .slice ⌝ }
-    ensures { λ r. ⌜ r ≡ ceilDiv (o .keys * layers) (o .slice) ⌝ }
+    ensures { λ r. ⌜ r ≡ ceilDiv (o .catalog .keys * layers) (o .slice) ⌝ }
 {
-    numbers::ceil_div(o.keys as u32 * layers as u32, o.slice as u32)
+    numbers::ceil_div(o.catalog.keys as u32 * layers as u32, o.slice as u32)
 }
 
 // The slices that SYS, whose index block is given, takes for so many layers.
 fn sys_more(o: Opened, layers: u16, block: IndexBlock) -> u32
     requires { ⌜ (1 ≤ o .slice) × (sliceTotal (o .slice) (block .words) 0 < 65536) ⌝ }
-    ensures { λ r. ⌜ r ≡ ceilDiv (o .keys * layers) (o .slice) - sliceTotal (o .slice) (block .words) 0 ⌝ }
+    ensures { λ r. ⌜ r ≡ ceilDiv (o .catalog .keys * layers) (o .slice) - sliceTotal (o .slice) (block .words) 0 ⌝ }
 {
     let all = sys_slices_for(o, layers);
     let had = index::slice_total(block, o.slice) as u32;
@@ -37,18 +38,6 @@ fn sys_more(o: Opened, layers: u16, block: IndexBlock) -> u32
         return 0;
     }
     all - had
-}
-
-// The file whose index block is given, with the slices that it is to take.
-fn growth_of(o: Opened, block: IndexBlock, more: u16) -> Growth
-    requires { ⌜ 2 ≤ o .slice ⌝ }
-    ensures { λ r. ⌜ GrowthOf o (block .words) more r ⌝ }
-{
-    Growth {
-        stretches: index::pair_count(&block.words, Sector(0)),
-        last: index::last_slice(block, o.first, o.slice),
-        more: more,
-    }
 }
 
 // Questions 7 and 8 for SYS with so many layers and a file, whose index block is given, that is to take `more` slices: 0, or the
@@ -63,13 +52,15 @@ pub fn room(image: &[u16], o: Opened, layers: u16, file: IndexBlock, more: u16) 
     if free < for_sys + more as u32 {
         return 0x1100;
     }
-    let sys_growth = growth_of(o, sys, for_sys as u16);
-    let file_growth = growth_of(o, file, more);
-    let fit = plan::fits(image, sys_growth, file_growth, o.slices);
-    if !fit.sys {
-        return 0x1008;
-    }
-    if !fit.file {
+    let catalog = Growth {
+        block: sys,
+        more: for_sys as u16,
+    };
+    let growth = Growth {
+        block: file,
+        more: more,
+    };
+    if !slices::fits(image, catalog, growth, o.first, o.slice, o.slices) {
         return 0x1008;
     }
     0
@@ -81,9 +72,14 @@ fn add_layer(image: &mut [u16], o: Opened)
     ensures { λ _. ⌜ LayerAdded (now (image .entry)) o (now (image .exit)) ⌝ }
 {
     let block = index::read_block(image, Sector(6));
-    let more = sys_more(o, o.layers + 1, block) as u16;
-    let longer = writes::take_at(image, Sector(6), block, o.first, o.slice, o.slices, more);
-    writes::zero_sectors(image, longer, o.keys * o.layers, o.keys);
+    let more = sys_more(o, o.catalog.layers + 1, block) as u16;
+    let longer = slices::take_at(image, Sector(6), block, o.first, o.slice, o.slices, more);
+    slices::zero_sectors(
+        image,
+        longer,
+        o.catalog.keys * o.catalog.layers,
+        o.catalog.keys,
+    );
 }
 
 // Stores SYS's entry in its place.
@@ -112,6 +108,27 @@ fn enter_sys(image: &mut [u16], place: Place, size: u16, reserved: u16)
     catalog::write_entry(image, place, &entry);
 }
 
+// The unit's numbers with so many layers of its catalog.
+fn with_layers(o: Opened, layers: u16) -> Opened
+    ensures { λ r. ⌜ r ≡ withLayers o layers ⌝ }
+{
+    let first = o.first;
+    let had = o.catalog;
+    let index = had.index;
+    let catalog = Catalog {
+        index: index,
+        from: had.from,
+        keys: had.keys,
+        layers: layers,
+    };
+    Opened {
+        slice: o.slice,
+        first: first,
+        slices: o.slices,
+        catalog: catalog,
+    }
+}
+
 // SYS grows by a layer: the unit's numbers then. SYS is entered in every unit, so that its place is found.
 pub fn grow(image: &mut [u16], o: Opened) -> Opened
     requires { ⌜ CanGrow (now image) o ⌝ }
@@ -120,17 +137,10 @@ pub fn grow(image: &mut [u16], o: Opened) -> Opened
     let Found::At(place) = unit::find_name(image, o, names::sys_name()) else {
         return o;
     };
-    let layers = o.layers + 1;
-    let first = o.first;
+    let layers = o.catalog.layers + 1;
     add_layer(image, o);
     let reserved = o.slice * sys_slices_for(o, layers) as u16;
-    enter_sys(image, place, o.keys * layers, reserved);
-    writes::count_free(image, o.slice);
-    Opened {
-        keys: o.keys,
-        slice: o.slice,
-        first: first,
-        slices: o.slices,
-        layers: layers,
-    }
+    enter_sys(image, place, o.catalog.keys * layers, reserved);
+    slices::count_free(image, o.slice);
+    with_layers(o, layers)
 }

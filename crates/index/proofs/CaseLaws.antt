@@ -1,15 +1,14 @@
 -- The first and the last pair of a block, and a slice behind it: where there is no pair, where the slice joins it, where it does not.
-use mathlib.Core.Path.{_≡_, refl, sym, ap, ap₂, _∙_}
+use mathlib.Core.Path.{_≡_, refl, sym, ap, _∙_}
 use mathlib.Core.Bool.{Bool, true, false}
 use mathlib.Core.List.{List}
 use Prim.Native.Nat.{ℕ, zero, suc, _+_, _-_, _/_, _≤_, _<_}
 use native.Mathlib.Omega.{arith}
 use lib.Dec.{eqb}
-use lib.ListN.{set}
 use Rattle.disc.specs.Numbers.{sliceStart}
 use Rattle.disc.specs.Pairs.{pairLength, pairStart}
 use Rattle.disc.proofs.Compare.{same-or}
-use Rattle.index.specs.Block.{pairCount, sectorsFrom, firstSliceOf, firstSlice, lastSliceOf, lastSlice, joinsLast, joins, stretchesWith, withPair, lengthened, extended, appended}
+use Rattle.index.specs.Block.{pairCount, sectorsFrom, firstSliceOf, firstSlice, lastSliceOf, lastSlice, joinsLast, joins, stretchesWith, lengthened, extended, appended}
 
 module _ (F s : ℕ) (l : List ℕ) (q n : ℕ) (count : n ≡ pairCount l q) where
   pub first-none : n ≡ 0 → 0 ≡ firstSlice F s l q
@@ -73,12 +72,10 @@ pair-le l q (suc n) i j a b = same-or i j
 
 -- the block r that is made in either case
 module _ (F s k : ℕ) (block : List ℕ) (n : ℕ) (count : n ≡ pairCount block 0) (b : Bool) (answer : b ≡ joins F s k block 0) (r : List ℕ) where
-  pub appended-joined : b ≡ true → r ≡ withPair block (n - 1) (pairLength block 0 (n - 1) + s) (pairStart block 0 (n - 1)) → r ≡ appended F s k block
-  unfolding appended lengthened
+  pub appended-joined : b ≡ true → r ≡ lengthened s block n → r ≡ appended F s k block
+  unfolding appended
   appended-joined t made = let e : joins F s k block 0 ≡ true = sym answer ∙ t in made ∙ rw (e, count)
 
-  pub appended-apart : (counted : List ℕ) (start : ℕ) → b ≡ false → start ≡ sliceStart F s k → counted ≡ set block 0 (n + 1) → r ≡ withPair counted n s start → r ≡ appended F s k block
-  unfolding appended extended
-  appended-apart counted start t y c made =
-      let e : joins F s k block 0 ≡ false = sym answer ∙ t in
-      made ∙ ap₂ (λ (w : List ℕ) (a : ℕ). withPair w n s a) c y ∙ rw (e, count)
+  pub appended-apart : (start : ℕ) → b ≡ false → start ≡ sliceStart F s k → r ≡ extended s start block n → r ≡ appended F s k block
+  unfolding appended
+  appended-apart start t y made = let e : joins F s k block 0 ≡ false = sym answer ∙ t in made ∙ rw (y, e, count)

@@ -17,7 +17,7 @@ use Rattle.disc.proofs.AppendLaws.{ending, final-end, stretches-joined, stretch
 use Rattle.disc.proofs.CutLaws.{cutStretches, stretches-take}
 use Rattle.disc.proofs.IndexUnique.{length-pairs}
 use Rattle.disc.proofs.IndexLaws.{Described, none, more, described}
-use Rattle.index.specs.Block.{whole, wholeIndex, pairCount, joins, withPair, appended, Appendable, cutPair, cutPairs, cutTo}
+use Rattle.index.specs.Block.{whole, wholeIndex, pairCount, joins, withPair, appended, lengthened, extended, Appendable, cutPair, cutPairs, cutTo}
 use Rattle.index.proofs.BlockLaws.{whole-count, whole-pair, whole-last, holds-wholeIndex}
 use Rattle.index.proofs.CaseLaws.{appended-joined, appended-apart}
 use Rattle.index.proofs.ReadLaws.{described-last, no-slices, read-count, read-sectors, read-joined, read-apart, read-none, read-with}
@@ -51,14 +51,14 @@ module _ (F s : ℕ) (l : List ℕ) (k : ℕ) (pos : 1 ≤ s) (above : (j : ℕ)
   -- the slice makes a pair of its own
   alone : stretches (l ++ (k ∷ [])) ≡ stretches l ++ (record { first = k; count = 1 } ∷ []) → joins F s k (wholeIndex F s l) 0 ≡ false
       → appended F s k (wholeIndex F s l) ≡ wholeIndex F s (l ++ (k ∷ []))
-  unfolding wholeIndex
+  unfolding wholeIndex extended
   alone e f =
       let rs = stretches l in
       let n : ℕ = length rs in
       let one : Stretch = record { first = k; count = 1 } in
       let lt : n < 127 = omega (arith, ap length e, length-append rs (one ∷ [])) in
       let m : s ≡ s * 1 = omega arith in
-      sym (appended-apart F s k (wholeIndex F s l) n (sym count) false (sym f) _ _ _ refl refl refl refl)
+      sym (appended-apart F s k (wholeIndex F s l) n (sym count) false (sym f) _ _ refl refl refl)
       ∙ ap (λ (w : List ℕ). withPair w n s (sliceStart F s k)) (whole-count n (n + 1) (pairs F s rs))
       ∙ whole-pair ((n + 1) ∷ pairs F s rs) n s (sliceStart F s k) (omega (arith, length-pairs F s rs)) lt
       ∙ ap₂ (λ (a b : ℕ). whole ((a ∷ pairs F s rs) ++ (b ∷ sliceStart F s k ∷ []))) (add-one n) m
@@ -77,7 +77,7 @@ module _ (F s : ℕ) (l : List ℕ) (k : ℕ) (pos : 1 ≤ s) (above : (j : ℕ)
 
   -- the slice joins the last pair
   joined : 1 ≤ length l → suc (lastOf l) ≡ k → (front : List Stretch) (r : Stretch) → stretches l ≡ front ++ (r ∷ []) → appended F s k (wholeIndex F s l) ≡ wholeIndex F s (l ++ (k ∷ []))
-  unfolding wholeIndex
+  unfolding wholeIndex lengthened
   joined some next front r e =
       let w = wholeIndex F s l in
       let j : ℕ = length front in

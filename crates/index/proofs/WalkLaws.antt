@@ -5,11 +5,11 @@ use Prim.Native.Nat.{ℕ, zero, suc, _+_, _-_, _*_, _/_, _%_, _≤_, _<_, min}
 use native.Mathlib.Nat.{mul-div-cancel-left}
 use native.Mathlib.Numerals.{add-one}
 use native.Mathlib.Omega.{arith}
-use lib.ListN.{length, set, length-append}
+use lib.ListN.{length, set, length-append, length-set}
 use borrow.Author.Tests.{lt-ltb, le-ltb}
 use Rattle.disc.specs.Pairs.{pairLength, pairStart}
 use Rattle.index.specs.Block.{whole, withPair, pairsFrom, sectorsFrom, sectorFrom, cutPair, cutPairs}
-use Rattle.index.proofs.BlockLaws.{whole-pair, whole-count}
+use Rattle.index.proofs.BlockLaws.{length-whole, whole-pair, whole-count}
 
 step : {j n : ℕ} → j < n → n - j ≡ suc (n - (j + 1))
 step h = omega arith
@@ -74,9 +74,10 @@ pub record Filling (n : ℕ) (all w : List ℕ) (j : ℕ) (left : List ℕ) : Ty
   pub filled : w ≡ whole (n ∷ stored)
   pub long : length stored ≡ 2 * j
   pub rest : stored ++ left ≡ all
+  pub size : length w ≡ 256
 
 pub fill-start : (n : ℕ) (all w : List ℕ) → w ≡ whole (n ∷ []) → Filling n all w 0 all
-fill-start n all w e = record { stored = []; filled = e; long = refl; rest = refl }
+fill-start n all w e = record { stored = []; filled = e; long = refl; rest = refl; size = ap length e ∙ length-whole (n ∷ []) (omega arith) }
 
 module _ (n : ℕ) (all w : List ℕ) (j : ℕ) where
   pub fill-more : (x y : ℕ) (left : List ℕ) → j < 127 → Filling n all w j (x ∷ y ∷ left) → Filling n all (withPair w j x y) (j + 1) left
@@ -86,6 +87,7 @@ module _ (n : ℕ) (all w : List ℕ) (j : ℕ) where
         filled = ap (λ (u : List ℕ). withPair u j x y) (f .filled) ∙ whole-pair (n ∷ f .stored) j x y (omega (arith, f .long)) h;
         long = omega (arith, length-append (f .stored) (x ∷ y ∷ []), f .long);
         rest = append-assoc (f .stored) (x ∷ y ∷ []) left ∙ f .rest;
+        size = simp length-set (f .size);
       }
 
   pub fill-all : Filling n all w j [] → w ≡ whole (n ∷ all)

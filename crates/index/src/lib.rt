@@ -1,11 +1,11 @@
 // Index blocks: read in place or as a value, changed as a value, and stored whole.
 
 ghost use mathlib.Core.Path.{_≡_};
-ghost use Prim.Native.Nat.{_+_, _*_, _≤_, _<_, min};
-ghost use lib.ListN.{length, set};
+ghost use Prim.Native.Nat.{_+_, _-_, _*_, _≤_, _<_, min};
+ghost use lib.ListN.{length};
 ghost use Rattle.disc.specs.Pairs.{pairLength, pairStart};
 ghost use Rattle.words.specs.Store.{store, zeroWords};
-ghost use Rattle.index.specs.Block.{pairCount, blockAt, sectorTotal, sliceTotal, firstSlice, lastSlice, jointSector, sliceNumber, joins, stretchesWith, withPair, appended, Appendable, cutTo};
+ghost use Rattle.index.specs.Block.{pairCount, blockAt, sectorTotal, sliceTotal, firstSlice, lastSlice, jointSector, sliceNumber, joins, stretchesWith, withPair, lengthened, appended, Appendable, cutTo};
 use types::Block;
 use types::Sector;
 use types::Slice;
@@ -33,7 +33,7 @@ pub fn pair_count(image: &[u16], q: Sector) -> u16
 
 // The length in sectors of pair j of the block in sector q.
 pub fn pair_length(image: &[u16], q: Sector, j: usize) -> u16
-    requires { ⌜ j < 127 ⌝ }
+    requires { ⌜ j ≤ 127 ⌝ }
     ensures { λ r. ⌜ r ≡ pairLength (now (image .entry)) (q .0) j ⌝ }
 {
     words::word(image, q, 2 * j + 1)
@@ -41,30 +41,19 @@ pub fn pair_length(image: &[u16], q: Sector, j: usize) -> u16
 
 // The first sector of pair j of the block in sector q.
 pub fn pair_start(image: &[u16], q: Sector, j: usize) -> Sector
-    requires { ⌜ j < 127 ⌝ }
+    requires { ⌜ j ≤ 127 ⌝ }
     ensures { λ r. ⌜ r .0 ≡ pairStart (now (image .entry)) (q .0) j ⌝ }
 {
     Sector(words::word(image, q, 2 * j + 2))
 }
 
-// The block with another count.
-fn set_count(block: IndexBlock, n: u16) -> IndexBlock
-    ensures { λ r. ⌜ r .words ≡ set (block .words) 0 n ⌝ }
+// Stores another pair j in the words of a block.
+fn set_pair(words: &mut [u16], j: usize, size: u16, start: Sector)
+    requires { ⌜ (j < 127) × (256 ≤ length (now words)) ⌝ }
+    ensures { λ _. ⌜ now (words .exit) ≡ withPair (now (words .entry)) j size (start .0) ⌝ }
 {
-    let mut w = block.words;
-    w[0] = n;
-    IndexBlock { words: w }
-}
-
-// The block with another pair j.
-fn set_pair(block: IndexBlock, j: usize, length: u16, start: Sector) -> IndexBlock
-    requires { ⌜ j < 127 ⌝ }
-    ensures { λ r. ⌜ r .words ≡ withPair (block .words) j length (start .0) ⌝ }
-{
-    let mut w = block.words;
-    w[2 * j + 1] = length;
-    w[2 * j + 2] = start.0;
-    IndexBlock { words: w }
+    words[2 * j + 1] = size;
+    words[2 * j + 2] = start.0;
 }
 
 // The block in sector q as a value.
@@ -72,13 +61,20 @@ pub fn read_block(image: &[u16], q: Sector) -> IndexBlock
     ensures { λ r. ⌜ r .words ≡ blockAt (now (image .entry)) (q .0) ⌝ }
 {
     let n = pair_count(image, q);
-    let mut block = set_count(empty_block(), n);
+    let none = empty_block();
+    let mut words = none.words;
+    words[0] = n;
     let mut j: usize = 0;
     while j < n as usize {
-        block = set_pair(block, j, pair_length(image, q, j), pair_start(image, q, j));
+        set_pair(
+            &mut words,
+            j,
+            pair_length(image, q, j),
+            pair_start(image, q, j),
+        );
         j += 1;
     }
-    block
+    IndexBlock { words: words }
 }
 
 // The sectors of all stretches of the block in sector q.
@@ -189,27 +185,29 @@ pub fn stretches_with_at(image: &[u16], q: Sector, first: Sector, s: u16, k: Sli
     n + 1
 }
 
-// The block with pair j lengthened by s sectors.
-fn lengthen(block: IndexBlock, j: usize, s: u16) -> IndexBlock
-    requires { ⌜ (j < 127) × (pairLength (block .words) 0 j + s < 65536) ⌝ }
-    ensures { λ r. ⌜ r .words ≡ withPair (block .words) j (pairLength (block .words) 0 j + s) (pairStart (block .words) 0 j) ⌝ }
+// Lengthens the last of the n pairs in the words of a block by s sectors.
+fn lengthen(words: &mut [u16], n: usize, s: u16)
+    requires { ⌜ (1 ≤ n) × (n ≤ 127) × (256 ≤ length (now words)) × (pairLength (now words) 0 (n - 1) + s < 65536) ⌝ }
+    ensures { λ _. ⌜ now (words .exit) ≡ lengthened s (now (words .entry)) n ⌝ }
 {
-    let length = pair_length(&block.words, Sector(0), j);
-    let start = pair_start(&block.words, Sector(0), j);
-    set_pair(block, j, length + s, start)
+    let size = pair_length(words, Sector(0), n - 1);
+    let start = pair_start(words, Sector(0), n - 1);
+    set_pair(words, n - 1, size + s, start);
 }
 
-// The block with slice k at the end.
-pub fn append_slice(block: IndexBlock, first: Sector, s: u16, k: Slice) -> IndexBlock
-    requires { ⌜ Appendable (first .0) s (k .0) (block .words) ⌝ }
-    ensures { λ r. ⌜ r .words ≡ appended (first .0) s (k .0) (block .words) ⌝ }
+// Puts slice k at the end, in the words of a block.
+pub fn append_slice(words: &mut [u16], first: Sector, s: u16, k: Slice)
+    requires { ⌜ (256 ≤ length (now words)) × Appendable (first .0) s (k .0) (now words) ⌝ }
+    ensures { λ _. ⌜ now (words .exit) ≡ appended (first .0) s (k .0) (now (words .entry)) ⌝ }
 {
-    let n = pair_count(&block.words, Sector(0));
-    if joins_at(&block.words, Sector(0), first, s, k) {
-        return lengthen(block, n as usize - 1, s);
+    let n = pair_count(words, Sector(0));
+    if joins_at(words, Sector(0), first, s, k) {
+        lengthen(words, n as usize, s);
+        return;
     }
     let start = numbers::slice_start(first, s, k);
-    set_pair(set_count(block, n + 1), n as usize, s, start)
+    words[0] = n + 1;
+    set_pair(words, n as usize, s, start);
 }
 
 // The sectors of pair j that are among the next `rest`.
@@ -224,21 +222,13 @@ fn kept_sectors(block: IndexBlock, j: usize, rest: u32) -> u16
     length
 }
 
-// The block `cut` with pair j of another block, at another length.
-fn copy_pair(cut: IndexBlock, block: IndexBlock, j: usize, length: u16) -> IndexBlock
-    requires { ⌜ j < 127 ⌝ }
-    ensures { λ r. ⌜ r .words ≡ withPair (cut .words) j length (pairStart (block .words) 0 j) ⌝ }
-{
-    let start = pair_start(&block.words, Sector(0), j);
-    set_pair(cut, j, length, start)
-}
-
 // The block of the first n slices.
 pub fn cut_block(block: IndexBlock, s: u16, n: u16) -> IndexBlock
     ensures { λ r. ⌜ r .words ≡ cutTo s n (block .words) ⌝ }
 {
     let count = pair_count(&block.words, Sector(0));
-    let mut cut = empty_block();
+    let none = empty_block();
+    let mut words = none.words;
     let mut rest = s as u32 * n as u32;
     let mut j: u16 = 0;
     while j < count {
@@ -246,11 +236,13 @@ pub fn cut_block(block: IndexBlock, s: u16, n: u16) -> IndexBlock
             break;
         }
         let kept = kept_sectors(block, j as usize, rest);
-        cut = copy_pair(cut, block, j as usize, kept);
+        let start = pair_start(&block.words, Sector(0), j as usize);
+        set_pair(&mut words, j as usize, kept, start);
         rest -= kept as u32;
         j += 1;
     }
-    set_count(cut, j)
+    words[0] = j;
+    IndexBlock { words: words }
 }
 
 // Stores the whole block in sector q.
@@ -277,14 +269,6 @@ pub fn first_slice(block: IndexBlock, first: Sector, s: u16) -> Slice
     first_slice_at(&block.words, Sector(0), first, s)
 }
 
-// Its last slice, 0 if there is none.
-pub fn last_slice(block: IndexBlock, first: Sector, s: u16) -> Slice
-    requires { ⌜ 2 ≤ s ⌝ }
-    ensures { λ r. ⌜ r .0 ≡ lastSlice (first .0) s (block .words) 0 ⌝ }
-{
-    last_slice_at(&block.words, Sector(0), first, s)
-}
-
 // Its slice number j, counted from 0 in file order.
 pub fn slice_number(block: IndexBlock, first: Sector, s: u16, j: u16) -> Slice
     requires { ⌜ 2 ≤ s ⌝ }
@@ -298,12 +282,4 @@ pub fn block_sector(block: IndexBlock, from: u16, b: Block) -> Sector
     ensures { λ r. ⌜ r .0 ≡ jointSector (block .words) 0 (b .0 + from) ⌝ }
 {
     block_sector_at(&block.words, Sector(0), from, b)
-}
-
-// The number of its stretches with slice k at the end.
-pub fn stretches_with(block: IndexBlock, first: Sector, s: u16, k: Slice) -> u16
-    requires { ⌜ 1 ≤ k .0 ⌝ }
-    ensures { λ r. ⌜ r ≡ stretchesWith (first .0) s (k .0) (block .words) 0 ⌝ }
-{
-    stretches_with_at(&block.words, Sector(0), first, s, k)
 }

@@ -1,72 +1,73 @@
--- The first question of every call: the unit that a message means, and whether it is known and ready; the words of the first two
--- questions.
+-- The first question of every call: the class of a message and the unit that it names, and whether that unit is known and ready; the words
+-- of the first two questions.
 use mathlib.Core.Path.{_≡_}
 use mathlib.Core.Bool.{true, false}
 use Prim.Native.Nat.{ℕ, _≤_, _<_}
+use Rattle.types.specs.declared.Name.{Name}
 use Rattle.types.specs.declared.State.{State}
 use Rattle.types.specs.declared.Message.{Message}
 use Rattle.types.specs.declared.Message.the-variants.{Init, Set, Create, LookUp, Change, Remove, CreateArea, RemoveArea, AreaMessage, UnitDescription, Listing}
 use Rattle.types.specs.State.{areaAt}
 use Rattle.disc.specs.Names.{unitIn}
+use Rattle.known.specs.declared.Class.{Class}
+use Rattle.known.specs.declared.Class.the-variants as class
+use Rattle.known.specs.declared.Classified.{Classified}
 
--- The unit number that a message means: "in a message's name the sixth is the unit number".
+-- A message of a class that names its unit itself, or in a name: "in a message's name the sixth is the unit number".
+abbrev pub byUnit : Class → ℕ → Classified
+byUnit kind unit = record { class = kind; unit = unit }
+
+abbrev pub byName : Class → Name → Classified
+byName kind name = byUnit kind (unitIn name)
+
+-- Each message's class, as the questions of document 01 are put ("Catalog", "Area create and remove", "Area messages", "Listing and unit
+-- description"), and the unit that it names.
+abbrev pub classified : Message → Classified
+classified (Init unit) = byUnit class.Init unit
+classified (Set name) = byName class.Catalog name
+classified (Create name size attributes) = byName class.Catalog name
+classified (LookUp name) = byName class.Catalog name
+classified (Change name) = byName class.Catalog name
+classified (Remove name) = byName class.Catalog name
+classified (CreateArea name) = byName class.Area name
+classified (RemoveArea name) = byName class.Area name
+classified (AreaMessage name sender operation) = byName class.Area name
+classified (UnitDescription unit bytes) = byUnit class.Report unit
+classified (Listing unit) = byUnit class.Report unit
+
+-- The number of the unit that a message means.
 abbrev pub unitMeant : Message → ℕ
-unitMeant (Init unit) = unit
-unitMeant (Set name) = unitIn name
-unitMeant (Create name size attributes) = unitIn name
-unitMeant (LookUp name) = unitIn name
-unitMeant (Change name) = unitIn name
-unitMeant (Remove name) = unitIn name
-unitMeant (CreateArea name) = unitIn name
-unitMeant (RemoveArea name) = unitIn name
-unitMeant (AreaMessage name sender operation) = unitIn name
-unitMeant (UnitDescription unit bytes) = unit
-unitMeant (Listing unit) = unit
+unitMeant message = classified message .unit
 
 -- The words of the first two questions: catalog "1. .. 1200h 2. .. 9000h"; area create and remove, and area messages, "known,
--- initialized? 0A00h; sound? 8800h".
+-- initialized? 0A00h; sound? 8800h"; listing and unit description "ask catalog questions 1 and 2 first".
+abbrev pub unknownTo : Class → ℕ
+unknownTo class.Init = 0x1200
+unknownTo class.Catalog = 0x1200
+unknownTo class.Area = 0x0A00
+unknownTo class.Report = 0x1200
+
+abbrev pub unsoundTo : Class → ℕ
+unsoundTo class.Init = 0x9000
+unsoundTo class.Catalog = 0x9000
+unsoundTo class.Area = 0x8800
+unsoundTo class.Report = 0x9000
+
 abbrev pub unknownWord : Message → ℕ
-unknownWord (Init unit) = 0x1200
-unknownWord (Set name) = 0x1200
-unknownWord (Create name size attributes) = 0x1200
-unknownWord (LookUp name) = 0x1200
-unknownWord (Change name) = 0x1200
-unknownWord (Remove name) = 0x1200
-unknownWord (CreateArea name) = 0x0A00
-unknownWord (RemoveArea name) = 0x0A00
-unknownWord (AreaMessage name sender operation) = 0x0A00
-unknownWord (UnitDescription unit bytes) = 0x1200
-unknownWord (Listing unit) = 0x1200
+unknownWord message = unknownTo (classified message .class)
 
 abbrev pub unsoundWord : Message → ℕ
-unsoundWord (Init unit) = 0x9000
-unsoundWord (Set name) = 0x9000
-unsoundWord (Create name size attributes) = 0x9000
-unsoundWord (LookUp name) = 0x9000
-unsoundWord (Change name) = 0x9000
-unsoundWord (Remove name) = 0x9000
-unsoundWord (CreateArea name) = 0x8800
-unsoundWord (RemoveArea name) = 0x8800
-unsoundWord (AreaMessage name sender operation) = 0x8800
-unsoundWord (UnitDescription unit bytes) = 0x9000
-unsoundWord (Listing unit) = 0x9000
+unsoundWord message = unsoundTo (classified message .class)
 
 -- "And (but for Init) initialized? Init: no area process?"
-abbrev pub Ready : State → Message → Type 0
-Ready state (Init unit) = (j : ℕ) → j < 8 → areaAt state j .live ≡ false
-Ready state (Set name) = state .initialized ≡ true
-Ready state (Create name size attributes) = state .initialized ≡ true
-Ready state (LookUp name) = state .initialized ≡ true
-Ready state (Change name) = state .initialized ≡ true
-Ready state (Remove name) = state .initialized ≡ true
-Ready state (CreateArea name) = state .initialized ≡ true
-Ready state (RemoveArea name) = state .initialized ≡ true
-Ready state (AreaMessage name sender operation) = state .initialized ≡ true
-Ready state (UnitDescription unit bytes) = state .initialized ≡ true
-Ready state (Listing unit) = state .initialized ≡ true
+abbrev pub Ready : State → Class → Type 0
+Ready state class.Init = (j : ℕ) → j < 8 → areaAt state j .live ≡ false
+Ready state class.Catalog = state .initialized ≡ true
+Ready state class.Area = state .initialized ≡ true
+Ready state class.Report = state .initialized ≡ true
 
 -- "1. Unit known (the state's, 0 to 3) and (but for Init) initialized? Init: no area process?"
 pub record Known (state : State) (message : Message) : Type 0 where
   pub number : unitMeant message ≡ state .unit
   pub low : state .unit ≤ 3
-  pub ready : Ready state message
+  pub ready : Ready state (classified message .class)

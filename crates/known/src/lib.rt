@@ -1,35 +1,90 @@
-// The first question of every call, and the words of the first two.
+// Each message's class and the unit that it names; the first question of every call, and the words of the first two.
 
 ghost use mathlib.Core.Path.{_≡_};
 ghost use Rattle.disc.specs.Decide.{Decides};
-ghost use Rattle.known.specs.Known.{unitMeant, unknownWord, unsoundWord, Ready, Known};
+ghost use Rattle.known.specs.Known.{byUnit, byName, classified, unknownTo, unsoundTo, unknownWord, unsoundWord, Ready, Known};
 use types::Message;
+use types::Name;
 use types::State;
 
-// The number of the unit that a message means.
-pub fn unit_meant(message: Message) -> u16
-    ensures { λ r. ⌜ r ≡ unitMeant message ⌝ }
+// The classes of messages: what the first two questions are, and their words, is one thing for each.
+pub enum Class {
+    Init,
+    Catalog,
+    Area,
+    Report,
+}
+
+// A message's class, and the number of the unit that it names.
+pub struct Classified {
+    pub class: Class,
+    pub unit: u16,
+}
+
+// A message that names its unit itself.
+fn by_unit(class: Class, unit: u16) -> Classified
+    ensures { λ r. ⌜ r ≡ byUnit class unit ⌝ }
+{
+    Classified {
+        class: class,
+        unit: unit,
+    }
+}
+
+// A message that names its unit in a name.
+fn by_name(class: Class, name: Name) -> Classified
+    ensures { λ r. ⌜ r ≡ byName class name ⌝ }
+{
+    by_unit(class, names::unit_of(name))
+}
+
+// What a message is.
+pub fn classify(message: Message) -> Classified
+    ensures { λ r. ⌜ r ≡ classified message ⌝ }
 {
     match message {
-        Message::Init { unit } => unit,
-        Message::Set { name } => names::unit_of(name),
+        Message::Init { unit } => by_unit(Class::Init, unit),
+        Message::Set { name } => by_name(Class::Catalog, name),
         Message::Create {
             name,
             size: _,
             attributes: _,
-        } => names::unit_of(name),
-        Message::LookUp { name } => names::unit_of(name),
-        Message::Change { name } => names::unit_of(name),
-        Message::Remove { name } => names::unit_of(name),
-        Message::CreateArea { name } => names::unit_of(name),
-        Message::RemoveArea { name } => names::unit_of(name),
+        } => by_name(Class::Catalog, name),
+        Message::LookUp { name } => by_name(Class::Catalog, name),
+        Message::Change { name } => by_name(Class::Catalog, name),
+        Message::Remove { name } => by_name(Class::Catalog, name),
+        Message::CreateArea { name } => by_name(Class::Area, name),
+        Message::RemoveArea { name } => by_name(Class::Area, name),
         Message::AreaMessage {
             name,
             sender: _,
             operation: _,
-        } => names::unit_of(name),
-        Message::UnitDescription { unit, bytes: _ } => unit,
-        Message::Listing { unit } => unit,
+        } => by_name(Class::Area, name),
+        Message::UnitDescription { unit, bytes: _ } => by_unit(Class::Report, unit),
+        Message::Listing { unit } => by_unit(Class::Report, unit),
+    }
+}
+
+// The words of the first two questions, by class.
+fn unknown_to(class: Class) -> u16
+    ensures { λ r. ⌜ r ≡ unknownTo class ⌝ }
+{
+    match class {
+        Class::Init => 0x1200,
+        Class::Catalog => 0x1200,
+        Class::Area => 0x0A00,
+        Class::Report => 0x1200,
+    }
+}
+
+fn unsound_to(class: Class) -> u16
+    ensures { λ r. ⌜ r ≡ unsoundTo class ⌝ }
+{
+    match class {
+        Class::Init => 0x9000,
+        Class::Catalog => 0x9000,
+        Class::Area => 0x8800,
+        Class::Report => 0x9000,
     }
 }
 
@@ -37,81 +92,30 @@ pub fn unit_meant(message: Message) -> u16
 pub fn unknown_word(message: Message) -> u16
     ensures { λ r. ⌜ r ≡ unknownWord message ⌝ }
 {
-    match message {
-        Message::Init { unit: _ } => 0x1200,
-        Message::Set { name: _ } => 0x1200,
-        Message::Create {
-            name: _,
-            size: _,
-            attributes: _,
-        } => 0x1200,
-        Message::LookUp { name: _ } => 0x1200,
-        Message::Change { name: _ } => 0x1200,
-        Message::Remove { name: _ } => 0x1200,
-        Message::CreateArea { name: _ } => 0x0A00,
-        Message::RemoveArea { name: _ } => 0x0A00,
-        Message::AreaMessage {
-            name: _,
-            sender: _,
-            operation: _,
-        } => 0x0A00,
-        Message::UnitDescription { unit: _, bytes: _ } => 0x1200,
-        Message::Listing { unit: _ } => 0x1200,
-    }
+    let asked = classify(message);
+    let class = asked.class;
+    unknown_to(class)
 }
 
 // The word of a call whose unit is not sound.
 pub fn unsound_word(message: Message) -> u16
     ensures { λ r. ⌜ r ≡ unsoundWord message ⌝ }
 {
-    match message {
-        Message::Init { unit: _ } => 0x9000,
-        Message::Set { name: _ } => 0x9000,
-        Message::Create {
-            name: _,
-            size: _,
-            attributes: _,
-        } => 0x9000,
-        Message::LookUp { name: _ } => 0x9000,
-        Message::Change { name: _ } => 0x9000,
-        Message::Remove { name: _ } => 0x9000,
-        Message::CreateArea { name: _ } => 0x8800,
-        Message::RemoveArea { name: _ } => 0x8800,
-        Message::AreaMessage {
-            name: _,
-            sender: _,
-            operation: _,
-        } => 0x8800,
-        Message::UnitDescription { unit: _, bytes: _ } => 0x9000,
-        Message::Listing { unit: _ } => 0x9000,
-    }
+    let asked = classify(message);
+    let class = asked.class;
+    unsound_to(class)
 }
 
-// Whether the unit is ready for a message: Init asks for no area process, all others for an initialized unit.
-fn ready(state: State, message: Message) -> bool
-    ensures { λ r. ⌜ Decides r (Ready state message) ⌝ }
+// Whether the unit is ready for a message of a class: Init asks for no area process, all others for an initialized unit.
+fn ready(state: State, class: Class) -> bool
+    ensures { λ r. ⌜ Decides r (Ready state class) ⌝ }
 {
     let initialized = state.initialized;
-    match message {
-        Message::Init { unit: _ } => !state::any_open(state),
-        Message::Set { name: _ } => initialized,
-        Message::Create {
-            name: _,
-            size: _,
-            attributes: _,
-        } => initialized,
-        Message::LookUp { name: _ } => initialized,
-        Message::Change { name: _ } => initialized,
-        Message::Remove { name: _ } => initialized,
-        Message::CreateArea { name: _ } => initialized,
-        Message::RemoveArea { name: _ } => initialized,
-        Message::AreaMessage {
-            name: _,
-            sender: _,
-            operation: _,
-        } => initialized,
-        Message::UnitDescription { unit: _, bytes: _ } => initialized,
-        Message::Listing { unit: _ } => initialized,
+    match class {
+        Class::Init => !state::any_open(state),
+        Class::Catalog => initialized,
+        Class::Area => initialized,
+        Class::Report => initialized,
     }
 }
 
@@ -119,11 +123,13 @@ fn ready(state: State, message: Message) -> bool
 pub fn known(state: State, message: Message) -> bool
     ensures { λ r. ⌜ Decides r (Known state message) ⌝ }
 {
-    if unit_meant(message) != state.unit {
+    let asked = classify(message);
+    let class = asked.class;
+    if asked.unit != state.unit {
         return false;
     }
     if 3 < state.unit {
         return false;
     }
-    ready(state, message)
+    ready(state, class)
 }

@@ -22,15 +22,3 @@ pub fn call(state: &mut State, image: &mut [u16], lent: &mut [u16], message: Mes
     *state = o.state;
     o.answer
 }
-
-// The same for a program that holds the state: it is lent to `call`, and handed back.
-pub fn drive(state: State, image: &mut [u16], lent: &mut [u16], message: Message) -> Outcome
-    ensures { λ r. ⌜ Performs (now (image .entry)) state message (now (lent .entry)) (performed (now (image .exit)) (r .state) (r .answer) (now (lent .exit))) ⌝ }
-{
-    let mut s = state;
-    let answer = call(&mut s, image, lent, message);
-    Outcome {
-        answer: answer,
-        state: s,
-    }
-}

@@ -1,6 +1,6 @@
 -- Laws of marking the pairs of an index block one after the other: the pairs passed, each refusal, and the whole block.
 use mathlib.Core.Path.{_≡_, refl, sym, ap, _∙_}
-use mathlib.Core.Bool.{true, false}
+use mathlib.Core.Bool.{true}
 use mathlib.Core.List.{List, [], _∷_, _++_, append-assoc, append-nil}
 use mathlib.Core.Logic.{_≢_}
 use Prim.Native.Nat.{ℕ, zero, suc, _+_, _-_, _*_, _/_, _≤_, _<_}
@@ -19,6 +19,7 @@ use Rattle.disc.proofs.DecideLaws.{true≢false}
 use Rattle.disc.proofs.SliceLaws.{occurrences-append, sum-law}
 use Rattle.disc.proofs.CutLaws.{length-span}
 use Rattle.disc.proofs.IndexLaws.{index-pairs}
+use Rattle.disc.proofs.AppendLaws.{expand-append}
 use Rattle.sound.specs.Places.{IndexBlock}
 use Rattle.sound.specs.Parts.{MarksOf}
 use Rattle.kit.specs.declared.Geometry.{Geometry}
@@ -28,11 +29,6 @@ use Rattle.marks.specs.declared.Indexed.{Indexed}
 use Rattle.marks.specs.Marked.{Marked, SomeMarked}
 use Rattle.marks.specs.Indexed.{WholeSlices, PairMarking, IndexSector, ofSys, ofFile, Refusal, IndexMarking}
 use Rattle.marks.proofs.PairLaws.{some-count}
-
-expand-append : (a b : List Stretch) → expand (a ++ b) ≡ expand a ++ expand b
-expand-append [] b = refl
-expand-append (r ∷ a) b =
-    ap (λ (l : List ℕ). span (r .first) (r .count) ++ l) (expand-append a b) ∙ sym (append-assoc (span (r .first) (r .count)) (expand a) (expand b))
 
 module _ (image : List ℕ) (g : Geometry) (q : ℕ) where
   abbrev F : ℕ

@@ -1,12 +1,12 @@
 -- When a name is legal, character by character: while letters or digits come the rest decides, and from the first other
 -- character on all must be zeros, the sixth too.
-use mathlib.Core.Path.{_≡_, refl, sym, ap, _∙_}
-use mathlib.Core.Bool.{Bool, true, false, not, _&&_, _||_}
+use mathlib.Core.Path.{_≡_, refl, ap, _∙_}
+use mathlib.Core.Bool.{Bool, true, false, _&&_, _||_}
 use mathlib.Core.List.{List, [], _∷_}
 use Prim.Native.Nat.{ℕ, _/_, _%_}
 use native.Mathlib.Omega.{arith}
 use lib.Dec.{eqb}
-use borrow.Author.Tests.{eq-eqb, ne-eqb, not-true, not-false}
+use borrow.Author.Tests.{eq-eqb, ne-eqb}
 use Rattle.disc.specs.Names.{letter, digit, zeros, restLegal, legalName}
 use Rattle.disc.proofs.Compare.{same-or}
 
@@ -129,10 +129,3 @@ module _ (n : ℕ) where
 
   pub stops-4 : letter (char4 n) || digit (char4 n) ≡ false → rest4 n ≡ eqb (n % 65536) 0
   stops-4 e = stops (char4 n) [] (ends n) e ∙ zeros-4
-
--- what a test that the code negates says of the value that it tests
-pub tested : {r t : Bool} → r ≡ t → not r ≡ false → t ≡ true
-tested {r} e h = sym e ∙ not-false r h
-
-pub tested-not : {r t : Bool} → r ≡ t → not r ≡ true → t ≡ false
-tested-not {r} e h = sym e ∙ not-true r h

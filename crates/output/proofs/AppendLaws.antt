@@ -20,15 +20,17 @@ use Rattle.plain.specs.Unit.{Plain, File, AreaUser, M, held, freeSlices}
 use Rattle.plain.specs.Transput.{slicesToTake, rewritten}
 use Rattle.plain.proofs.TableLaws.{find-put}
 use Rattle.plain.proofs.WordLaws.{wordsOf-take}
+use Rattle.plain.proofs.KeepsTransput.{append-few, append-good}
 use Rattle.refine.specs.Writes.{countedFree, takenImage, appendedImage}
 use Rattle.refine.proofs.Ground.{ground, part-file}
-use Rattle.steps.proofs.OutputStep.{append-few, append-good, append-inside, append-counts}
+use Rattle.steps.proofs.OutputStep.{append-inside, append-counts}
 use Rattle.steps.proofs.OutputUnit.{Appends}
 use Rattle.steps.proofs.OutputMessage.{appends-extends, appends-room, appends-few}
 use Rattle.unit.specs.declared.Opened.{Opened}
-use Rattle.writes.specs.Writes.{FileBlock, CanLengthenFrom, CanLengthen, Lengthened}
-use Rattle.writes.proofs.WriteLaws.{length-taken-image, longer-file, sector-told}
-use Rattle.writes.proofs.FileLaws.{index-told}
+use Rattle.slices.specs.FileBlock.{FileBlock}
+use Rattle.slices.specs.Take.{CanLengthenFrom, CanLengthen, Lengthened}
+use Rattle.slices.proofs.BlockLaws.{sector-told, index-told}
+use Rattle.slices.proofs.StoreLaws.{length-taken-image, longer-file}
 use Rattle.steps.specs.Units.{appendSlices}
 use Rattle.output.specs.Output.{roomWord, CanAppendFrom}
 use Rattle.output.proofs.FileLaws.{file-block}
@@ -80,7 +82,7 @@ module _ {image : List ℕ} {o : Opened} {block : List ℕ} {count len : ℕ} {l
     once = can .on .good .once;
     enough = appends-room appends;
     part = part-file p (ground p (can .on .good)) n f (can .file);
-    few = append-few n f (can .on .good) (can .file) (appends-few appends);
+    few = append-few (can .on .good) n (can .file) (appends-few appends);
   }
 
   pub can-lengthen : CanLengthen image block (o .first .0) (o .slice) (o .slices) count
@@ -99,7 +101,8 @@ module _ {image : List ℕ} {o : Opened} {block : List ℕ} {count len : ℕ} {l
     covered : len + 1 < p .s * length slices
     covered =
         let more : File = rewritten f slices (f .sectors ++ (words ∷ [])) in
-        let good = append-good (can .on) n (can .file) (can .live) (appends-extends appends) (appends-room appends) (appends-few appends) words count-words small in
+        let few = append-few (can .on .good) n (can .file) (appends-few appends) in
+        let good = append-good (can .on .good) n (can .file) (can .live) (appends-extends appends) (appends-room appends) few words (wordsOf-take 256 lent (can .long) lentWords) in
         let h = good .files n more (find-put n more (p .files)) .covered in
         let e : length (f .sectors ++ (words ∷ [])) ≡ suc (length (f .sectors)) = length-append (f .sectors) (words ∷ []) ∙ omega arith in
         omega (
@@ -110,7 +113,7 @@ module _ {image : List ℕ} {o : Opened} {block : List ℕ} {count len : ℕ} {l
         )
 
     pub block-at : {q : ℕ} → q ≡ jointSector longer 0 (len + 1) → q ≡ blockSector (p .F) (p .s) slices fileFrom (length (f .sectors))
-    block-at e = e ∙ sector-told took-file (len + 1) covered ∙ ap (λ (x : ℕ). sectorIn (p .F) (p .s) slices (x + 1)) (can .size)
+    block-at e = e ∙ sector-told (took-file .own) (len + 1) covered ∙ ap (λ (x : ℕ). sectorIn (p .F) (p .s) slices (x + 1)) (can .size)
 
     pub store-inside : {q : ℕ} → q ≡ jointSector longer 0 (len + 1) → q * 256 + 256 ≤ length image₁
     store-inside e =

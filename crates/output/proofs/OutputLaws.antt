@@ -26,13 +26,14 @@ use Rattle.plain.specs.Table.{tableFind}
 use Rattle.plain.specs.Unit.{Plain, File, freeSlices}
 use Rattle.plain.specs.Areas as plain
 use Rattle.plain.specs.Transput.{oneIf, slicesToTake, refusedAt, output}
+use Rattle.plain.proofs.QuestionLaws.{either-yes}
 use Rattle.refine.specs.Represents.{SameAreas}
 use Rattle.refine.specs.OnDisc.{OnDisc}
 use Rattle.refine.specs.Writes.{replacedImage, appendedImage}
+use Rattle.refine.proofs.LeavesLaws.{leaves}
 use Rattle.refine.proofs.StateLaws.{named-name, same-index}
 use Rattle.steps.proofs.Whole.{on-disc, represents}
 use Rattle.steps.proofs.WriteLaws.{length-small}
-use Rattle.steps.proofs.AskLaws.{either-yes}
 use Rattle.steps.proofs.AreaMessages.{area-found, sender-found, output-areas, replace-areas}
 use Rattle.steps.proofs.OutputUnit.{transputAt, replace-done, append-fixed, append-full, append-many, append-done}
 use Rattle.steps.proofs.OutputMessage.{block-inside, replaced-on, appended-on}
@@ -42,8 +43,8 @@ use Rattle.unit.specs.Files.{BlockOf}
 use Rattle.unit.proofs.OpenLaws.{searchable}
 use Rattle.sharing.specs.declared.AreaReply.{AreaReply}
 use Rattle.sharing.specs.Sharing.{areaReply, atPosition}
-use Rattle.sharing.specs.Leaves.{areaUsers, areaUser}
-use Rattle.sharing.proofs.ShareLaws.{leaves, seat-size}
+use Rattle.sharing.specs.Seat.{areaUsers, areaUser}
+use Rattle.sharing.proofs.ShareLaws.{seat-size}
 use Rattle.steps.specs.Units.{appendSlices}
 use Rattle.output.specs.Output.{AttributesOf, BlockFrom, SomeBlock, BlockSectorOf, roomWord, RoomFor, CanAppendFrom, AppendedBy, Placed, SomePlaced, outputImage, outputState, OutputLeaves, Outputs}
 use Rattle.output.proofs.FileLaws.{file-attributes, total-small, more-is}
@@ -104,7 +105,7 @@ module _ {image : List ℕ} {state : State} {o : Opened} {p q : Plain} {n j send
 
   -- Output is transput with operation 3
   is-output : (lent : List ℕ) → output p q move n f k lent ≡ transputAt p n sender (areaUsers state j) (areaUser state j u) f 3 lent q k
-  is-output lent = sym (either-yes _ _ _ refl)
+  is-output lent = sym (either-yes _ _ _ tt)
 
   pub refused : (lent : List ℕ) (word : ℕ) → word ≢ 0 → output p q move n f k lent ≡ refusedAt q word k lent
       → OutputLeaves image state p q n j sender u f k lent (areaReply (atPosition state j u k) word 0 k) image

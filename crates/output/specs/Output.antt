@@ -25,7 +25,8 @@ use Rattle.unit.specs.declared.Opened.{Opened}
 use Rattle.unit.specs.Opened.{NumbersOf, CatalogOn}
 use Rattle.sharing.specs.declared.AreaReply.{AreaReply}
 use Rattle.sharing.specs.Sharing.{atPosition}
-use Rattle.sharing.specs.Leaves.{Leaves, Seat, areaUsers, areaUser}
+use Rattle.refine.specs.Leaves.{Leaves}
+use Rattle.sharing.specs.Seat.{Seat, areaUsers, areaUser}
 use Rattle.steps.specs.Units.{appendSlices}
 
 -- ---- what is read of a file

@@ -14,8 +14,8 @@ ghost use Rattle.unit.specs.Opened.{Searchable};
 ghost use Rattle.output.specs.Output.{AttributesOf, SomeBlock, BlockSectorOf, RoomFor, CanAppend, AppendedBy, SomePlaced, Outputs};
 use catalog::Found;
 use index::IndexBlock;
-use map::Choice;
 use sharing::AreaReply;
+use slices::Next;
 use types::Block;
 use types::Name;
 use types::Sector;
@@ -61,14 +61,11 @@ fn room_word(image: &[u16], o: Opened, block: IndexBlock, more: u16) -> u16
     if more == 0 {
         return 0;
     }
-    let last = index::last_slice(block, o.first, o.slice);
-    let Choice::Free(k) = map::choose_slice(image, last, o.slices) else {
-        return 0x0900;
-    };
-    if 127 < index::stretches_with(block, o.first, o.slice, k) {
-        return 0x0808;
+    match slices::next_slice(image, &block.words, o.first, o.slice, o.slices) {
+        Next::At(_) => 0,
+        Next::NoneFree => 0x0900,
+        Next::Crowded => 0x0808,
     }
-    0
 }
 
 // Stores the first 256 lent words as the block after the last of a file with this live length, once it has taken `more` slices.
@@ -84,10 +81,10 @@ fn append_block(
     requires { ⌜ CanAppend (now image) o (block .words) more length (now lent) ⌝ }
     ensures { λ r. ⌜ AppendedBy (now (image .entry)) o (block .words) more length (now (lent .entry)) (now (image .exit)) (r .0) ⌝ }
 {
-    let longer = writes::take_more(image, block, o.first, o.slice, o.slices, more);
+    let longer = slices::take_more(image, block, o.first, o.slice, o.slices, more);
     let q = index::block_sector(longer, 1, Block(length));
     words::store_sector(image, q, lent);
-    writes::count_free(image, o.slice);
+    slices::count_free(image, o.slice);
     index::block_sector(longer, 0, Block(0))
 }
 

@@ -5,7 +5,7 @@ use mathlib.Core.List.{List, _∷_}
 use mathlib.Core.Logic.{_≢_}
 use Prim.Native.Nat.{ℕ, _≤_, _<_}
 use native.Mathlib.Omega.{arith}
-use lib.Dec.{ltb, eqb}
+use lib.Dec.{T, ltb, eqb}
 use lib.ListN.{length}
 use Rattle.types.specs.declared.State.{State}
 use Rattle.types.specs.declared.Message.{Message}
@@ -21,6 +21,7 @@ use Rattle.plain.specs.Good.{Good}
 use Rattle.plain.specs.Claims.{LentWords}
 use Rattle.plain.proofs.Keeps.{step-keeps, good-adds}
 use Rattle.plain.proofs.Refuses.{never-shrinks}
+use Rattle.plain.proofs.QuestionLaws.{false-no, true-yes, asks-yes, asks-no}
 use Rattle.state.specs.Areas.{anyOpen}
 use Rattle.users.proofs.AreaLaws.{none-open}
 use Rattle.refine.specs.Represents.{Represents}
@@ -29,7 +30,6 @@ use Rattle.refine.proofs.SoundRepresents.{sound-represents}
 use Rattle.refine.proofs.SysStays.{sys-never-shrinks}
 use Rattle.map.proofs.CountLaws.{ones-free}
 use Rattle.refine.proofs.StateLaws.{same-any}
-use Rattle.steps.proofs.AskLaws.{asks-yes, asks-no}
 use Rattle.known.specs.Known.{unknownWord, Known}
 use Rattle.perform.proofs.ObeyLaws.{known-no, known-yes}
 use Rattle.perform.specs.Perform.{Performs, unknown, unsound, obeyed}
@@ -45,8 +45,8 @@ pub record Standing (image : List ℕ) (state : State) (p : Plain) : Type 0 wher
 
 module _ {image : List ℕ} {state : State} {p : Plain} (s : Standing image state p) where
   -- another unit
-  other : (unit : ℕ) → unit ≢ state .unit → known p unit ≡ false
-  other unit d = known-no p unit (λ e. d (e ∙ sym (s .represents .areas .number)))
+  other : (unit : ℕ) → unit ≢ state .unit → T (not (known p unit))
+  other unit d = false-no (known-no p unit (λ e. d (e ∙ sym (s .represents .areas .number))))
 
   -- no area process in the plain unit, none in the state
   no-area : eqb (length (p .areas)) 0 ≡ true → (j : ℕ) → j < 8 → areaAt state j .live ≡ false
@@ -58,8 +58,8 @@ module _ {image : List ℕ} {state : State} {p : Plain} (s : Standing image stat
   init-refused : (unit : ℕ) (lent : List ℕ) → (Known state (Init unit) → ⊥) → step p (Init unit) lent ≡ replies p 0x1200 lent
   init-refused unit lent unmet = same-or unit (state .unit)
       (λ e.
-      asks-yes _ _ _ (known-yes p unit (e ∙ s .represents .areas .number) (omega (arith, e, s .low)))
-      ∙ asks-no _ _ _ (opened (eqb (length (p .areas)) 0) refl (λ q. unmet (record { number = e; low = s .low; ready = no-area q }))))
+      asks-yes _ _ _ (true-yes (known-yes p unit (e ∙ s .represents .areas .number) (omega (arith, e, s .low))))
+      ∙ asks-no _ _ _ (false-no (opened (eqb (length (p .areas)) 0) refl (λ q. unmet (record { number = e; low = s .low; ready = no-area q })))))
       (λ d. asks-no _ _ _ (other unit d))
     where
       opened : (b : Bool) → eqb (length (p .areas)) 0 ≡ b → (eqb (length (p .areas)) 0 ≡ true → ⊥) → eqb (length (p .areas)) 0 ≡ false

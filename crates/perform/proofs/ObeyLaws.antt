@@ -21,18 +21,18 @@ use Rattle.plain.specs.Questions.{Outcome, answer, replies, known, done}
 use Rattle.plain.specs.Step.{step, reply}
 use Rattle.plain.specs.Good.{Good}
 use Rattle.plain.proofs.Keeps.{step-keeps}
+use Rattle.plain.proofs.QuestionLaws.{true-yes, asks-yes}
 use Rattle.state.specs.Areas.{anyOpen}
 use Rattle.users.proofs.AreaLaws.{none-open}
 use Rattle.refine.specs.Represents.{Represents}
 use Rattle.refine.specs.Replies.{Replies, refused, written}
 use Rattle.refine.proofs.StateLaws.{same-any}
-use Rattle.steps.proofs.AskLaws.{asks-yes}
 use Rattle.steps.proofs.Whole.{on-disc}
 use Rattle.init.specs.Init.{initialized}
 use Rattle.unit.specs.declared.Opened.{Opened}
 use Rattle.unit.specs.Opened.{NumbersOf, MeantOn, Meant}
 use Rattle.unit.specs.LookUp.{LooksUp}
-use Rattle.unit.specs.Stepped.{Stepped}
+use Rattle.refine.specs.Leaves.{Leaves}
 use Rattle.create.specs.Create.{CreateStep, Creates, SetStep, Sets}
 use Rattle.create.proofs.CreateSteps.{create-represents, set-represents}
 use Rattle.remove.specs.Remove.{RemoveStep, Removes}
@@ -79,10 +79,10 @@ module _ {image : List ℕ} {state : State} {p : Plain} (g : Good p) (r : Repres
 
   -- a result word alone
   steps : (message : Message) (lent : List ℕ) {after : List ℕ} {next : State} {result : ℕ} → next .unit ≡ state .unit → next .initialized ≡ true
-      → Wrote p image state message lent (performed after next (answer result 0 0 0) lent) → Stepped (step p message lent) lent result after next → Obeyed p image state message lent (record { image = after; state = next; answer = answer result 0 0 0; lent = lent })
+      → Wrote p image state message lent (performed after next (answer result 0 0 0) lent) → Leaves (step p message lent) (answer result 0 0 0) lent after next → Obeyed p image state message lent (record { image = after; state = next; answer = answer result 0 0 0; lent = lent })
   steps message lent u i w s = record {
     wrote = w;
-    same = sym (ap reply (s .answer));
+    same = sym (ap reply (s .answered));
     represents = s .represents;
     number = u;
     initialized = i;
@@ -110,7 +110,7 @@ module _ {image : List ℕ} {state : State} {p : Plain} (g : Good p) (r : Repres
       → CreateStep p image name size attributes after result → Obeyed p image state (Create name size attributes) lent (record { image = after; state = state; answer = answer result 0 0 0; lent = lent })
   create-by {name = name} {size = size} {attributes = attributes} {lent = lent} w k s =
       steps (Create name size attributes) lent refl (k .ready) (s, refl)
-      (record { answer = replied (s .step lent); good = step-keeps p (Create name size attributes) lent g w; represents = create-represents s lent g r })
+      (record { answered = replied (s .step lent); good = step-keeps p (Create name size attributes) lent g w; represents = create-represents s lent g r })
 
   pub create-obeyed : {o : Opened} {name : Name} {size attributes : ℕ} {lent after : List ℕ} {result : ℕ} → Words lent → NumbersOf o p → Known state (Create name size attributes)
       → Creates image o name size attributes after result → Obeyed p image state (Create name size attributes) lent (record { image = after; state = state; answer = answer result 0 0 0; lent = lent })
@@ -120,7 +120,7 @@ module _ {image : List ℕ} {state : State} {p : Plain} (g : Good p) (r : Repres
       → Obeyed p image state (Set name) lent (record { image = after; state = state; answer = answer result 0 0 0; lent = lent })
   set-by {name = name} {lent = lent} w k s =
       steps (Set name) lent refl (k .ready) (s, refl)
-      (record { answer = replied (s .step); good = step-keeps p (Set name) lent g w; represents = set-represents s w g r })
+      (record { answered = replied (s .step); good = step-keeps p (Set name) lent g w; represents = set-represents s w g r })
 
   pub set-obeyed : {o : Opened} {name : Name} {lent after : List ℕ} {result : ℕ} → Words lent → NumbersOf o p → Known state (Set name) → Sets image o name lent after result
       → Obeyed p image state (Set name) lent (record { image = after; state = state; answer = answer result 0 0 0; lent = lent })
@@ -189,7 +189,7 @@ module _ {image : List ℕ} {state : State} {p : Plain} (g : Good p) (r : Repres
 
   -- "Init leaves everything standing."
   pub init-done : {unit : ℕ} (lent : List ℕ) → Known state (Init unit) → step p (Init unit) lent ≡ done p lent
-  init-done {unit} lent k = asks-yes _ _ _ (known-yes p unit (k .number ∙ r .areas .number) (omega (arith, k .number, k .low))) ∙ asks-yes _ _ _ closed
+  init-done {unit} lent k = asks-yes _ _ _ (true-yes (known-yes p unit (k .number ∙ r .areas .number) (omega (arith, k .number, k .low)))) ∙ asks-yes _ _ _ (true-yes closed)
     where
       shut : (b : Bool) → anyOpen state ≡ b → ((j : ℕ) → j < 8 → areaAt state j .live ≡ false) → anyOpen state ≡ false
       shut false e c = e

@@ -10,18 +10,17 @@ use lib.ListN.{length}
 use lib.Dec.{T, ltb, eqb, leb→le, ltb→lt}
 use Rattle.types.specs.declared.Name.{Name}
 use Rattle.types.specs.declared.Role.the-variants.{Sharing}
-use Rattle.disc.specs.Names.{isSystem}
 use Rattle.disc.specs.Slices.{occurrences, inUnit}
 use Rattle.disc.proofs.Compare.{same-or}
 use Rattle.plain.specs.Table.{Row, Table, tableFind, tablePut, tableRemove, isSome, SortedFrom, Every}
-use Rattle.plain.specs.Unit.{Plain, File, AreaUser, M, held, slicesOf, entry, withTables, withAreas}
+use Rattle.plain.specs.Unit.{Plain, File, AreaUser, sysOf, M, held, slicesOf, withTables, withAreas}
 use Rattle.plain.specs.Questions.{Outcome}
-use Rattle.plain.specs.Taking.{placesTaken, hasKey}
 use Rattle.plain.specs.Areas.{stepCreateArea, stepRemoveArea, stepReserve, stepRelease, stepPosition, positioned, bookLive, isExclusive, isWriter, isUser, other, opened, opensOf, released, atPosition, moved}
 use Rattle.plain.specs.Good.{Good, GoodFile, GoodArea, GoodUser, GoodRoles}
 use Rattle.plain.proofs.TableLaws.{some≢none, some-inj, find-put, find-put-other, find-remove-other, find-above, sorted-put, sorted-remove, total-put, weightAt, every-put, remove-some, none-put, length-put-new, length-put-old, length-remove}
 use Rattle.plain.proofs.QuestionLaws.{asks-law, given-law}
 use Rattle.plain.proofs.UnitLaws.{legal-positive, entry-file, holds, occurrences-held}
+use Rattle.plain.proofs.TakingLaws.{places-again}
 use Rattle.plain.proofs.RoleLaws.{users-found, users-length, roles-remove, roles-same, roles-raised}
 
 -- The unit after a call is good.
@@ -76,12 +75,6 @@ occurrences-put p n f new k h =
       ap (weightAt (holds k) n) h,
     )
 
--- the places that are taken
-pub places-put : (H k n : ℕ) (f new : File) (files : Table File) → tableFind n files ≡ some f → placesTaken H k (tablePut n new files) ≡ placesTaken H k files
-places-put H k n f new files h =
-    let w : Row File → ℕ = λ r. hasKey H k (r .key) in
-    omega (arith, total-put w n new files, ap (weightAt w n) h)
-
 -- The new file is good, its slices are the old ones or were free, and the areas of other names stay.
 pub file-put-good : (p : Plain) (n : ℕ) (f new : File) (areas : Table (Table AreaUser)) → Good p → tableFind n (p .files) ≡ some f
     → GoodFile (p .s) areas n new → ((k : ℕ) → occurrences k (held p) + occurrences k (new .slices) ≤ inUnit (M p) k + occurrences k (f .slices))
@@ -94,7 +87,7 @@ file-put-good p n f new areas g h good room others sorted eight each = record {
   sysFirst = g .sysFirst;
   sysFew = g .sysFew;
   names = sorted-put 0 n new (p .files) (legal-positive n (good .name)) (g .names);
-  chains = λ k. omega (arith, g .chains k, places-put (p .H) k n f new (p .files) h);
+  chains = λ k. omega (arith, g .chains k, places-again (p .H) k (sysOf p) n f new (p .files) h);
   files = λ k a e. same-or k n (own k a e) (beside k a e);
   once = λ k. omega (arith, room k, occurrences-put p n f new k h);
   areaNames = sorted;
@@ -133,20 +126,19 @@ area-put-good p n users g positive a le = record {
 
 -- ---- Create area
 
-create-area-good : (p : Plain) (n : ℕ) → Good p → T (isSome (entry p n)) → T (not (isSystem n)) → T (ltb (length (p .areas)) 8)
-    → Good (withAreas p (tablePut n [] (p .areas)))
-create-area-good p n g t u v =
-    let f = entry-file p n t u in
-    area-put-good p n [] g (legal-positive n (g .files n (f .0) (f .1) .name))
+-- the unit with a new area
+pub opened-good : (p : Plain) (n : ℕ) (f : File) → Good p → tableFind n (p .files) ≡ some f → length (p .areas) < 8 → Good (withAreas p (tablePut n [] (p .areas)))
+opened-good p n f g found room =
+    area-put-good p n [] g (find-above n 0 f (p .files) (g .names) found)
     (record {
-      file = f .0;
-      entered = f .1;
+      file = f;
+      entered = found;
       sorted = tt;
       three = omega arith;
       roles = record { oneWriter = omega arith; alone = λ q. omega arith };
       each = λ k a e. absurd (some≢none (sym e));
     })
-    (omega (arith, length-put-new n [] (p .areas), ltb→lt (length (p .areas)) 8 v))
+    (omega (arith, length-put-new n [] (p .areas)))
 
 pub create-area-keeps : (p : Plain) (name : Name) (lent : List ℕ) → Good p → Keeps (stepCreateArea p name lent)
 create-area-keeps p name lent g =
@@ -155,7 +147,8 @@ create-area-keeps p name lent g =
     asks-law Keeps _ g λ u.
     asks-law Keeps _ g λ _.
     asks-law Keeps _ g λ v.
-    create-area-good p _ g t u v
+    let f = entry-file p _ t u in
+    opened-good p _ (f .0) g (f .1) (ltb→lt (length (p .areas)) 8 v)
 
 -- ---- Remove area
 
@@ -178,7 +171,7 @@ book-good g = record {
 }
 
 -- the area goes, and the file is booked
-remove-area-good : (p : Plain) (n : ℕ) (f : File) → Good p → tableFind n (p .files) ≡ some f
+pub remove-area-good : (p : Plain) (n : ℕ) (f : File) → Good p → tableFind n (p .files) ≡ some f
     → Good (withTables p (p .layers) (p .sys) (tablePut n (bookLive f) (p .files)) (tableRemove n (p .areas)))
 remove-area-good p n f g h =
     file-put-good p n f (bookLive f) (tableRemove n (p .areas)) g h (book-good (g .files n f h)) (λ k. omega (arith, g .once k))

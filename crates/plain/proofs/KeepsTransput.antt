@@ -1,13 +1,13 @@
 -- Transput keeps a unit good, and so does every message to an area process.
 use mathlib.Core.Path.{_≡_, refl, sym, ap, _∙_}
-use mathlib.Core.Bool.{Bool, true, false, not, _&&_, _||_}
+use mathlib.Core.Bool.{Bool, true, false, not, _&&_}
 use mathlib.Core.List.{List, [], _∷_, _++_, append-nil}
-use mathlib.Core.Logic.{_≢_}
+use mathlib.Core.Logic.{_≢_, _⊎_, inl, inr, ⊎-elim}
 use mathlib.Core.Option.{Option, none, some}
 use Prim.Native.Nat.{ℕ, zero, suc, _+_, _≤_, _<_}
 use native.Mathlib.Omega.{arith}
 use lib.ListN.{length, take, set, length-append, length-set}
-use lib.Dec.{T, leb, ltb, eqb, leb→le, ltb→lt, nltb→le, eqb→eq}
+use lib.Dec.{T, ltb, eqb, leb→le, ltb→lt, nltb→le, eqb→eq}
 use Rattle.types.specs.declared.Name.{Name}
 use Rattle.types.specs.declared.Operation.{Operation}
 use Rattle.types.specs.declared.Operation.the-variants.{Reserve, Position, Sense, Transput, Other}
@@ -53,10 +53,11 @@ extendable-legal a slices t u = go (entryOnly a) (extendable a) (ltb 0 slices) (
     go true false z t u = absurd u
     go false y z t u = tt
 
--- ---- an open file is rewritten, and its user moved
+-- ---- a file is rewritten
 
--- What is good for the slices and sectors that Output gives a file f: the new slices were free.
-record GoodRewrite (p : Plain) (f : File) (slices : List ℕ) (sectors : List (List ℕ)) : Type 0 where
+-- What is good for the slices and sectors that Output gives a file f: the new slices were free; with no area open, the booked
+-- length and slices are still the live ones.
+record Rewrites (p : Plain) (n : ℕ) (f : File) (slices : List ℕ) (sectors : List (List ℕ)) : Type 0 where
   pub entryOnly : T (legalWith (f .attributes) (length slices))
   pub words : EachOf (WordsOf 256) [] sectors
   pub covered : need (p .s) (length sectors) ≤ length slices
@@ -64,12 +65,12 @@ record GoodRewrite (p : Plain) (f : File) (slices : List ℕ) (sectors : List (L
   pub longer : length (f .sectors) ≤ length sectors
   pub more : length (f .slices) ≤ length slices
   pub fits : (k : ℕ) → occurrences k (held p) + occurrences k slices ≤ inUnit (M p) k + occurrences k (f .slices)
+  pub closed : tableFind n (p .areas) ≡ none → (f .booked ≡ length sectors) × (f .bookedSlices ≡ length slices)
 
-module _ (p : Plain) (n sender : ℕ) (users : Table AreaUser) (g : Good p) (e : tableFind n (p .areas) ≡ some users)
-    (u : AreaUser) (f : File) (w : tableFind sender users ≡ some u) (h : tableFind n (p .files) ≡ some f) where
-  rewritten-good : (slices : List ℕ) (sectors : List (List ℕ)) → GoodRewrite p f slices sectors → GoodFile (p .s) (p .areas) n (rewritten f slices sectors)
+module _ {p : Plain} (g : Good p) (n : ℕ) {f : File} (found : tableFind n (p .files) ≡ some f) where
+  rewritten-good : (slices : List ℕ) (sectors : List (List ℕ)) → Rewrites p n f slices sectors → GoodFile (p .s) (p .areas) n (rewritten f slices sectors)
   rewritten-good slices sectors r =
-      let old = g .files n f h in
+      let old = g .files n f found in
       record {
         name = old .name;
         ordinary = old .ordinary;
@@ -83,55 +84,45 @@ module _ (p : Plain) (n sender : ℕ) (users : Table AreaUser) (g : Good p) (e :
         bookedLow = omega (arith, old .bookedLow, r .longer);
         bookedSlicesLow = omega (arith, old .bookedSlicesLow, r .more);
         bookedCovered = old .bookedCovered;
-        closed = λ z. absurd (some≢none (sym e ∙ z));
+        closed = r .closed;
       }
 
-  rewrite-good : (slices : List ℕ) (sectors : List (List ℕ)) → GoodRewrite p f slices sectors → Good (withFile n (rewritten f slices sectors) p)
-  rewrite-good slices sectors r = file-put-good p n f new (p .areas) g h (rewritten-good slices sectors r) (r .fits) (λ k d. refl) (g .areaNames) (g .eight) areas
+  rewrite-good : (slices : List ℕ) (sectors : List (List ℕ)) → Rewrites p n f slices sectors → Good (withFile n (rewritten f slices sectors) p)
+  rewrite-good slices sectors r =
+      file-put-good p n f new (p .areas) g found (rewritten-good slices sectors r) (r .fits) (λ k d. refl) (g .areaNames) (g .eight) areas
     where
       new : File
       new = rewritten f slices sectors
 
       areas : Every (GoodArea (tablePut n (rewritten f slices sectors) (p .files))) (p .areas)
-      areas k others q = same-or k n own beside
+      areas k users q = same-or k n own beside
         where
-          a : GoodArea (p .files) k others
-          a = g .areas k others q
+          a : GoodArea (p .files) k users
+          a = g .areas k users q
 
-          own : k ≡ n → GoodArea (tablePut n (rewritten f slices sectors) (p .files)) k others
+          own : k ≡ n → GoodArea (tablePut n (rewritten f slices sectors) (p .files)) k users
           own i =
-              let z : f ≡ a .file = some-inj (sym h ∙ ap (λ (j : ℕ). tableFind j (p .files)) (sym i) ∙ a .entered) in
+              let z : f ≡ a .file = some-inj (sym found ∙ ap (λ (j : ℕ). tableFind j (p .files)) (sym i) ∙ a .entered) in
               area-beside a new (rw i (find-put n new (p .files))) (rw (← z) (r .longer))
 
-          beside : k ≢ n → GoodArea (tablePut n (rewritten f slices sectors) (p .files)) k others
+          beside : k ≢ n → GoodArea (tablePut n (rewritten f slices sectors) (p .files)) k users
           beside d = area-beside a (a .file) (find-put-other k n new (p .files) d ∙ a .entered) (omega arith)
 
-  both-good : (slices : List ℕ) (sectors : List (List ℕ)) (k : ℕ) → GoodRewrite p f slices sectors → k ≤ length sectors
-      → Good (withFile n (rewritten f slices sectors) (moved p n sender users u k))
-  both-good slices sectors k r le =
-      let new : File = rewritten f slices sectors in
-      move-good (withFile n new p) n sender users (rewrite-good slices sectors r) e u new k w (find-put n new (p .files)) le
-
-  -- ---- replace
-
-  replace-good : (k : ℕ) (sector : List ℕ) → WordsOf 256 sector → k < length (f .sectors)
-      → Good (withFile n (rewritten f (f .slices) (set (f .sectors) k sector)) (moved p n sender users u (suc k)))
-  replace-good k sector ok lt =
-      let old = g .files n f h in
-      let len : length (set (f .sectors) k sector) ≡ length (f .sectors) = length-set (f .sectors) k sector in
-      both-good (f .slices) (set (f .sectors) k sector) (suc k)
-      (record {
+  -- a block is replaced
+  pub replace-good : (b : ℕ) (words : List ℕ) → WordsOf 256 words → Good (withFile n (rewritten f (f .slices) (set (f .sectors) b words)) p)
+  replace-good b words ok =
+      let old = g .files n f found in
+      let len : length (set (f .sectors) b words) ≡ length (f .sectors) = length-set (f .sectors) b words in
+      rewrite-good (f .slices) (set (f .sectors) b words) (record {
         entryOnly = old .entryOnly;
-        words = each-set (WordsOf 256) [] (f .sectors) k sector (old .sectors) ok;
+        words = each-set (WordsOf 256) [] (f .sectors) b words (old .sectors) ok;
         covered = rw len (old .covered);
         few = old .few;
         longer = omega arith;
         more = omega arith;
-        fits = λ j. omega (arith, g .once j);
+        fits = λ k. omega (arith, g .once k);
+        closed = λ z. (old .closed z .0 ∙ sym len, old .closed z .1);
       })
-      (omega arith)
-
-  -- ---- append
 
   abbrev count : ℕ
   count = slicesToTake (p .s) f
@@ -139,36 +130,42 @@ module _ (p : Plain) (n sender : ℕ) (users : Table AreaUser) (g : Good p) (e :
   abbrev new-slices : List ℕ
   new-slices = taken (M p) (held p) (lastOf (f .slices)) count
 
-  append-rewrite : (sector : List ℕ) → WordsOf 256 sector → T (extendable (f .attributes))
-      → T (leb count (freeSlices p)) → T (eqb count 0 || leb (stretchCount (f .slices ++ new-slices)) 127)
-      → GoodRewrite p f (f .slices ++ new-slices) (f .sectors ++ (sector ∷ []))
-  append-rewrite sector ok ext free few =
-      let old = g .files n f h in
-      let taking : length new-slices ≡ count = length-taken (M p) (held p) (lastOf (f .slices)) count in
-      let slices : length (f .slices ++ new-slices) ≡ length (f .slices) + count = omega (arith, length-append (f .slices) new-slices) in
-      let sectors : length (f .sectors ++ (sector ∷ [])) ≡ suc (length (f .sectors)) = omega (arith, length-append (f .sectors) (sector ∷ [])) in
-      let once : InRangeOnce (M p) (new-slices ++ held p) = taken-law (M p) (held p) (lastOf (f .slices)) count (g .once) (leb→le count (freeSlices p) free) in
-      record {
+  -- at most 127 stretches where no slice is needed, too
+  pub append-few : (slicesToTake (p .s) f ≡ 0) ⊎ (stretchCount (f .slices ++ taken (M p) (held p) (lastOf (f .slices)) (slicesToTake (p .s) f)) ≤ 127)
+      → stretchCount (f .slices ++ taken (M p) (held p) (lastOf (f .slices)) (slicesToTake (p .s) f)) ≤ 127
+  append-few few = ⊎-elim (λ (z : count ≡ 0). rw (z, append-nil (f .slices)) (g .files n f found .few)) (λ x. x) few
+
+  -- a block is appended to an open file
+  pub append-good : {users : Table AreaUser} → tableFind n (p .areas) ≡ some users → T (extendable (f .attributes)) → slicesToTake (p .s) f ≤ freeSlices p
+      → stretchCount (f .slices ++ taken (M p) (held p) (lastOf (f .slices)) (slicesToTake (p .s) f)) ≤ 127 → (words : List ℕ) → WordsOf 256 words
+      → Good (withFile n (rewritten f (f .slices ++ taken (M p) (held p) (lastOf (f .slices)) (slicesToTake (p .s) f)) (f .sectors ++ (words ∷ []))) p)
+  append-good live ext room few words ok =
+      let old = g .files n f found in
+      let slices : length (f .slices ++ new-slices) ≡ length (f .slices) + count =
+      omega (arith, length-append (f .slices) new-slices, length-taken (M p) (held p) (lastOf (f .slices)) count) in
+      let sectors : length (f .sectors ++ (words ∷ [])) ≡ suc (length (f .sectors)) = omega (arith, length-append (f .sectors) (words ∷ [])) in
+      let once : InRangeOnce (M p) (new-slices ++ held p) = taken-law (M p) (held p) (lastOf (f .slices)) count (g .once) room in
+      rewrite-good (f .slices ++ new-slices) (f .sectors ++ (words ∷ [])) (record {
         entryOnly = extendable-legal (f .attributes) (length (f .slices ++ new-slices)) (old .attributes) ext;
-        words = each-append (WordsOf 256) [] (f .sectors) (sector ∷ []) (old .sectors) (each-one (WordsOf 256) [] sector ok);
+        words = each-append (WordsOf 256) [] (f .sectors) (words ∷ []) (old .sectors) (each-one (WordsOf 256) [] words ok);
         covered = rw (sectors, slices) (slices-suffice (p .s) f (g .limits .slice-low) (old .covered));
-        few = or-case (eqb count 0) (leb (stretchCount (f .slices ++ new-slices)) 127) (λ t. same-few (eqb→eq count 0 t)) (λ t. leb→le _ _ t) few;
+        few = few;
         longer = omega arith;
         more = omega arith;
         fits = λ j. omega (arith, once j, occurrences-append j new-slices (held p), occurrences-append j (f .slices) new-slices);
-      }
-    where
-      same-few : count ≡ 0 → stretchCount (f .slices ++ new-slices) ≤ 127
-      same-few z = rw (z, append-nil (f .slices)) (g .files n f h .few)
+        closed = λ z. absurd (some≢none (sym live ∙ z));
+      })
 
-  append-good : (k : ℕ) (sector : List ℕ) → WordsOf 256 sector → k ≤ length (f .sectors) → T (extendable (f .attributes))
-      → T (leb count (freeSlices p)) → T (eqb count 0 || leb (stretchCount (f .slices ++ new-slices)) 127)
-      → Good (withFile n (rewritten f (f .slices ++ new-slices) (f .sectors ++ (sector ∷ []))) (moved p n sender users u (suc k)))
-  append-good k sector ok le ext free few =
-      both-good (f .slices ++ new-slices) (f .sectors ++ (sector ∷ [])) (suc k) (append-rewrite sector ok ext free few)
-      (omega (arith, length-append (f .sectors) (sector ∷ [])))
+-- ---- the steps; q is the unit once Position was done
 
-  -- ---- the steps; q is the unit once Position was done
+module _ (p : Plain) (n sender : ℕ) (users : Table AreaUser) (g : Good p) (e : tableFind n (p .areas) ≡ some users)
+    (u : AreaUser) (f : File) (w : tableFind sender users ≡ some u) (h : tableFind n (p .files) ≡ some f) where
+  -- an open file is rewritten, and its user moved
+  both-good : (slices : List ℕ) (sectors : List (List ℕ)) (k : ℕ) → Good (withFile n (rewritten f slices sectors) p) → k ≤ length sectors
+      → Good (withFile n (rewritten f slices sectors) (moved p n sender users u k))
+  both-good slices sectors k good le =
+      let new : File = rewritten f slices sectors in
+      move-good (withFile n new p) n sender users good e u new k w (find-put n new (p .files)) le
 
   append-keeps : (q : Plain) (k : ℕ) (lent : List ℕ) → Good q → WordsOf 256 (take 256 lent) → k ≤ length (f .sectors) → Keeps (append p q (moved p n sender users u) n f k lent)
   unfolding append
@@ -176,12 +173,15 @@ module _ (p : Plain) (n sender : ℕ) (users : Table AreaUser) (g : Good p) (e :
       asks-law Keeps _ gq λ ext.
       asks-law Keeps _ gq λ free.
       asks-law Keeps _ gq λ few.
-      append-good k (take 256 lent) ok le ext free few
+      let few₂ = append-few g n h (or-case (eqb (slicesToTake (p .s) f) 0) _ (λ t. inl (eqb→eq _ 0 t)) (λ t. inr (leb→le _ _ t)) few) in
+      both-good _ _ (suc k) (append-good g n h e ext (leb→le _ _ free) few₂ (take 256 lent) ok)
+      (omega (arith, length-append (f .sectors) (take 256 lent ∷ [])))
 
   output-keeps : (q : Plain) (k : ℕ) (lent : List ℕ) → Good q → WordsOf 256 (take 256 lent) → k ≤ length (f .sectors) → Keeps (output p q (moved p n sender users u) n f k lent)
   unfolding output
   output-keeps q k lent gq ok le =
-      either-law Keeps _ (λ t. replace-good k (take 256 lent) ok (ltb→lt k (length (f .sectors)) t)) λ _.
+      either-law Keeps _
+      (λ t. both-good _ _ (suc k) (replace-good g n h k (take 256 lent) ok) (omega (arith, ltb→lt k (length (f .sectors)) t, length-set (f .sectors) k (take 256 lent)))) λ _.
       append-keeps q k lent gq ok le
 
   input-keeps : (q : Plain) (k : ℕ) (lent : List ℕ) → Good q → Keeps (input q (moved p n sender users u) f k lent)

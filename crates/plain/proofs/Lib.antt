@@ -4,13 +4,15 @@ pub mod AttributeLaws
 pub mod UnitLaws
 pub mod WordLaws
 pub mod RoleLaws
+pub mod TransputLaws
 pub mod TakingLaws
+pub mod GrowUnit
 pub mod KeepsAreas
+pub mod CreateUnit
+pub mod ChangeUnit
 pub mod KeepsTransput
 pub mod KeepsCatalog
 pub mod Keeps
 pub mod Collect
-pub mod Paper
-pub mod Examples
 pub mod Refuses
 pub mod PlainClaims

@@ -33,6 +33,43 @@ pub end-law : (P : ℕ → Type 0) (attributes : ℕ) → P 0x0810 → P 0x0A00 
 unfolding endWord
 end-law P attributes h k = cond-law P (extendable attributes) 0x0810 0x0A00 h k
 
+-- ---- a question whose answer is known
+
+pub true-yes : {b : Bool} → b ≡ true → T b
+true-yes e = rw e tt
+
+pub false-no : {b : Bool} → b ≡ false → T (not b)
+false-no e = rw e tt
+
+pub asks-yes : (b : Bool) (refusal next : Outcome) → T b → asks b refusal next ≡ next
+unfolding asks
+asks-yes true refusal next t = refl
+asks-yes false refusal next t = absurd t
+
+pub asks-no : (b : Bool) (refusal next : Outcome) → T (not b) → asks b refusal next ≡ refusal
+unfolding asks
+asks-no true refusal next t = absurd t
+asks-no false refusal next t = refl
+
+pub either-yes : (b : Bool) (x y : Outcome) → T b → either b x y ≡ x
+unfolding either
+either-yes true x y t = refl
+either-yes false x y t = absurd t
+
+pub either-no : (b : Bool) (x y : Outcome) → T (not b) → either b x y ≡ y
+unfolding either
+either-no true x y t = absurd t
+either-no false x y t = refl
+
+module _ {A : Type 0} where
+  pub given-none : (o : Option A) (refusal : Outcome) (next : A → Outcome) → o ≡ none → given o refusal next ≡ refusal
+  unfolding given
+  given-none o refusal next e = rw e refl
+
+  pub given-some : (o : Option A) (a : A) (refusal : Outcome) (next : A → Outcome) → o ≡ some a → given o refusal next ≡ next a
+  unfolding given
+  given-some o a refusal next e = rw e refl
+
 -- ---- tests
 
 pub and-left : (a b : Bool) → T (a && b) → T a

@@ -17,7 +17,7 @@ use Rattle.types.specs.declared.Message.the-variants.{Init, Set, Create, LookUp
 use Rattle.disc.specs.Names.{named}
 use Rattle.disc.specs.Attributes.{entryOnly}
 use Rattle.plain.specs.Table.{Table, tableFind, tablePut, tableRemove, total}
-use Rattle.plain.specs.Unit.{Plain, File, AreaUser, withTables, withAreas}
+use Rattle.plain.specs.Unit.{Plain, File, AreaUser, sysOf, withTables, withAreas}
 use Rattle.plain.specs.Questions.{Outcome, asks, given, either, done}
 use Rattle.plain.specs.Taking.{layersFor}
 use Rattle.plain.specs.Catalog.{attributesIn, stepInit, newFile, stepCreate, stepSet, stepLookUp, stepRemove, changeFile, stepChange}
@@ -29,7 +29,8 @@ use Rattle.plain.specs.Claims.{Moves, position, random, Left, everything
 use Rattle.plain.proofs.QuestionLaws.{asks-law, given-law, either-law, end-law}
 use Rattle.plain.proofs.TableLaws.{weightAt, total-put, total-remove}
 use Rattle.plain.proofs.AttributeLaws.{given-ordinary, ordinary-most, kept-most}
-use Rattle.plain.proofs.TakingLaws.{layers-up, sysTaken}
+use Rattle.plain.proofs.TakingLaws.{layers-up}
+use Rattle.plain.proofs.GrowUnit.{sysTaken}
 
 -- ---- SYS and the entry-only files
 
@@ -130,7 +131,7 @@ module _ (p : Plain) (message : Message) (lent : List ℕ) where
   unfolding newFile
   newFileStays n size attributes optional tail =
       ask _ no (ask _ no (asks-law (Stays p message lent) _ no λ legal. asks-law (Stays p message lent) _ no λ ordinary. ask _ (keeps _ tt)
-      (ask _ (keeps _ tt) (ask _ (keeps _ tt) (ask _ (keeps _ tt) (accepts refl (more-sys (layers-up p n (p .files))
+      (ask _ (keeps _ tt) (ask _ (keeps _ tt) (ask _ (keeps _ tt) (accepts refl (more-sys (layers-up (p .H) (sysOf p) n (p .files))
       (λ a t. put-most a n _ (p .files) (ordinary-most attributes _ (given-ordinary attributes legal ordinary) a t)))))))))
 
   create : (name : Name) (size attributes : ℕ) → Stays p message lent (stepCreate p name size attributes lent)
@@ -147,9 +148,9 @@ module _ (p : Plain) (message : Message) (lent : List ℕ) where
       (accepts refl (other-files (λ a t. omega (arith, total-remove (hasAttributes a) (named name) (p .files))))))))
 
   -- a kept name needs no layer more
-  change-up : (same : Bool) (m : ℕ) (others : Table File) → p .layers ≤ cond same (p .layers) (layersFor p m others)
+  change-up : (same : Bool) (m : ℕ) (others : Table File) → p .layers ≤ cond same (p .layers) (layersFor (p .H) (sysOf p) m others)
   change-up true m others = omega arith
-  change-up false m others = layers-up p m others
+  change-up false m others = layers-up (p .H) (sysOf p) m others
 
   changeStays : (n : ℕ) (f : File) (m size attributes : ℕ) → ((a : ℕ) → T (entryOnly a) → oneIf (eqb attributes a) ≤ weightAt (hasAttributes a) n (tableFind n (p .files)))
       → Stays p message lent (changeFile p n f m size attributes lent)

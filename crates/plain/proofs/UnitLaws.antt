@@ -4,19 +4,20 @@ use mathlib.Core.Bool.{Bool, true, false, not, _||_}
 use mathlib.Core.List.{List, [], _∷_, _++_}
 use mathlib.Core.Logic.{_≢_}
 use mathlib.Core.Option.{Option, none, some}
-use Prim.Native.Nat.{ℕ, zero, suc, _+_, _≤_, _<_, compare, Ordering}
+use Prim.Native.Nat.{ℕ, _+_, _<_, compare, Ordering}
 use native.Mathlib.Omega.{arith}
-use lib.Dec.{T, eqb, eqb→eq, eqb-refl}
+use lib.Dec.{T, T-not, eqb, eqb-refl}
+use borrow.Author.Tests.{ne-eqb}
 use Rattle.disc.specs.Names.{SYS, MAP, isSystem, legalName}
 use Rattle.disc.specs.Slices.{occurrences}
 use Rattle.disc.specs.Entries.{sysEntry, mapEntry}
 use Rattle.disc.proofs.Compare.{Tri, less, same, more, tri, same-or}
 use Rattle.disc.proofs.NameLaws.{legal-begins}
 use Rattle.disc.proofs.SliceLaws.{occurrences-append}
-use Rattle.plain.specs.Table.{Row, Table, findBy, tableFind, tablePut, tableMap, total, isSome, SortedFrom}
-use Rattle.plain.specs.Unit.{Plain, File, AreaUser, slicesOf, held, fileEntry, entries, entry}
+use Rattle.plain.specs.Table.{Row, Table, findBy, tableFind, tablePut, tableMap, total, isSome, SortedFrom, Every}
+use Rattle.plain.specs.Unit.{Plain, File, AreaUser, slicesOf, fileEntry, entries, entry}
 use Rattle.plain.specs.Good.{Good}
-use Rattle.plain.proofs.TableLaws.{some≢none, some-inj, find-put, find-put-other}
+use Rattle.plain.proofs.TableLaws.{some≢none, find-put, find-put-other, sorted-put, weightAt, total-put}
 use Rattle.plain.proofs.QuestionLaws.{not-some, is-some}
 
 -- ---- names
@@ -39,6 +40,14 @@ find-map {A} {B} f n (r ∷ t) = go (compare n (r .key)) (tri n (r .key)) (find-
     go o (less h) ih = refl
     go o (same e) ih = ap (λ (k : ℕ). some (f k (r .val))) (sym e)
     go o (more h) ih = ih
+
+sorted-map : {A B : Type 0} (f : ℕ → A → B) (b : ℕ) (t : Table A) → SortedFrom b t → SortedFrom b (tableMap f t)
+sorted-map f b [] ok = tt
+sorted-map f b (r ∷ t) ok = (ok .0, sorted-map f (r .key) t (ok .1))
+
+total-map : {A B : Type 0} (w : ℕ → ℕ) (f : ℕ → A → B) (t : Table A) → total (λ r. w (r .key)) (tableMap f t) ≡ total (λ r. w (r .key)) t
+total-map w f [] = refl
+total-map w f (r ∷ t) = omega (arith, total-map w f t)
 
 abbrev fileEntries : Plain → Table (List ℕ)
 fileEntries p = tableMap (fileEntry (p .F) (p .s)) (p .files)
@@ -88,6 +97,42 @@ entry-none p n t =
     go : (o : Option File) → mapSome (fileEntry (p .F) (p .s) n) o ≡ none → o ≡ none
     go none h = refl
     go (some f) h = absurd (some≢none h)
+
+pub vacant-name : (p : Plain) (n : ℕ) → entry p n ≡ none → (tableFind n (p .files) ≡ none) × T (not (isSystem n))
+vacant-name p n e = let v = entry-none p n (rw e tt) in (v .0, rw (ne-eqb n SYS (v .1), ne-eqb n MAP (v .2)) tt)
+
+pub ordinary-files : {p : Plain} → Good p → Every (λ n f. T (not (isSystem n))) (p .files)
+ordinary-files g n f e = g .files n f e .ordinary
+
+-- SYS and MAP are no files
+pub system-none : (p : Plain) (n : ℕ) → Every (λ m f. T (not (isSystem m))) (p .files) → T (isSystem n) → tableFind n (p .files) ≡ none
+system-none p n ordinary t = go (tableFind n (p .files)) refl
+  where
+    go : (o : Option File) → tableFind n (p .files) ≡ o → o ≡ none
+    go none e = refl
+    go (some f) e = absurd (T-not (isSystem n) (ordinary n f e) t)
+
+-- ---- the entries as one table
+
+pub sorted-entries : (p : Plain) → SortedFrom 0 (p .files) → SortedFrom 0 (entries p)
+sorted-entries p sorted =
+    sorted-put 0 SYS _ (withMap p) (omega arith) (sorted-put 0 MAP mapEntry (fileEntries p) (omega arith) (sorted-map (fileEntry (p .F) (p .s)) 0 (p .files) sorted))
+
+-- a sum over the names that are entered
+pub total-entries : (p : Plain) → Every (λ n f. T (not (isSystem n))) (p .files) → (w : ℕ → ℕ)
+    → total (λ r. w (r .key)) (entries p) ≡ total (λ r. w (r .key)) (p .files) + w SYS + w MAP
+total-entries p ordinary w =
+    let v : Row (List ℕ) → ℕ = λ r. w (r .key) in
+    let no-file : (n : ℕ) → T (isSystem n) → tableFind n (fileEntries p) ≡ none = λ n t.
+    find-map (fileEntry (p .F) (p .s)) n (p .files) ∙ ap (mapSome (fileEntry (p .F) (p .s) n)) (system-none p n ordinary t) in
+    omega (
+      arith,
+      total-put v SYS (sysEntry (p .H) (p .s) (p .layers) (p .sys)) (withMap p),
+      total-put v MAP mapEntry (fileEntries p),
+      ap (weightAt v SYS) (find-put-other SYS MAP mapEntry (fileEntries p) (omega arith) ∙ no-file SYS tt),
+      ap (weightAt v MAP) (no-file MAP tt),
+      total-map w (fileEntry (p .F) (p .s)) (p .files),
+    )
 
 -- a name that is entered, and none of SYS and MAP, is a file's
 pub entry-file : (p : Plain) (n : ℕ) → T (isSome (entry p n)) → T (not (isSystem n)) → (f : File) × (tableFind n (p .files) ≡ some f)

@@ -6,9 +6,10 @@ use native.Mathlib.Omega.{arith}
 use lib.ListN.{length, getD, take, drop, set, replicate, length-append, length-take, length-drop, length-set, length-replicate, getD-replicate, List·getD-append}
 use lib.Seq.{getD-take, getD-drop, getD-append-add, getD-set-same, getD-set-other, length-take-le}
 use Rattle.disc.specs.Words.{Words}
-use Rattle.disc.proofs.WordLaws.{words-take, words-replicate}
+use Rattle.disc.proofs.WordLaws.{words-take, words-drop, words-replicate}
 use Rattle.disc.proofs.Compare.{same-or, below-or}
 use Rattle.plain.specs.Taking.{zeroSectors}
+use Rattle.plain.specs.Catalog.{optionalIn, tailIn, resized}
 use Rattle.plain.specs.Good.{WordsOf}
 
 -- What holds of every element of a list.
@@ -61,3 +62,19 @@ length-zeroSectors n = length-replicate n (replicate 256 0)
 
 pub zeroSectors-words : (n : ℕ) → EachOf (WordsOf 256) [] (zeroSectors n)
 zeroSectors-words n = each-replicate (WordsOf 256) [] n (replicate 256 0) (wordsOf-zeros 256)
+
+-- a resized file has sectors of the old or zero ones
+pub length-resized : (n : ℕ) (l : List (List ℕ)) → length (resized n l) ≡ n
+length-resized n l = omega (arith, length-append (take n l) (zeroSectors (n - length l)), length-take n l, length-zeroSectors (n - length l))
+
+pub resized-words : (n : ℕ) (l : List (List ℕ)) → EachOf (WordsOf 256) [] l → EachOf (WordsOf 256) [] (resized n l)
+resized-words n l ok =
+    each-append (WordsOf 256) [] (take n l) (zeroSectors (n - length l)) (each-take (WordsOf 256) [] n l ok) (zeroSectors-words (n - length l))
+
+-- ---- the words of a lent record
+
+pub optional-words : (lent : List ℕ) → Words lent → 16 ≤ length lent → WordsOf 3 (optionalIn lent)
+optional-words lent w long = wordsOf-take 3 (drop 3 lent) (omega (arith, length-drop 3 lent)) (words-drop 3 lent w)
+
+pub tail-words : (lent : List ℕ) → Words lent → 16 ≤ length lent → WordsOf 6 (tailIn lent)
+tail-words lent w long = wordsOf-take 6 (drop 10 lent) (omega (arith, length-drop 10 lent)) (words-drop 10 lent w)

@@ -10,7 +10,7 @@ use Rattle.disc.specs.Names.{named, unitIn, nameOf, legalName}
 use Rattle.disc.specs.Attributes.{legalAttributes, legalWith, givesEntryOnly, permanent}
 use Rattle.disc.specs.Slices.{lastOf}
 use Rattle.plain.specs.Table.{Table, tableFind, tablePut, tableRemove, isSome}
-use Rattle.plain.specs.Unit.{Plain, File, entry, withFiles}
+use Rattle.plain.specs.Unit.{Plain, File, sysOf, entry, withFiles}
 use Rattle.plain.specs.Questions.{Outcome, asks, given, replies, done, fill, known}
 use Rattle.plain.specs.Taking.{Taking, taking, layersFor, enough, zeroSectors}
 
@@ -43,7 +43,7 @@ stepInit p unit lent =
 unfoldable pub newFile : Plain → ℕ → ℕ → ℕ → List ℕ → List ℕ → List ℕ → Outcome
 newFile p n size attributes optional tail lent =
     let count : ℕ = need (p .s) size in
-    let t : Taking = taking p (layersFor p n (p .files)) 0 count in
+    let t : Taking = taking p (sysOf p) (layersFor (p .H) (sysOf p) n (p .files)) 0 count in
     let f : File = record {
       attributes = attributes;
       optional = optional;
@@ -58,7 +58,7 @@ newFile p n size attributes optional tail lent =
     (asks (legalAttributes attributes) (replies p 0x1200 lent)
     (asks (not (givesEntryOnly attributes)) (replies p 0x1200 lent)
     (asks (not (isSome (entry p n))) (replies p 0x1010 lent)
-    (enough p t (t .fileNew) lent (tablePut n f (p .files)))))))
+    (enough p (sysOf p) t (t .fileNew) lent (tablePut n f (p .files)))))))
 
 -- "Create's optional and tail are zero."
 abbrev pub stepCreate : Plain → Name → ℕ → ℕ → List ℕ → Outcome
@@ -127,7 +127,8 @@ unfoldable pub changeFile : Plain → ℕ → File → ℕ → ℕ → ℕ → L
 changeFile p n f m size attributes lent =
     let others : Table File = tableRemove n (p .files) in
     let count : ℕ = slicesAfter (p .s) size f in
-    let t : Taking = taking p (cond (eqb m n) (p .layers) (layersFor p m others)) (lastOf (f .slices)) (count - length (f .slices)) in
+    let layers : ℕ = cond (eqb m n) (p .layers) (layersFor (p .H) (sysOf p) m others) in
+    let t : Taking = taking p (sysOf p) layers (lastOf (f .slices)) (count - length (f .slices)) in
     let slices : List ℕ = take count (f .slices) ++ t .fileNew in
     asks (legalName m) (replies p 0x1200 lent)
     (asks (legalAttributes attributes) (replies p 0x1200 lent)
@@ -135,7 +136,7 @@ changeFile p n f m size attributes lent =
     (asks (not (isSome (tableFind n (p .areas)))) (replies p 0x1200 lent)
     (asks (not (permanent (f .attributes)) || (eqb m n && eqb size (f .booked))) (replies p 0x1200 lent)
     (asks (eqb m n || not (isSome (entry p m))) (replies p 0x1010 lent)
-    (enough p t slices lent (tablePut m (changed f attributes size count slices lent) others)))))))
+    (enough p (sysOf p) t slices lent (tablePut m (changed f attributes size count slices lent) others)))))))
 
 -- R-9: "1200h at question 4", whichever attributes the entry has.
 abbrev pub stepChange : Plain → Name → List ℕ → Outcome

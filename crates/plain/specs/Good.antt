@@ -6,15 +6,16 @@ use mathlib.Core.Option.{none, some}
 use Prim.Native.Nat.{ℕ, _*_, _≤_, _<_}
 use lib.ListN.{length, getD}
 use lib.Dec.{T}
-use Rattle.disc.specs.Numbers.{need, ceilDiv}
+use Rattle.disc.specs.Numbers.{need}
 use Rattle.disc.specs.Words.{Words}
 use Rattle.disc.specs.Names.{legalName, isSystem}
 use Rattle.disc.specs.Attributes.{legalAttributes, legalWith}
 use Rattle.disc.specs.Slices.{InRangeOnce, firstOf}
 use Rattle.disc.specs.Stretches.{stretchCount}
 use Rattle.disc.specs.Kit.{Limits}
+use Rattle.disc.specs.Catalog.{slicesNeeded}
 use Rattle.plain.specs.Table.{Row, Table, tableFind, SortedFrom, Every}
-use Rattle.plain.specs.Unit.{Plain, File, AreaUser, M, held}
+use Rattle.plain.specs.Unit.{Plain, File, AreaUser, sysOf, M, held}
 use Rattle.plain.specs.Taking.{placesTaken}
 use Rattle.plain.specs.Areas.{usersOf, isWriter, isExclusive}
 
@@ -65,12 +66,12 @@ pub record Good (p : Plain) : Type 0 where
   pub limits : Limits (p .H) (p .s) (p .F) (p .N)
   pub layered : 1 ≤ p .layers
   -- "SYS has length H times L and H times L / s slices, rounded up, slice 1 first."
-  pub sysCount : length (p .sys) ≡ ceilDiv (p .H * p .layers) (p .s)
+  pub sysCount : length (p .sys) ≡ slicesNeeded (p .H) (p .s) (sysOf p) (p .layers)
   pub sysFirst : firstOf (p .sys) ≡ 1
   pub sysFew : stretchCount (p .sys) ≤ 127
   -- names are distinct; of one key no more than there are places
   pub names : SortedFrom 0 (p .files)
-  pub chains : (k : ℕ) → placesTaken (p .H) k (p .files) ≤ 16 * p .layers
+  pub chains : (k : ℕ) → placesTaken (p .H) k (sysOf p) (p .files) ≤ 16 * p .layers
   pub files : Every (GoodFile (p .s) (p .areas)) (p .files)
   -- "No slice is in two files or twice in one."
   pub once : InRangeOnce (M p) (held p)

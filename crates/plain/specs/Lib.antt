@@ -10,7 +10,3 @@ pub mod Reports
 pub mod Step
 pub mod Good
 pub mod Claims
-pub mod Cases
-pub mod Paper
-pub mod ExampleUnits
-pub mod Examples

@@ -9,6 +9,7 @@ use Rattle.disc.specs.Numbers.{sliceCount}
 use Rattle.disc.specs.Names.{SYS, MAP}
 use Rattle.disc.specs.Slices.{freeCount}
 use Rattle.disc.specs.Entries.{entryWords, indexSector, sysEntry, mapEntry}
+use Rattle.disc.specs.Catalog.{Catalog, sysCatalog}
 use Rattle.plain.specs.Table.{Row, Table, tableFind, tablePut, tableMap}
 
 pub record File : Type 0 where
@@ -48,6 +49,10 @@ withFiles p files = withTables p (p .layers) (p .sys) files (p .areas)
 
 abbrev pub withAreas : Plain → Table (Table AreaUser) → Plain
 withAreas p areas = withTables p (p .layers) (p .sys) (p .files) areas
+
+-- SYS, the catalog of the unit's files.
+abbrev pub sysOf : Plain → Catalog
+sysOf p = sysCatalog (p .layers) (p .sys)
 
 -- The slices of all files.
 abbrev pub slicesOf : Table File → List ℕ

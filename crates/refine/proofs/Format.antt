@@ -298,10 +298,9 @@ module _ (image : List ℕ) (unit H s F N k6 k7 : ℕ) (lim : Limits H s F N) (s
     size = length-formatted image H s F N k6 k7 ∙ size;
     kit = fresh-kit;
     map = fresh-map;
-    sysIndex = rw fresh-index (formatted-6 image H s F N k6 k7 (lim .keys-low) (lim .first) long);
+    sys = record { index = rw fresh-index (formatted-6 image H s F N k6 k7 (lim .keys-low) (lim .first) long); places = rw (formatted-stores image H s F N k6 k7) map-entered };
     mapIndex = formatted-7 image H s F N k6 k7 (lim .keys-low) (lim .first) long;
     files = λ n f h. absurd (some≢none (sym h));
-    catalog = rw (formatted-stores image H s F N k6 k7) map-entered;
   }
 
   -- ---- its words

@@ -1,28 +1,30 @@
 -- What keeps the lists of a unit apart, less than `Good` and true half way through a call too; which sectors they read; the
 -- entries by name.
 use mathlib.Core.Path.{_≡_, refl, sym, ap, _∙_}
-use mathlib.Core.List.{List, [], _∷_, _++_}
+use mathlib.Core.List.{List}
 use mathlib.Core.Logic.{_≢_}
 use mathlib.Core.Option.{Option, none, some}
-use Prim.Native.Nat.{ℕ, zero, suc, _+_, _*_, _-_, _/_, _%_, _≤_, _<_}
+use Prim.Native.Nat.{ℕ, zero, _+_, _*_, _-_, _/_, _≤_, _<_}
 use native.Mathlib.Omega.{arith}
-use native.Mathlib.Nat.{mul-le-mul-right, div-mul-le-self, div-add-mod'}
-use lib.ListN.{length, getD, length-append}
+use native.Mathlib.Nat.{mul-le-mul-right, div-mul-le-self}
+use lib.ListN.{length, getD}
 use lib.Dec.{T}
-use Rattle.disc.specs.Numbers.{need, ceilDiv, sliceCount}
-use Rattle.disc.specs.Names.{SYS, MAP, pack, nameWords, legalName}
+use Rattle.disc.specs.Numbers.{need}
+use Rattle.disc.specs.Names.{legalName}
 use Rattle.disc.specs.Slices.{occurrences, InRangeOnce}
-use Rattle.disc.specs.Stretches.{sectorIn, sysFrom}
+use Rattle.disc.specs.Stretches.{sectorIn}
 use Rattle.disc.specs.Kit.{Limits}
-use Rattle.disc.specs.Entries.{placeCount, sysEntry, mapEntry, indexSector}
+use Rattle.disc.specs.Entries.{indexSector}
+use Rattle.disc.specs.Catalog.{Catalog, placesOf}
 use Rattle.disc.proofs.SliceLaws.{occurrences-append}
 use Rattle.disc.proofs.Geometry.{quot, in-range, data-sector, apart, within, need-cover, ceil-cover}
 use Rattle.disc.proofs.EntryLaws.{length-entry}
-use Rattle.plain.specs.Table.{Table, tableFind, SortedFrom, Every}
-use Rattle.plain.specs.Unit.{Plain, File, M, held, slicesOf, fileEntry, entry}
-use Rattle.plain.specs.Good.{Good, GoodFile}
+use Rattle.disc.proofs.NameLaws.{pack-words}
+use Rattle.plain.specs.Table.{tableFind, SortedFrom, Every}
+use Rattle.plain.specs.Unit.{Plain, File, M, held, slicesOf, fileEntry, entry, sysOf}
+use Rattle.plain.specs.Good.{Good}
 use Rattle.plain.proofs.TableLaws.{some≢none, some-inj, find-below, total-one, total-two}
-use Rattle.plain.proofs.UnitLaws.{holds, occurrences-slices, occurrences-held, mapSome, entry-sys, entry-map, entry-other, system-cases}
+use Rattle.plain.proofs.UnitLaws.{holds, occurrences-held, mapSome, entry-sys, entry-map, entry-other, system-cases}
 use Rattle.refine.proofs.CatalogLaws.{Named, nameIn}
 
 pub record Ground (p : Plain) : Type 0 where
@@ -43,9 +45,6 @@ ground p g = record {
 
 -- ---- entries by name
 
-name-back : (n : ℕ) → pack (n / 0x100000000) (n / 65536 % 65536) (n % 65536) ≡ n
-name-back n = omega arith
-
 pub entry-named : (p : Plain) → SortedFrom 0 (p .files) → Named (entry p)
 entry-named p sorted = record {
   name = λ n e h. system-cases n
@@ -57,7 +56,7 @@ entry-named p sorted = record {
   where
     file : (n : ℕ) (e : List ℕ) (o : Option File) → mapSome (fileEntry (p .F) (p .s) n) o ≡ some e → nameIn e ≡ n
     file n e none h = absurd (some≢none (sym h))
-    file n e (some f) h = ap nameIn (sym (some-inj h)) ∙ name-back n
+    file n e (some f) h = ap nameIn (sym (some-inj h)) ∙ pack-words n
 
 -- every name with an entry is legal, and every entry has 16 words
 module _ (p : Plain) (g : Good p) (n : ℕ) (e : List ℕ) (entered : entry p n ≡ some e) where
@@ -91,14 +90,8 @@ module _ (p : Plain) (g : Ground p) where
   pub top : p .F + M p * p .s ≤ p .N
   top = omega (arith, div-mul-le-self (p .N - p .F) (p .s), g .limits .some-data)
 
-  pub part-sys : (k : ℕ) → occurrences k (p .sys) ≤ occurrences k (held p)
-  part-sys k = omega (arith, occurrences-append k (p .sys) (slicesOf (p .files)))
-
   pub part-file : (m : ℕ) (a : File) → tableFind m (p .files) ≡ some a → (k : ℕ) → occurrences k (a .slices) ≤ occurrences k (held p)
   part-file m a e k = omega (arith, occurrences-held k (p .sys) (p .files), total-one (holds k) m a (p .files) e)
-
-  pub sys-in : (q : ℕ) → q < p .H * p .layers → q / p .s < length (p .sys)
-  sys-in q x = quot (p .F) (p .s) (M p) (held p) positive (g .once) q (length (p .sys)) (omega (arith, g .sysCover))
 
   pub first-in : (l : List ℕ) → 0 < length l → 0 / p .s < length l
   first-in l x = quot (p .F) (p .s) (M p) (held p) positive (g .once) 0 (length l) (omega (arith, mul-le-mul-right (p .s) x, positive))
@@ -109,24 +102,13 @@ module _ (p : Plain) (g : Ground p) where
       (need-cover (p .s) (length (a .sectors)) (length (a .slices)) positive (g .cover m a e) b q)
 
   -- every one is a data sector
-  pub sys-data : (q : ℕ) → q / p .s < length (p .sys) → (10 ≤ sectorIn (p .F) (p .s) (p .sys) q) × (sectorIn (p .F) (p .s) (p .sys) q < p .N)
-  sys-data q x =
-      let r = data-sector (p .F) (p .s) (M p) (held p) positive (g .once) (p .sys) q part-sys x in
-      (omega (arith, r .0, g .limits .first), omega (arith, r .1, top))
-
   pub file-data : (m : ℕ) (a : File) → tableFind m (p .files) ≡ some a → (b : ℕ) → b / p .s < length (a .slices)
       → (10 ≤ sectorIn (p .F) (p .s) (a .slices) b) × (sectorIn (p .F) (p .s) (a .slices) b < p .N)
   file-data m a e b x =
       let r = data-sector (p .F) (p .s) (M p) (held p) positive (g .once) (a .slices) b (part-file m a e) x in
       (omega (arith, r .0, g .limits .first), omega (arith, r .1, top))
 
-  -- SYS, a file, another file: no sector in common
-  pub sys-file : (m : ℕ) (a : File) → tableFind m (p .files) ≡ some a → (b q : ℕ) → b / p .s < length (a .slices) → q / p .s < length (p .sys)
-      → sectorIn (p .F) (p .s) (a .slices) b ≢ sectorIn (p .F) (p .s) (p .sys) q
-  sys-file m a e b q x y =
-      apart (p .F) (p .s) (M p) (held p) positive (g .once) (a .slices) (p .sys) b q
-      (λ k. omega (arith, occurrences-held k (p .sys) (p .files), total-one (holds k) m a (p .files) e)) x y
-
+  -- two files: no sector in common
   pub file-file : (m n : ℕ) (a f : File) → m ≢ n → tableFind m (p .files) ≡ some a → tableFind n (p .files) ≡ some f → (b c : ℕ) → b / p .s < length (a .slices) → c / p .s < length (f .slices)
       → sectorIn (p .F) (p .s) (a .slices) b ≢ sectorIn (p .F) (p .s) (f .slices) c
   file-file m n a f d e h b c x y =
@@ -137,16 +119,51 @@ module _ (p : Plain) (g : Ground p) where
       → sectorIn (p .F) (p .s) (a .slices) b ≡ sectorIn (p .F) (p .s) (a .slices) c → b ≡ c
   in-file m a e b c x y = within (p .F) (p .s) (M p) (held p) positive (g .once) (a .slices) b c (part-file m a e) x y
 
-  pub in-sys : (b c : ℕ) → b / p .s < length (p .sys) → c / p .s < length (p .sys) → sectorIn (p .F) (p .s) (p .sys) b ≡ sectorIn (p .F) (p .s) (p .sys) c → b ≡ c
-  in-sys b c x y = within (p .F) (p .s) (M p) (held p) positive (g .once) (p .sys) b c part-sys x y
-
-  -- the slices of SYS and of a file are above 0
-  pub sys-slices : (j : ℕ) → j < length (p .sys) → 1 ≤ getD (p .sys) j 0
-  sys-slices j x = in-range (p .F) (p .s) (M p) (held p) positive (g .once) (p .sys) j part-sys x .0
-
+  -- the slices of a file are above 0
   pub file-slices : (n : ℕ) (f : File) → tableFind n (p .files) ≡ some f → (j : ℕ) → j < length (f .slices) → 1 ≤ getD (f .slices) j 0
   file-slices n f h j x = in-range (p .F) (p .s) (M p) (held p) positive (g .once) (f .slices) j (part-file n f h) x .0
 
-  -- place t of SYS lies in one of its sectors
-  pub place-in : (t : ℕ) → t < placeCount (p .H) (p .layers) → (t / 16 + sysFrom) / p .s < length (p .sys)
-  place-in t x = sys-in (t / 16 + sysFrom) (omega arith)
+-- ---- a catalog of the unit
+
+-- its slices are the unit's and no file's, and hold its blocks
+pub record CatalogGround (p : Plain) (c : Catalog) : Type 0 where
+  pub unit : Ground p
+  pub part : (k : ℕ) → occurrences k (c .slices) ≤ occurrences k (held p)
+  pub beside : (m : ℕ) (a : File) → tableFind m (p .files) ≡ some a → (k : ℕ) → occurrences k (a .slices) + occurrences k (c .slices) ≤ occurrences k (held p)
+  pub cover : p .H * c .layers + c .from ≤ length (c .slices) * p .s
+
+pub sys-ground : {p : Plain} → Ground p → CatalogGround p (sysOf p)
+sys-ground {p} g = record {
+  unit = g;
+  part = λ k. omega (arith, occurrences-append k (p .sys) (slicesOf (p .files)));
+  beside = λ m a e k. omega (arith, occurrences-held k (p .sys) (p .files), total-one (holds k) m a (p .files) e);
+  cover = omega (arith, g .sysCover);
+}
+
+module _ {p : Plain} {c : Catalog} (g : CatalogGround p c) where
+  abbrev sector : ℕ → ℕ
+  sector b = sectorIn (p .F) (p .s) (c .slices) b
+
+  pub joined-in : (b : ℕ) → b < p .H * c .layers + c .from → b / p .s < length (c .slices)
+  joined-in b x = quot (p .F) (p .s) (M p) (held p) (positive p (g .unit)) (g .unit .once) b (length (c .slices)) (omega (arith, g .cover))
+
+  -- every one is a data sector, and no file's
+  pub catalog-data : (b : ℕ) → b / p .s < length (c .slices) → (10 ≤ sector b) × (sector b < p .N)
+  catalog-data b x =
+      let r = data-sector (p .F) (p .s) (M p) (held p) (positive p (g .unit)) (g .unit .once) (c .slices) b (g .part) x in
+      (omega (arith, r .0, g .unit .limits .first), omega (arith, r .1, top p (g .unit)))
+
+  pub catalog-file : (m : ℕ) (a : File) → tableFind m (p .files) ≡ some a → (b q : ℕ) → b / p .s < length (a .slices) → q / p .s < length (c .slices)
+      → sectorIn (p .F) (p .s) (a .slices) b ≢ sector q
+  catalog-file m a e b q x y = apart (p .F) (p .s) (M p) (held p) (positive p (g .unit)) (g .unit .once) (a .slices) (c .slices) b q (g .beside m a e) x y
+
+  pub in-catalog : (a b : ℕ) → a / p .s < length (c .slices) → b / p .s < length (c .slices) → sector a ≡ sector b → a ≡ b
+  in-catalog a b x y = within (p .F) (p .s) (M p) (held p) (positive p (g .unit)) (g .unit .once) (c .slices) a b (g .part) x y
+
+  -- its slices are above 0
+  pub catalog-slices : (j : ℕ) → j < length (c .slices) → 1 ≤ getD (c .slices) j 0
+  catalog-slices j x = in-range (p .F) (p .s) (M p) (held p) (positive p (g .unit)) (g .unit .once) (c .slices) j (g .part) x .0
+
+  -- place t lies in one of its sectors
+  pub place-in : (t : ℕ) → t < placesOf (p .H) c → (t / 16 + c .from) / p .s < length (c .slices)
+  place-in t x = joined-in (t / 16 + c .from) (omega arith)

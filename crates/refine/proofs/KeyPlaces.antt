@@ -1,11 +1,11 @@
 -- Sums over a range, and the places of a key among those of SYS: sixteen for each layer.
 use mathlib.Core.Path.{_≡_, refl, sym, ap, _∙_}
-use mathlib.Core.Logic.{_≢_}
-use Prim.Native.Nat.{ℕ, zero, suc, _+_, _*_, _/_, _%_, _≤_, _<_, compare, Ordering, Ordering·lt, Ordering·eq, Ordering·gt}
+use Prim.Native.Nat.{ℕ, zero, suc, _+_, _*_, _/_, _%_, _≤_, _<_, compare, Ordering}
 use native.Mathlib.Omega.{arith}
 use native.Mathlib.Nat.{add-suc, mod-eq-of-lt, mul-add-mod-self-left}
 use Rattle.disc.specs.Slices.{oneIfSame}
 use Rattle.disc.specs.Entries.{placeCount}
+use Rattle.disc.proofs.SliceLaws.{same-le}
 use Rattle.disc.proofs.Compare.{Tri, less, same, more, tri, tri-same, same-or, below-or}
 use Rattle.plain.proofs.Collect.{sumBelow, sum-ext}
 
@@ -43,49 +43,18 @@ sum-regroup a (suc b) f = rw (let e : a * suc b ≡ a * b + a = omega arith in e
 
 -- ---- a sum and one of its terms
 
-abbrev pub butBy : Ordering → ℕ → ℕ
-butBy Ordering·lt x = x
-butBy Ordering·eq x = 0
-butBy Ordering·gt x = x
-
--- the terms with that at i left out
-abbrev pub but : ℕ → (ℕ → ℕ) → ℕ → ℕ
-but i f t = butBy (compare t i) (f t)
-
-pub but-other : (i : ℕ) (f : ℕ → ℕ) (t : ℕ) → t ≢ i → but i f t ≡ f t
-but-other i f t d = go (compare t i) (tri t i)
-  where
-    go : (o : Ordering) → Tri t i o → butBy o (f t) ≡ f t
-    go o (less h) = refl
-    go o (same e) = absurd (d e)
-    go o (more h) = refl
-
-pub sum-but : (n i : ℕ) (f : ℕ → ℕ) → i < n → sumBelow n f ≡ sumBelow n (but i f) + f i
+sum-term : (n i : ℕ) (f : ℕ → ℕ) → i < n → f i ≤ sumBelow n f
 unfolding sumBelow
-sum-but zero i f h = absurd (omega arith)
-sum-but (suc n) i f h = same-or n i at (λ d. past d (sum-but n i f (omega arith)))
-  where
-    at : n ≡ i → sumBelow n f + f n ≡ sumBelow n (but i f) + but i f n + f i
-    at e =
-        let here : but i f n ≡ 0 = rw (e, tri-same i) refl in
-        omega (arith, sum-ext n f (but i f) (λ t x. sym (but-other i f t (omega arith))), here, ap f e)
+sum-term zero i f h = absurd (omega arith)
+sum-term (suc n) i f h = same-or i n (λ e. omega (arith, ap f e)) (λ d. omega (arith, sum-term n i f (omega arith)))
 
-    past : n ≢ i → sumBelow n f ≡ sumBelow n (but i f) + f i → sumBelow n f + f n ≡ sumBelow n (but i f) + but i f n + f i
-    past d ih = omega (arith, but-other i f n d)
-
--- terms below those of g, and beside them two numbers below terms of g for which they have 0
-pub sum-two : (n i j a b : ℕ) (f g : ℕ → ℕ) → i < n → j < n → i ≢ j → ((t : ℕ) → t < n → f t ≤ g t) → f i ≡ 0 → f j ≡ 0 → a ≤ g i → b ≤ g j
-    → sumBelow n f + a + b ≤ sumBelow n g
-sum-two n i j a b f g hi hj d le zi zj la lb =
-    omega (
-      arith,
-      sum-but n i g hi,
-      sum-but n j (but i g) hj,
-      but-other i g j (λ e. d (sym e)),
-      sum-le n f (but j (but i g)) (λ t x. same-or t j
-          (λ e. omega (arith, ap f e))
-          (λ dj. same-or t i (λ e. omega (arith, ap f e)) (λ di. omega (arith, but-other j (but i g) t dj, but-other i g t di, le t x)))),
-    )
+-- terms below those of g, one of them by more
+pub sum-less : (n i : ℕ) (f g : ℕ → ℕ) → i < n → ((t : ℕ) → t < n → f t ≤ g t) → f i < g i → sumBelow n f < sumBelow n g
+unfolding sumBelow
+sum-less zero i f g h le lt = absurd (omega arith)
+sum-less (suc n) i f g h le lt = same-or i n
+    (λ e. omega (arith, sum-le n f g (λ t x. le t (omega arith)), ap f e, ap g e))
+    (λ d. omega (arith, sum-less n i f g (omega arith) (λ t x. le t (omega arith)) lt, le n (omega arith)))
 
 -- the first term taken out
 pub sum-front : (n : ℕ) (f : ℕ → ℕ) → sumBelow (suc n) f ≡ f 0 + sumBelow n (λ t. f (suc t))
@@ -116,13 +85,11 @@ sum-some (suc n) f h = below-or (f n) 1
 abbrev pub isKey : ℕ → ℕ → ℕ
 isKey k x = oneIfSame (compare x k)
 
-pub is-most : (k x : ℕ) → isKey k x ≤ 1
-is-most k x = go (compare x k)
-  where
-    go : (o : Ordering) → oneIfSame o ≤ 1
-    go Ordering·lt = omega arith
-    go Ordering·eq = omega arith
-    go Ordering·gt = omega arith
+is-most : (k x : ℕ) → isKey k x ≤ 1
+is-most k x = same-le (compare x k)
+
+pub is-key : (k : ℕ) → isKey k k ≡ 1
+is-key k = rw (tri-same k) refl
 
 pub is-same : (k x : ℕ) → 1 ≤ isKey k x → x ≡ k
 is-same k x h = go (compare x k) (tri x k) h
@@ -173,9 +140,9 @@ sectors-least H L k low =
       sum-least L 1 (λ l. sumBelow H (λ j. isKey k ((H * l + j) % H))) (λ l x.
           omega (
             arith,
-            sum-but H k (λ j. isKey k ((H * l + j) % H)) low,
+            sum-term H k (λ j. isKey k ((H * l + j) % H)) low,
             ap (isKey k) (mul-add-mod-self-left H l k ∙ mod-eq-of-lt low),
-            ap oneIfSame (tri-same k),
+            is-key k,
           )),
     )
 

@@ -8,6 +8,7 @@ pub mod UnitSound
 pub mod Sectors
 pub mod Writers
 pub mod KeyPlaces
+pub mod PlaceCount
 pub mod ReadFile
 pub mod ReadFiles
 pub mod ReadCatalog
@@ -23,3 +24,4 @@ pub mod SoundRepresents
 pub mod FormatImage
 pub mod Format
 pub mod SysStays
+pub mod LeavesLaws

@@ -195,10 +195,9 @@ module _ {image : List ℕ} {state : State} {H s F N : ℕ} {sys : List ℕ} (so
         size = so .size;
         kit = read-kit;
         map = read-map;
-        sysIndex = rw own (so .sysIndex .pairs);
+        sys = record { index = rw own (so .sysIndex .pairs); places = read-catalog image state H s F P (so .layers) sys pos small (so .entries) (so .sysEntered) (so .mapEntered) (state .unit) N (readAreas state) };
         mapIndex = so .mapIndex;
         files = on-image;
-        catalog = read-catalog image state H s F P (so .layers) sys pos small (so .entries) (so .sysEntered) (so .mapEntered) (state .unit) N (readAreas state);
       };
       areas = record {
         shaped = so .shaped;

@@ -1,29 +1,29 @@
 -- The catalog of sound places: each is unused or holds the entry of its name, and no key has more names than places.
 use mathlib.Core.Path.{_≡_, refl, sym, ap, _∙_}
-use mathlib.Core.List.{List}
+use mathlib.Core.List.{List, []}
 use mathlib.Core.Logic.{_≢_, _⊎_, inl, inr, ⊎-elim}
 use mathlib.Core.Option.{Option, none, some}
 use Prim.Native.Nat.{ℕ, zero, suc, _*_, _/_, _%_, _≤_, _<_}
 use native.Mathlib.Omega.{arith}
-use lib.Dec.{T, eqb, eqb→eq}
+use lib.Dec.{T, eqb, eqb→eq, not-T}
 use Rattle.types.specs.declared.State.{State}
 use Rattle.disc.specs.Names.{SYS, MAP, isSystem, keyOf}
 use Rattle.disc.specs.Entries.{placeCount, nameAt, sysEntry, mapEntry}
+use Rattle.disc.specs.Catalog.{sysCatalog}
 use Rattle.disc.proofs.Compare.{same-or}
-use Rattle.plain.specs.Table.{Row, Table, tableFind}
+use Rattle.plain.specs.Table.{Table, tableFind}
 use Rattle.plain.specs.Unit.{Plain, File, AreaUser, fileEntry, entry}
-use Rattle.plain.specs.Taking.{hasKey, placesTaken}
+use Rattle.plain.specs.Taking.{placesTaken}
 use Rattle.plain.proofs.TableLaws.{some≢none}
 use Rattle.plain.proofs.QuestionLaws.{or-case}
 use Rattle.plain.proofs.UnitLaws.{mapSome, legal-positive, entry-sys, entry-map, entry-other, system-cases}
-use Rattle.plain.proofs.Collect.{weightIf}
 use Rattle.sound.specs.Places.{Unused, Used, Entered}
 use Rattle.sound.specs.Sound.{SoundEntries}
 use Rattle.refine.specs.Represents.{PlaceOf, CatalogOf}
 use Rattle.refine.proofs.CatalogLaws.{name-of}
-use Rattle.refine.proofs.KeyPlaces.{isKey, sum-two, places-of}
 use Rattle.refine.proofs.ReadFile.{readFile, shown, entry-shown}
-use Rattle.refine.proofs.ReadFiles.{row-some, rowBy, fileAt, filesBelow, used-name, file-there, file-find, total-files}
+use Rattle.refine.proofs.ReadFiles.{sorted-files, filesBelow, used-name, file-there, file-find}
+use Rattle.refine.proofs.PlaceCount.{places-most}
 
 -- n words are all 0, or they are not
 all-zero : (n : ℕ) (f : ℕ → ℕ) → ((w : ℕ) → w < n → f w ≡ 0) ⊎ (((w : ℕ) → w < n → f w ≡ 0) → ⊥)
@@ -108,31 +108,7 @@ module _ (image : List ℕ) (state : State) (H s F : ℕ) (P : ℕ → ℕ → �
       alone = λ t u x y q nz. en .alone t u x y (used-name image state F s P t nz) (used-name image state F s P u (λ z. nz (q ∙ z))) q;
     }
 
-  -- a file's place is one of its key's
-  row-key : (k t : ℕ) → t < placeCount H layers → weightIf (λ r. hasKey H k (r .key)) (fileAt image state F s P t) ≤ isKey k (t / 16 % H)
-  row-key k t x = go (fileAt image state F s P t) refl
-    where
-      go : (o : Option (Row File)) → fileAt image state F s P t ≡ o → weightIf (λ r. hasKey H k (r .key)) o ≤ isKey k (t / 16 % H)
-      go none e = omega arith
-      go (some r) e =
-          let q = row-some (nameAt P t) (readFile image state F s P t) r e in
-          omega (arith, ap (isKey k) (key-at t (r .key) x (q .key) (omega (arith, q .key, q .positive))))
-
-  -- a system name's place shows no file
-  no-row : (w : Row File → ℕ) (t n : ℕ) → nameAt P t ≡ n → ((f : File) → rowBy n f ≡ none) → weightIf w (fileAt image state F s P t) ≡ 0
-  no-row w t n e h = ap (λ (m : ℕ). weightIf w (rowBy m (readFile image state F s P t))) e ∙ ap (weightIf w) (h (readFile image state F s P t))
-
-  pub read-chains : (k : ℕ) → placesTaken H k files ≤ 16 * layers
-  read-chains k =
-      let w : Row File → ℕ = λ r. hasKey H k (r .key) in
-      omega (
-        arith,
-        total-files image state F s P H (placeCount H layers) en w,
-        sum-two (placeCount H layers) (se .place) (me .place) (hasKey H k SYS) (hasKey H k MAP)
-            (λ t. weightIf w (fileAt image state F s P t)) (λ t. isKey k (t / 16 % H)) (se .inside) (me .inside)
-            (λ e. (let z : SYS ≡ MAP = sym sys-name ∙ ap (nameAt P) e ∙ map-name in omega arith))
-            (row-key k) (no-row w (se .place) SYS sys-name (λ f. refl)) (no-row w (me .place) MAP map-name (λ f. refl))
-            (omega (arith, ap (isKey k) (key-at (se .place) SYS (se .inside) sys-name (omega arith))))
-            (omega (arith, ap (isKey k) (key-at (me .place) MAP (me .inside) map-name (omega arith)))),
-        places-of H layers k,
-      )
+  pub read-chains : (k : ℕ) → placesTaken H k (sysCatalog layers sys) files ≤ 16 * layers
+  read-chains =
+      places-most (unit 0 0 []) (sorted-files image state F s P (placeCount H layers))
+      (λ n f e. let w = file-there image state F s P (placeCount H layers) n f e in not-T (isSystem n) (rw (w .name) at (w .ordinary))) (read-catalog 0 0 [])

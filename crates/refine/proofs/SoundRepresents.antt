@@ -31,7 +31,7 @@ module _ {image : List ℕ} {state : State} {p : Plain} (g : Good p) (r : Repres
     sysEntered = sys-entered g r;
     mapEntered = map-entered g r;
     mapIndex = r .layout .mapIndex;
-    sysIndex = sys-index image p g (r .layout .sysIndex);
+    sysIndex = sys-index image p g (r .layout .sys .index);
     sysCount = g .sysCount;
     sysFirst = g .sysFirst;
     entries = sound-entries g r;
@@ -44,7 +44,7 @@ module _ {image : List ℕ} {state : State} {p : Plain} (g : Good p) (r : Repres
   pub represents-sound : SoundUnit image state
   represents-sound =
       let kit = r .layout .kit in
-      let with-sys = subst (SoundWith image state (p .H) (p .s) (p .F) (p .N)) (sym (sys-read image p g (r .layout .sysIndex))) with-unit in
+      let with-sys = subst (SoundWith image state (p .H) (p .s) (p .F) (p .N)) (sym (sys-read image p g (r .layout .sys .index))) with-unit in
       record { rules = rw (kit .keys, kit .slice, kit .first, kit .sectors) with-sys }
 
 pub sound-represents : SoundRepresents

@@ -27,7 +27,7 @@ module _ {image : List ℕ} {state : State} {p : Plain} (g : Good p) (r : Repres
   sys-slices : sysSlicesOn image ≡ p .sys
   sys-slices =
       ap₂ (λ (f s : ℕ). slicesAt image f s sysIndexSector) (r .layout .kit .first) (r .layout .kit .slice)
-      ∙ sys-read image p g (r .layout .sysIndex)
+      ∙ sys-read image p g (r .layout .sys .index)
 
 pub sys-never-shrinks : {image end : List ℕ} {state stop : State} {p q : Plain} → Good p → Represents image state p → Good q → Represents end stop q
     → NeverShrinks p q → SysNeverShrinks image state end stop

@@ -28,7 +28,7 @@ use Rattle.sound.specs.Places.{Unused}
 use Rattle.sound.specs.State.{openArea}
 use Rattle.refine.specs.Represents.{PlaceOf, FileOnImage, Layout, LiveArea, areaOfState, areaOfUnit, SameAreas, Represents}
 use Rattle.refine.proofs.CatalogLaws.{At, at, Named, nameIn, name-zero, no-zero}
-use Rattle.refine.proofs.Ground.{Ground, ground, entry-named, entry-length, positive, sys-slices, file-slices}
+use Rattle.refine.proofs.Ground.{Ground, ground, entry-named, entry-length, positive, catalog-slices, sys-ground, file-slices}
 
 -- ---- entries
 
@@ -80,8 +80,8 @@ module _ {image : List ℕ} {p : Plain} (a : Is image p) where
 module _ (image : List ℕ) (p : Plain) (L : ℕ) (y : List ℕ) (fs : Table File) (a : Is image p) (b : Is image (withTables p L y fs (p .areas))) where
   sys-unique : y ≡ p .sys
   sys-unique =
-      index-unique (p .F) (p .s) y (p .sys) (positive p (gr a)) (sys-slices (withTables p L y fs (p .areas)) (gr b)) (sys-slices p (gr a)) (b .good .sysFew) (a .good .sysFew)
-      (b .layout .sysIndex) (a .layout .sysIndex)
+      index-unique (p .F) (p .s) y (p .sys) (positive p (gr a)) (catalog-slices (sys-ground (gr b))) (catalog-slices (sys-ground (gr a))) (b .good .sysFew) (a .good .sysFew)
+      (b .layout .sys .index) (a .layout .sys .index)
 
 -- the layers: SYS's own entry has them
 module _ (image : List ℕ) (p : Plain) (L : ℕ) (fs : Table File) (a : Is image p) (b : Is image (withTables p L (p .sys) fs (p .areas))) where
@@ -91,19 +91,19 @@ module _ (image : List ℕ) (p : Plain) (L : ℕ) (fs : Table File) (a : Is imag
   abbrev q : Plain
   q = withTables p L (p .sys) fs (p .areas)
 
-  atA : At (a .layout .catalog) (nm a) SYS (sysEntry (p .H) (p .s) (p .layers) (p .sys))
-  atA = at (a .layout .catalog) (nm a) SYS (sysEntry (p .H) (p .s) (p .layers) (p .sys)) (entry-sys p)
+  atA : At (a .layout .sys .places) (nm a) SYS (sysEntry (p .H) (p .s) (p .layers) (p .sys))
+  atA = at (a .layout .sys .places) (nm a) SYS (sysEntry (p .H) (p .s) (p .layers) (p .sys)) (entry-sys p)
 
-  atB : At (b .layout .catalog) (nm b) SYS (sysEntry (p .H) (p .s) L (p .sys))
-  atB = at (b .layout .catalog) (nm b) SYS (sysEntry (p .H) (p .s) L (p .sys)) (entry-sys q)
+  atB : At (b .layout .sys .places) (nm b) SYS (sysEntry (p .H) (p .s) L (p .sys))
+  atB = at (b .layout .sys .places) (nm b) SYS (sysEntry (p .H) (p .s) L (p .sys)) (entry-sys q)
 
   same-place : atA .place ≡ atB .place
   same-place =
       let e : nameAt P (atA .place) ≡ nameAt P (atB .place) = atA .name ∙ sym (atB .name) in
       let z : nameAt P (atA .place) ≢ 0 = λ x. (let y : SYS ≡ 0 = sym (atA .name) ∙ x in omega arith) in
       below-or (p .layers) L
-      (λ l. b .layout .catalog .alone (atA .place) (atB .place) (omega (arith, atA .inside, mul-le-mul-left (p .H) l)) (atB .inside) e z)
-      (λ l. a .layout .catalog .alone (atA .place) (atB .place) (atA .inside) (omega (arith, atB .inside, mul-le-mul-left (p .H) l)) e z)
+      (λ l. b .layout .sys .places .alone (atA .place) (atB .place) (omega (arith, atA .inside, mul-le-mul-left (p .H) l)) (atB .inside) e z)
+      (λ l. a .layout .sys .places .alone (atA .place) (atB .place) (atA .inside) (omega (arith, atB .inside, mul-le-mul-left (p .H) l)) e z)
 
   layers-unique : L ≡ p .layers
   layers-unique =
@@ -117,17 +117,17 @@ module _ (image : List ℕ) (p : Plain) (L : ℕ) (fs : Table File) (a : Is imag
 module _ (image : List ℕ) (p : Plain) (fs : Table File) (a : Is image p) (b : Is image (withFiles p fs)) where
   entry-there : (n : ℕ) (e : List ℕ) → entry p n ≡ some e → entry (withFiles p fs) n ≡ some e
   entry-there n e h =
-      let w : At (a .layout .catalog) (nm a) n e = at (a .layout .catalog) (nm a) n e h in
+      let w : At (a .layout .sys .places) (nm a) n e = at (a .layout .sys .places) (nm a) n e h in
       ⊎-elim
       (λ (z : Unused (placeWord image (p .F) (p .s) (p .sys) sysFrom) (w .place)).
-      absurd (no-zero (a .layout .catalog) (nm a) n e h (sym (w .name) ∙ name-zero (placeWord image (p .F) (p .s) (p .sys) sysFrom) (w .place) z)))
+      absurd (no-zero (a .layout .sys .places) (nm a) n e h (sym (w .name) ∙ name-zero (placeWord image (p .F) (p .s) (p .sys) sysFrom) (w .place) z)))
       (λ (u : PlaceOf (placeWord image (p .F) (p .s) (p .sys) sysFrom) (p .H) (entry (withFiles p fs)) (w .place)).
       let k : entry (withFiles p fs) n ≡ some (u .words) = ap (entry (withFiles p fs)) (sym (w .name)) ∙ u .entered in
       let la : length e ≡ 16 = entry-length p (a .good) n e h in
       let lb : length (u .words) ≡ 16 = entry-length (withFiles p fs) (b .good) n (u .words) k in
       let s : u .words ≡ e = ext-getD 0 (u .words) e (lb ∙ sym la) (λ j x. sym (u .holds j (omega arith)) ∙ w .holds j (omega arith)) in
       k ∙ ap some s)
-      (b .layout .catalog .each (w .place) (w .inside))
+      (b .layout .sys .places .each (w .place) (w .inside))
 
 -- two files with the same live index sector and length
 abbrev SameLive : ℕ → ℕ → File → File → Type 0

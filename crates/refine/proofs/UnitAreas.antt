@@ -103,8 +103,8 @@ module _ {image : List ℕ} {state : State} {p : Plain} (g : Good p) (r : Repres
         let f : File = good .file in
         let d = not-system n (g .files n f (good .entered) .ordinary) in
         let e : entry p n ≡ some (fileEntry (p .F) (p .s) n f) = entry-other p n (d .0) (d .1) ∙ ap (mapSome (fileEntry (p .F) (p .s) n)) (good .entered) in
-        let there = r .layout .catalog .there n (fileEntry (p .F) (p .s) n f) e in
-        (there .0, there .1, (λ z. no-zero (r .layout .catalog) (entry-named p (g .names)) n (fileEntry (p .F) (p .s) n f) e (sym (there .2) ∙ name-zero Q (there .0) z)), there .2)
+        let there = r .layout .sys .places .there n (fileEntry (p .F) (p .s) n f) e in
+        (there .0, there .1, (λ z. no-zero (r .layout .sys .places) (entry-named p (g .names)) n (fileEntry (p .F) (p .s) n f) e (sym (there .2) ∙ name-zero Q (there .0) z)), there .2)
 
     area-ordinary : T (isSystem n) → ⊥
     area-ordinary t = T-not (isSystem n) (g .files n (good .file) (good .entered) .ordinary) t

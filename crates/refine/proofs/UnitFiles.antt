@@ -33,7 +33,7 @@ use Rattle.sound.specs.Places.{Unused, Used, IndexBlock, OwnIndex, slicesFrom, 
 use Rattle.sound.specs.State.{openArea, liveIndex, liveLength}
 use Rattle.sound.specs.Sound.{indexOf, lengthOf, slicesOf, SoundFile, sysPlaces}
 use Rattle.refine.specs.Represents.{PlaceOf, FileOnImage, LiveArea, areaOfState, areaOfUnit, Represents}
-use Rattle.refine.proofs.Ground.{Ground, ground, positive, sys-slices, file-slices}
+use Rattle.refine.proofs.Ground.{Ground, ground, positive, catalog-slices, sys-ground, file-slices}
 
 -- ---- one file's index block
 
@@ -55,10 +55,10 @@ module _ (image : List ℕ) (p : Plain) (g : Good p) (h : Holds image sysIndexSe
       go (x ∷ l) e = omega arith
 
   pub sys-read : slicesAt image (p .F) (p .s) sysIndexSector ≡ p .sys
-  sys-read = slices-read image (p .F) (p .s) sysIndexSector (positive p (ground p g)) (p .sys) (sys-slices p (ground p g)) (g .sysFew) h
+  sys-read = slices-read image (p .F) (p .s) sysIndexSector (positive p (ground p g)) (p .sys) (catalog-slices (sys-ground (ground p g))) (g .sysFew) h
 
   pub sys-index : IndexBlock image (p .F) (p .s) sysIndexSector
-  sys-index = index-block image (p .F) (p .s) sysIndexSector (p .sys) (positive p (ground p g)) (sys-slices p (ground p g)) sys-some (g .sysFew) h
+  sys-index = index-block image (p .F) (p .s) sysIndexSector (p .sys) (positive p (ground p g)) (catalog-slices (sys-ground (ground p g))) sys-some (g .sysFew) h
 
 -- the slices read from a file's index sector are its own
 pub slices-from : (image : List ℕ) (F s : ℕ) (f : File) → 10 ≤ F → 0 < s → ((j : ℕ) → j < length (f .slices) → 1 ≤ getD (f .slices) j 0) → stretchCount (f .slices) ≤ 127
@@ -111,7 +111,7 @@ module _ {image : List ℕ} {state : State} {p : Plain} (g : Good p) (r : Repres
       (λ (u : PlaceOf P (p .H) (entry p) t).
       let d = not-system (nameAt P t) (not-T (isSystem (nameAt P t)) other) in
       go (u .words) (u .holds) (tableFind (nameAt P t) (p .files)) refl (sym (entry-other p (nameAt P t) (d .0) (d .1)) ∙ u .entered))
-      (r .layout .catalog .each t x)
+      (r .layout .sys .places .each t x)
     where
       go : (e : List ℕ) → ((w : ℕ) → w < 16 → P t w ≡ getD e w 0) → (o : Option File) → tableFind (nameAt P t) (p .files) ≡ o → mapSome (fileEntry (p .F) (p .s) (nameAt P t)) o ≡ some e
           → (f : File) × (tableFind (nameAt P t) (p .files) ≡ some f) × ((w : ℕ) → w < 16 → P t w ≡ getD (fileEntry (p .F) (p .s) (nameAt P t) f) w 0)

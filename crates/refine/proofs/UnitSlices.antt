@@ -2,26 +2,26 @@
 use mathlib.Core.Path.{_≡_, refl, sym, ap, _∙_}
 use mathlib.Core.Bool.{Bool, true, false, cond}
 use mathlib.Core.List.{List, []}
-use mathlib.Core.Option.{Option, none, some}
+use mathlib.Core.Option.{Option, some}
 use Prim.Native.Nat.{ℕ, zero, suc, _<_}
 use native.Mathlib.Omega.{arith}
-use lib.Dec.{T, T-not}
+use lib.Dec.{T}
 use Rattle.types.specs.declared.State.{State}
 use Rattle.disc.specs.Names.{isSystem}
 use Rattle.disc.specs.Slices.{occurrences}
 use Rattle.disc.specs.Entries.{nameAt}
 use Rattle.disc.proofs.SliceLaws.{occurrences-append}
 use Rattle.plain.specs.Table.{tableFind}
-use Rattle.plain.specs.Unit.{Plain, File, held}
+use Rattle.plain.specs.Unit.{Plain, File, held, fileEntry}
 use Rattle.plain.specs.Good.{Good}
 use Rattle.plain.proofs.TableLaws.{find-below}
-use Rattle.plain.proofs.UnitLaws.{holds, occurrences-held}
+use Rattle.plain.proofs.UnitLaws.{holds, occurrences-held, system-none, not-system, entry-other, mapSome, ordinary-files}
 use Rattle.plain.proofs.Collect.{sumBelow, sum-ext, weightIf}
 use Rattle.sound.specs.Places.{Used}
 use Rattle.sound.specs.Sound.{slicesOf, heldBy, slicesBelow, allSlices}
 use Rattle.refine.specs.Represents.{Represents}
 use Rattle.refine.proofs.CatalogLaws.{name-zero}
-use Rattle.refine.proofs.PlaceFiles.{rowOf, fileAt, total-places}
+use Rattle.refine.proofs.PlaceFiles.{rowOf, rowAt, total-places}
 use Rattle.refine.proofs.UnitFiles.{P, count, file-at, slices-of}
 
 -- the slices below n places, as a sum
@@ -44,17 +44,12 @@ module _ {image : List ℕ} {state : State} {p : Plain} (g : Good p) (r : Repres
   N = count g r
 
   -- what a place holds is what its file holds
-  place-holds : (k t : ℕ) → t < N → occurrences k (heldBy (nameAt Q t) (slicesOf image state (p .F) (p .s) Q t)) ≡ weightIf (holds k) (fileAt g (r .layout .catalog) t)
+  place-holds : (k t : ℕ) → t < N → occurrences k (heldBy (nameAt Q t) (slicesOf image state (p .F) (p .s) Q t)) ≡ weightIf (holds k) (rowAt Q (p .files) t)
   place-holds k t x = go (nameAt Q t) refl
     where
-      -- a system name has no file
-      system-none : (n : ℕ) → T (isSystem n) → (o : Option File) → tableFind n (p .files) ≡ o → o ≡ none
-      system-none n y none e = refl
-      system-none n y (some f) e = absurd (T-not (isSystem n) (g .files n f e .ordinary) y)
-
       named : (n : ℕ) → nameAt Q t ≡ suc n → (b : Bool) → isSystem (suc n) ≡ b
           → occurrences k (cond b [] (slicesOf image state (p .F) (p .s) Q t)) ≡ weightIf (holds k) (rowOf (suc n) (tableFind (suc n) (p .files)))
-      named n e true h = sym (ap (λ (o : Option File). weightIf (holds k) (rowOf (suc n) o)) (system-none (suc n) (rw h tt) (tableFind (suc n) (p .files)) refl))
+      named n e true h = sym (ap (λ (o : Option File). weightIf (holds k) (rowOf (suc n) o)) (system-none p (suc n) (ordinary-files g) (rw h tt)))
       named n e false h =
           let used : Used Q t = λ z. (let y = name-zero Q t z in omega arith) in
           let other : T (isSystem (nameAt Q t)) → ⊥ = λ y. (let w : T (isSystem (suc n)) = rw e at y in rw h at w) in
@@ -66,13 +61,18 @@ module _ {image : List ℕ} {state : State} {p : Plain} (g : Good p) (r : Repres
       go zero e = sym (ap (λ (o : Option File). weightIf (holds k) (rowOf 0 o)) (find-below 0 0 (p .files) (g .names) (omega arith)))
       go (suc n) e = named n e (isSystem (suc n)) refl
 
+  there : (n : ℕ) (f : File) → tableFind n (p .files) ≡ some f → (t : ℕ) × (t < N) × (nameAt Q t ≡ n)
+  there n f e =
+      let d = not-system n (g .files n f e .ordinary) in
+      r .layout .sys .places .there n (fileEntry (p .F) (p .s) n f) (entry-other p n (d .0) (d .1) ∙ ap (mapSome (fileEntry (p .F) (p .s) n)) e)
+
   pub all-held : (k : ℕ) → occurrences k (allSlices image state (p .F) (p .s) (p .sys) N) ≡ occurrences k (held p)
   all-held k =
       omega (
         arith,
         occurrences-append k (p .sys) (slicesBelow image state (p .F) (p .s) Q N),
         occurrences-below image state (p .F) (p .s) Q k N,
-        sum-ext N (λ t. occurrences k (heldBy (nameAt Q t) (slicesOf image state (p .F) (p .s) Q t))) (λ t. weightIf (holds k) (fileAt g (r .layout .catalog) t)) (place-holds k),
-        total-places g (r .layout .catalog) (holds k),
+        sum-ext N (λ t. occurrences k (heldBy (nameAt Q t) (slicesOf image state (p .F) (p .s) Q t))) (λ t. weightIf (holds k) (rowAt Q (p .files) t)) (place-holds k),
+        total-places Q (p .files) (g .names) there (r .layout .sys .places .alone) (holds k),
         occurrences-held k (p .sys) (p .files),
       )

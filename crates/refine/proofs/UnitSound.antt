@@ -45,7 +45,7 @@ module _ {image : List ℕ} {state : State} {p : Plain} (g : Good p) (r : Repres
   -- ---- entries
 
   entered : (n : ℕ) (e : List ℕ) → entry p n ≡ some e → Entered Q N e
-  entered n e h = let a = at (r .layout .catalog) nm n e h in record { place = a .place; inside = a .inside; holds = a .holds }
+  entered n e h = let a = at (r .layout .sys .places) nm n e h in record { place = a .place; inside = a .inside; holds = a .holds }
 
   pub sys-entered : Entered Q N (sysEntry (p .H) (p .s) (p .layers) (p .sys))
   sys-entered = entered SYS (sysEntry (p .H) (p .s) (p .layers) (p .sys)) (entry-sys p)
@@ -57,12 +57,12 @@ module _ {image : List ℕ} {state : State} {p : Plain} (g : Good p) (r : Repres
   legal-place t x used = ⊎-elim
       (λ (z : Unused Q t). absurd (used z))
       (λ (u : PlaceOf Q (p .H) (entry p) t). record { name = entry-legal p g (nameAt Q t) (u .words) (u .entered); key = u .key })
-      (r .layout .catalog .each t x)
+      (r .layout .sys .places .each t x)
 
   pub sound-entries : SoundEntries image state (p .H) (p .s) (p .F) Q N
   sound-entries = record {
     legal = legal-place;
-    alone = λ t u x y a b e. r .layout .catalog .alone t u x y e (λ z. let k = legal-positive (nameAt Q t) (legal-place t x a .name) in omega arith);
+    alone = λ t u x y a b e. r .layout .sys .places .alone t u x y e (λ z. let k = legal-positive (nameAt Q t) (legal-place t x a .name) in omega arith);
     files = λ t x used other. let f = file-at g r t x used other in sound-file g r (nameAt Q t) (f .0) (f .1) t refl (f .2);
   }
 

@@ -14,6 +14,7 @@ use Rattle.disc.specs.Stretches.{sectorIn, indexWords, sysFrom}
 use Rattle.disc.specs.Kit.{Kit, kitSector}
 use Rattle.disc.specs.Map.{mapBit, MapOf}
 use Rattle.disc.specs.Entries.{placeWord, placeCount, nameAt}
+use Rattle.disc.specs.Catalog.{placeSector, Catalog, placesOf, placesIn}
 use Rattle.disc.proofs.Compare.{same-or, below-or}
 use Rattle.disc.proofs.SliceLaws.{inUnit-mono, occurrences-append}
 use Rattle.words.specs.Store.{store, zeroWords}
@@ -21,14 +22,14 @@ use Rattle.words.proofs.StoreLaws.{length-zeroWords, getD-zeroWords, word-store
 use Rattle.map.specs.Marks.{allUsed, allFree}
 use Rattle.map.proofs.MarkLaws.{map-taken, map-freed, in-map}
 use Rattle.plain.specs.Table.{Table, tableFind, tablePut, tableRemove}
-use Rattle.plain.specs.Unit.{Plain, File, M, withFiles, withTables}
+use Rattle.plain.specs.Unit.{Plain, File, sysOf, M, withFiles, withTables}
 use Rattle.plain.proofs.TableLaws.{some≢none, some-inj, find-put, find-put-other, remove-some}
 use Rattle.sound.specs.Places.{Unused}
 use Rattle.refine.specs.Represents.{FileOnImage, CatalogOf, Layout}
-use Rattle.refine.specs.Writes.{setFree, placeSector, storePlace}
+use Rattle.refine.specs.Writes.{setFree, storePlace}
 use Rattle.refine.proofs.Sectors.{Same, Outside, NotIn, holds-kept, store-outside, marked-outside-map, bit-kept}
 use Rattle.refine.proofs.CatalogLaws.{Named, nameIn, catalog-put, catalog-remove, catalog-grow, catalog-same}
-use Rattle.refine.proofs.Ground.{Ground, positive, top, sys-in, first-in, block-in, sys-data, file-data, sys-file, file-file, in-sys, place-in}
+use Rattle.refine.proofs.Ground.{Ground, positive, top, joined-in, sys-ground, first-in, block-in, catalog-data, file-data, catalog-file, file-file, in-catalog, place-in, CatalogGround}
 
 -- ---- the kit
 
@@ -68,27 +69,37 @@ module _ (p : Plain) (g : Ground p) where
     blocks = λ b x. holds-kept (q .blocks b x) (same (b + 1) (block-in p g m a e b x));
   }
 
-  module _ (i : List ℕ) (size : length i ≡ 256 * p .N) (t : ℕ) (x : t < placeCount (p .H) (p .layers)) (e : List ℕ) (len : length e ≡ 16) where
-    pub place-outside : Outside i (storePlace p i t e) (placeSector p t ∷ [])
-    place-outside = store-outside i e (placeSector p t) (t % 16 * 16) (omega arith)
+module _ {p : Plain} {c : Catalog} (g : CatalogGround p c) where
+  abbrev F : ℕ
+  F = p .F
 
-    pub place-here : (w : ℕ) → w < 16 → placeWord (storePlace p i t e) (p .F) (p .s) (p .sys) sysFrom t w ≡ getD e w 0
+  abbrev s : ℕ
+  s = p .s
+
+  module _ (i : List ℕ) (size : length i ≡ 256 * p .N) (t : ℕ) (x : t < placesOf (p .H) c) (e : List ℕ) (len : length e ≡ 16) where
+    pub place-outside : Outside i (storePlace p c i t e) (placeSector F s c t ∷ [])
+    place-outside = store-outside i e (placeSector F s c t) (t % 16 * 16) (omega arith)
+
+    pub place-here : (w : ℕ) → w < 16 → placesIn (storePlace p c i t e) F s c t w ≡ getD e w 0
     place-here w y =
-        word-store-in i (placeSector p t) (t % 16 * 16) e (let d = sys-data p g (t / 16 + sysFrom) (place-in p g t x) in omega (arith, d .1)) w (omega arith)
+        let d = catalog-data g (t / 16 + c .from) (place-in g t x) in
+        word-store-in i (placeSector F s c t) (t % 16 * 16) e (omega (arith, d .1)) w (omega arith)
 
-    pub place-off : (u w : ℕ) → u < placeCount (p .H) (p .layers) → u ≢ t → w < 16
-        → placeWord (storePlace p i t e) (p .F) (p .s) (p .sys) sysFrom u w ≡ placeWord i (p .F) (p .s) (p .sys) sysFrom u w
+    pub place-off : (u w : ℕ) → u < placesOf (p .H) c → u ≢ t → w < 16 → placesIn (storePlace p c i t e) F s c u w ≡ placesIn i F s c u w
     place-off u w y d z = same-or (u / 16) (t / 16)
-        (λ q. rw q (word-store-beside i (placeSector p t) (t % 16 * 16) e (u % 16 * 16 + w)
+        (λ q. rw q (word-store-beside i (placeSector F s c t) (t % 16 * 16) e (u % 16 * 16 + w)
         (below-or (u % 16) (t % 16) (λ h. inl (omega arith)) (λ h. inr (omega arith)))))
-        (λ q. place-outside .same (placeSector p u)
-        ((λ r. q (let z : u / 16 + sysFrom ≡ t / 16 + sysFrom = in-sys p g (u / 16 + sysFrom) (t / 16 + sysFrom) (place-in p g u y) (place-in p g t x) r in omega arith)), tt)
-        .at (u % 16 * 16 + w) (omega arith))
+        (λ q. place-outside .same (placeSector F s c u) ((λ r. apart q r), tt) .at (u % 16 * 16 + w) (omega arith))
+      where
+        apart : u / 16 ≢ t / 16 → placeSector F s c u ≢ placeSector F s c t
+        apart q r =
+            let same : u / 16 + c .from ≡ t / 16 + c .from = in-catalog g (u / 16 + c .from) (t / 16 + c .from) (place-in g u y) (place-in g t x) r in
+            q (omega arith)
 
-  -- places where SYS's sectors keep their words
-  pub place-same : (i j : List ℕ) → ((q : ℕ) → q / p .s < length (p .sys) → Same i j (sectorIn (p .F) (p .s) (p .sys) q))
-      → (t w : ℕ) → t < placeCount (p .H) (p .layers) → w < 16 → placeWord j (p .F) (p .s) (p .sys) sysFrom t w ≡ placeWord i (p .F) (p .s) (p .sys) sysFrom t w
-  place-same i j same t w x y = same (t / 16 + sysFrom) (place-in p g t x) .at (t % 16 * 16 + w) (omega arith)
+  -- places where the catalog's sectors keep their words
+  pub place-same : (i j : List ℕ) → ((q : ℕ) → q / s < length (c .slices) → Same i j (sectorIn F s (c .slices) q))
+      → (t w : ℕ) → t < placesOf (p .H) c → w < 16 → placesIn j F s c t w ≡ placesIn i F s c t w
+  place-same i j same t w x y = same (t / 16 + c .from) (place-in g t x) .at (t % 16 * 16 + w) (omega arith)
 
 -- q is none of the sectors of a slice list
 abbrev pub Off : ℕ → ℕ → List ℕ → ℕ → Type 0
@@ -100,10 +111,9 @@ relabel {i} {p} {v} {w} {h} {k} {E} {D} r e t d = record {
   size = r .size;
   kit = rw e (r .kit);
   map = λ x a b. omega (arith, r .map x a b, t x);
-  sysIndex = r .sysIndex;
+  sys = record { index = r .sys .index; places = catalog-same (r .sys .places) _ D (λ t w x y. refl) d };
   mapIndex = r .mapIndex;
   files = r .files;
-  catalog = catalog-same (r .catalog) _ D (λ t w x y. refl) d;
 }
 
 module _ {i : List ℕ} {p : Plain} {v : ℕ} {h : List ℕ} {E : ℕ → Option (List ℕ)} (g : Ground p) (r : Layout i p v h E) where
@@ -118,10 +128,9 @@ module _ {i : List ℕ} {p : Plain} {v : ℕ} {h : List ℕ} {E : ℕ → Option
     size = size ∙ r .size;
     kit = kit;
     map = map;
-    sysIndex = holds-kept (r .sysIndex) six;
+    sys = record { index = holds-kept (r .sys .index) six; places = catalog-same (r .sys .places) _ E (place-same (sys-ground g) i j (λ q x. keep _ (catalog-data (sys-ground g) q x .0))) (λ m. refl) };
     mapIndex = holds-kept (r .mapIndex) seven;
     files = λ m a e. file-kept p g i j m a e (λ b x. keep _ (file-data p g m a e b x .0)) (r .files m a e);
-    catalog = catalog-same (r .catalog) _ E (place-same p g i j (λ q x. keep _ (sys-data p g q x .0))) (λ m. refl);
   }
 
   -- the free count
@@ -165,36 +174,35 @@ module _ {i : List ℕ} {p : Plain} {v : ℕ} {h : List ℕ} {E : ℕ → Option
   -- ---- a place of SYS
 
   module _ (t : ℕ) (in₀ : t < placeCount (p .H) (p .layers)) (e : List ℕ) (len : length e ≡ 16) where
-    place-write : (D : ℕ → Option (List ℕ)) → CatalogOf (placeWord (storePlace p i t e) (p .F) (p .s) (p .sys) sysFrom) (placeCount (p .H) (p .layers)) (p .H) D → Layout (storePlace p i t e) p v h D
+    place-write : (D : ℕ → Option (List ℕ)) → CatalogOf (placeWord (storePlace p (sysOf p) i t e) (p .F) (p .s) (p .sys) sysFrom) (placeCount (p .H) (p .layers)) (p .H) D → Layout (storePlace p (sysOf p) i t e) p v h D
     place-write D c =
-        let o = place-outside p g i (r .size) t in₀ e len in
-        let d = sys-data p g (t / 16 + sysFrom) (place-in p g t in₀) in
-        let low : (q : ℕ) → q < 10 → Same i (storePlace p i t e) q = λ q x. o .same q (omega (arith, d .0), tt) in
+        let o = place-outside (sys-ground g) i (r .size) t in₀ e len in
+        let d = catalog-data (sys-ground g) (t / 16 + sysFrom) (place-in (sys-ground g) t in₀) in
+        let low : (q : ℕ) → q < 10 → Same i (storePlace p (sysOf p) i t e) q = λ q x. o .same q (omega (arith, d .0), tt) in
         record {
           size = o .size ∙ r .size;
           kit = kit-kept (r .kit) (low 8 (omega arith));
           map = λ x a b. omega (arith, bit-kept x a b (low 9 (omega arith)), r .map x a b);
-          sysIndex = holds-kept (r .sysIndex) (low 6 (omega arith));
+          sys = record { index = holds-kept (r .sys .index) (low 6 (omega arith)); places = c };
           mapIndex = holds-kept (r .mapIndex) (low 7 (omega arith));
-          files = λ m a f. file-kept p g i _ m a f (λ b x. o .same _ (sys-file p g m a f b (t / 16 + sysFrom) x (place-in p g t in₀), tt)) (r .files m a f);
-          catalog = c;
+          files = λ m a f. file-kept p g i _ m a f (λ b x. o .same _ (catalog-file (sys-ground g) m a f b (t / 16 + sysFrom) x (place-in (sys-ground g) t in₀), tt)) (r .files m a f);
         }
 
     -- an entry at an unused place, or in the place of the name's old one
     pub write-entry : (D : ℕ → Option (List ℕ)) (n : ℕ) → Named E → ((m : ℕ) → m ≢ n → D m ≡ E m) → D n ≡ some e → nameIn e ≡ n → n ≢ 0 → t / 16 % p .H ≡ keyOf (p .H) n
         → ((u : ℕ) → u < placeCount (p .H) (p .layers) → nameAt (placeWord i (p .F) (p .s) (p .sys) sysFrom) u ≡ n → u ≡ t)
         → (nameAt (placeWord i (p .F) (p .s) (p .sys) sysFrom) t ≢ n → nameAt (placeWord i (p .F) (p .s) (p .sys) sysFrom) t ≡ 0)
-        → Layout (storePlace p i t e) p v h D
+        → Layout (storePlace p (sysOf p) i t e) p v h D
     write-entry D n nm other new named nz key only mine =
-        place-write D (catalog-put (r .catalog) nm _ D n t in₀ (place-off p g i (r .size) t in₀ e len) other e new named nz (place-here p g i (r .size) t in₀ e len) key only mine)
+        place-write D (catalog-put (r .sys .places) nm _ D n t in₀ (place-off (sys-ground g) i (r .size) t in₀ e len) other e new named nz (place-here (sys-ground g) i (r .size) t in₀ e len) key only mine)
 
   -- a place emptied
   pub write-zero : (t : ℕ) → t < placeCount (p .H) (p .layers) → (D : ℕ → Option (List ℕ)) (n : ℕ) → Named E → ((m : ℕ) → m ≢ n → D m ≡ E m) → D n ≡ none
-      → nameAt (placeWord i (p .F) (p .s) (p .sys) sysFrom) t ≡ n → n ≢ 0 → Layout (storePlace p i t (zeroWords 16)) p v h D
+      → nameAt (placeWord i (p .F) (p .s) (p .sys) sysFrom) t ≡ n → n ≢ 0 → Layout (storePlace p (sysOf p) i t (zeroWords 16)) p v h D
   write-zero t in₀ D n nm other gone was nz =
       let len : length (zeroWords 16) ≡ 16 = length-zeroWords 16 in
       place-write t in₀ (zeroWords 16) len D
-      (catalog-remove (r .catalog) nm _ D n t in₀ (place-off p g i (r .size) t in₀ (zeroWords 16) len) other gone was nz (record { zero = λ w x. place-here p g i (r .size) t in₀ (zeroWords 16) len w x ∙ getD-zeroWords 16 w }))
+      (catalog-remove (r .sys .places) nm _ D n t in₀ (place-off (sys-ground g) i (r .size) t in₀ (zeroWords 16) len) other gone was nz (record { zero = λ w x. place-here (sys-ground g) i (r .size) t in₀ (zeroWords 16) len w x ∙ getD-zeroWords 16 w }))
 
   -- ---- a file
 
@@ -204,10 +212,9 @@ module _ {i : List ℕ} {p : Plain} {v : ℕ} {h : List ℕ} {E : ℕ → Option
     size = r .size;
     kit = r .kit;
     map = r .map;
-    sysIndex = r .sysIndex;
+    sys = record { index = r .sys .index; places = r .sys .places };
     mapIndex = r .mapIndex;
     files = λ m a e. r .files m a (remove-some m n 0 (p .files) a (g .names) e .1);
-    catalog = r .catalog;
   }
 
   -- writes inside the sectors of the file's new slices only
@@ -221,12 +228,11 @@ module _ {i : List ℕ} {p : Plain} {v : ℕ} {h : List ℕ} {E : ℕ → Option
         size = size ∙ r .size;
         kit = kit-kept (r .kit) (low 8 (omega arith));
         map = λ x a b. omega (arith, bit-kept x a b (low 9 (omega arith)), r .map x a b);
-        sysIndex = holds-kept (r .sysIndex) (low 6 (omega arith));
+        sys = record { index = holds-kept (r .sys .index) (low 6 (omega arith)); places = catalog-same (r .sys .places) _ E (place-same (sys-ground g) i j (λ q x. keep _ (λ b y z. catalog-file (sys-ground g′) n f here b q y x (sym z)))) (λ m. refl) };
         mapIndex = holds-kept (r .mapIndex) (low 7 (omega arith));
         files = λ m a e. same-or m n
             (λ q. let z : f ≡ a = some-inj (sym here ∙ ap (λ (x : ℕ). tableFind x (p′ .files)) (sym q) ∙ e) in rw (← z) new)
             (λ d. file-kept p′ g′ i j m a e (λ b x. keep _ (λ c y. file-file p′ g′ m n a f d e here b c x y)) (r .files m a (sym (find-put-other m n f (p .files) d) ∙ e)));
-        catalog = catalog-same (r .catalog) _ E (place-same p g i j (λ q x. keep _ (λ b y z. sys-file p′ g′ n f here b q y x (sym z)))) (λ m. refl);
       }
 
   -- ---- SYS grows by a layer
@@ -244,11 +250,11 @@ module _ {i : List ℕ} {p : Plain} {v : ℕ} {h : List ℕ} {E : ℕ → Option
     -- the old places keep their words, the new ones are zero
     pub layer-old : (t w : ℕ) → t < placeCount (p .H) (p .layers) → w < 16 → placeWord j (p .F) (p .s) (p .sys ++ y) sysFrom t w ≡ placeWord i (p .F) (p .s) (p .sys) sysFrom t w
     layer-old t w x y₁ =
-        let old : (t / 16 + sysFrom) / p .s < length (p .sys) = place-in p g t x in
-        let e : sectorIn (p .F) (p .s) (p .sys ++ y) (t / 16 + sysFrom) ≡ placeSector p t = grown-sector y (t / 16 + sysFrom) old in
-        let d = sys-data p g (t / 16 + sysFrom) old in
-        let q : Same i j (placeSector p t) = keep _ (omega (arith, d .0)) (λ b lo hi z.
-        let u : t / 16 + sysFrom ≡ b = in-sys grown g′ (t / 16 + sysFrom) b (sys-in grown g′ (t / 16 + sysFrom) (omega arith)) (sys-in grown g′ b hi) (e ∙ z) in omega arith) in
+        let old : (t / 16 + sysFrom) / p .s < length (p .sys) = place-in (sys-ground g) t x in
+        let e : sectorIn (p .F) (p .s) (p .sys ++ y) (t / 16 + sysFrom) ≡ placeSector (p .F) (p .s) (sysOf p) t = grown-sector y (t / 16 + sysFrom) old in
+        let d = catalog-data (sys-ground g) (t / 16 + sysFrom) old in
+        let q : Same i j (placeSector (p .F) (p .s) (sysOf p) t) = keep _ (omega (arith, d .0)) (λ b lo hi z.
+        let u : t / 16 + sysFrom ≡ b = in-catalog (sys-ground g′) (t / 16 + sysFrom) b (joined-in (sys-ground g′) (t / 16 + sysFrom) (omega arith)) (joined-in (sys-ground g′) b (omega (arith, hi))) (e ∙ z) in omega arith) in
         ap (λ (k : ℕ). word j k (t % 16 * 16 + w)) e ∙ q .at (t % 16 * 16 + w) (omega arith)
 
     pub layer-new : (t : ℕ) → placeCount (p .H) (p .layers) ≤ t → t < placeCount (p .H) (suc (p .layers)) → Unused (placeWord j (p .F) (p .s) (p .sys ++ y) sysFrom) t
@@ -256,14 +262,13 @@ module _ {i : List ℕ} {p : Plain} {v : ℕ} {h : List ℕ} {E : ℕ → Option
 
     pub write-layer : Layout j grown v h E
     write-layer =
-        let low : (q : ℕ) → q < 10 → q ≢ 6 → Same i j q = λ q x d. keep q d (λ b lo hi e. let z = sys-data grown g′ b (sys-in grown g′ b hi) in omega (arith, z .0)) in
+        let low : (q : ℕ) → q < 10 → q ≢ 6 → Same i j q = λ q x d. keep q d (λ b lo hi e. let z = catalog-data (sys-ground g′) b (joined-in (sys-ground g′) b (omega (arith, hi))) in omega (arith, z .0)) in
         record {
           size = size ∙ r .size;
           kit = kit-kept (r .kit) (low 8 (omega arith) (omega arith));
           map = λ x a b. omega (arith, bit-kept x a b (low 9 (omega arith) (omega arith)), r .map x a b);
-          sysIndex = six;
+          sys = record { index = six; places = catalog-grow (r .sys .places) _ E (placeCount (p .H) (suc (p .layers))) (omega arith) layer-old layer-new (λ m. refl) };
           mapIndex = holds-kept (r .mapIndex) (low 7 (omega arith) (omega arith));
           files = λ m a e. file-kept grown g′ i j m a e
-              (λ b x. keep _ (let d = file-data grown g′ m a e b x in omega (arith, d .0)) (λ c lo hi. sys-file grown g′ m a e b c x (sys-in grown g′ c hi))) (r .files m a e);
-          catalog = catalog-grow (r .catalog) _ E (placeCount (p .H) (suc (p .layers))) (omega arith) layer-old layer-new (λ m. refl);
+              (λ b x. keep _ (let d = file-data grown g′ m a e b x in omega (arith, d .0)) (λ c lo hi. catalog-file (sys-ground g′) m a e b c x (joined-in (sys-ground g′) c (omega (arith, hi))))) (r .files m a e);
         }

@@ -12,12 +12,13 @@ use Rattle.types.specs.declared.State.{State}
 use Rattle.types.specs.State.{areaAt, userAt}
 use Rattle.disc.specs.Words.{Words, Holds}
 use Rattle.disc.specs.Names.{keyOf}
-use Rattle.disc.specs.Stretches.{indexWords, sectorIn, blockSector, fileFrom, sysFrom}
-use Rattle.disc.specs.Kit.{Kit, sysIndexSector, mapIndexSector}
+use Rattle.disc.specs.Stretches.{indexWords, sectorIn, blockSector, fileFrom}
+use Rattle.disc.specs.Kit.{Kit, mapIndexSector}
 use Rattle.disc.specs.Map.{MapOf}
-use Rattle.disc.specs.Entries.{placeWord, placeCount, nameAt, indexSector}
+use Rattle.disc.specs.Entries.{nameAt, indexSector}
+use Rattle.disc.specs.Catalog.{Catalog, placesOf, placesIn}
 use Rattle.plain.specs.Table.{Table, tableFind, tablePut, Every}
-use Rattle.plain.specs.Unit.{Plain, File, AreaUser, M, held, freeSectors, entry}
+use Rattle.plain.specs.Unit.{Plain, File, AreaUser, sysOf, M, held, freeSectors, entry}
 use Rattle.sound.specs.Places.{Unused}
 use Rattle.sound.specs.State.{Shaped, openArea, IsOpen, IsTaken, DistinctAreas}
 
@@ -40,16 +41,20 @@ pub record CatalogOf (P : ℕ → ℕ → ℕ) (count H : ℕ) (E : ℕ → Opti
   pub there : (n : ℕ) (e : List ℕ) → E n ≡ some e → (t : ℕ) × (t < count) × (nameAt P t ≡ n)
   pub alone : (t u : ℕ) → t < count → u < count → nameAt P t ≡ nameAt P u → (nameAt P t ≡ 0 → ⊥) → t ≡ u
 
+-- A catalog on the image: its index block describes its slices, and its places hold the entries E.
+pub record CatalogOnImage (image : List ℕ) (H s F : ℕ) (c : Catalog) (E : ℕ → Option (List ℕ)) : Type 0 where
+  pub index : Holds image (c .index) (indexWords F s (c .slices))
+  pub places : CatalogOf (placesIn image F s c) (placesOf H c) H E
+
 -- An image with the lists of p, where three parts are left open: the kit's free word, the slices marked used, and the
 -- entries. A message's writes change one part after the other.
 pub record Layout (image : List ℕ) (p : Plain) (free : ℕ) (used : List ℕ) (E : ℕ → Option (List ℕ)) : Type 0 where
   pub size : length image ≡ 256 * p .N
   pub kit : Kit image (p .H) (p .s) (p .N) free (p .F)
   pub map : MapOf image (M p) used
-  pub sysIndex : Holds image sysIndexSector (indexWords (p .F) (p .s) (p .sys))
   pub mapIndex : Holds image mapIndexSector (1 ∷ 1 ∷ 9 ∷ [])
   pub files : Every (λ n f. FileOnImage image (p .F) (p .s) f) (p .files)
-  pub catalog : CatalogOf (placeWord image (p .F) (p .s) (p .sys) sysFrom) (placeCount (p .H) (p .layers)) (p .H) E
+  pub sys : CatalogOnImage image (p .H) (p .s) (p .F) (sysOf p) E
 
 -- An open area as the state and as the plain unit have it: index sector, live length, users by sender.
 pub record LiveArea : Type 0 where

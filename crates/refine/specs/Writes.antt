@@ -4,14 +4,15 @@ use mathlib.Core.List.{List, [], _∷_, _++_}
 use Prim.Native.Nat.{ℕ, zero, suc, _+_, _*_, _-_, _/_, _%_}
 use lib.Dec.{leb}
 use lib.ListN.{length, take, drop}
-use Rattle.disc.specs.Stretches.{blockSector, sectorIn, sysFrom, fileFrom}
-use Rattle.disc.specs.Kit.{kitSector, sysIndexSector}
+use Rattle.disc.specs.Stretches.{blockSector, sectorIn, fileFrom}
+use Rattle.disc.specs.Kit.{kitSector}
 use Rattle.disc.specs.Map.{onesInMap}
 use Rattle.disc.specs.Entries.{sysEntry}
+use Rattle.disc.specs.Catalog.{Catalog, placeSector}
 use Rattle.words.specs.Store.{store, zeroWords}
 use Rattle.map.specs.Marks.{allUsed, allFree}
 use Rattle.index.specs.Block.{wholeIndex}
-use Rattle.plain.specs.Unit.{Plain, File, fileEntry}
+use Rattle.plain.specs.Unit.{Plain, File, sysOf, fileEntry}
 use Rattle.plain.specs.Areas.{bookLive}
 
 -- The kit's free word.
@@ -22,16 +23,12 @@ setFree image free = store image (kitSector * 256 + 3) (free ∷ [])
 unfoldable pub countedFree : List ℕ → ℕ → List ℕ
 countedFree image s = setFree image (s * onesInMap image)
 
--- The sector of place t of SYS.
-abbrev pub placeSector : Plain → ℕ → ℕ
-placeSector p t = blockSector (p .F) (p .s) (p .sys) sysFrom (t / 16)
+-- 16 words at place t of a catalog; "an emptied place is zeroed".
+abbrev pub storePlace : Plain → Catalog → List ℕ → ℕ → List ℕ → List ℕ
+storePlace p c image t words = store image (placeSector (p .F) (p .s) c t * 256 + t % 16 * 16) words
 
--- 16 words at place t of SYS; "an emptied place is zeroed".
-abbrev pub storePlace : Plain → List ℕ → ℕ → List ℕ → List ℕ
-storePlace p image t words = store image (placeSector p t * 256 + t % 16 * 16) words
-
-abbrev pub emptyPlace : Plain → List ℕ → ℕ → List ℕ
-emptyPlace p image t = storePlace p image t (zeroWords 16)
+abbrev pub emptyPlace : Plain → Catalog → List ℕ → ℕ → List ℕ
+emptyPlace p c image t = storePlace p c image t (zeroWords 16)
 
 -- n sectors of the joined stretches of some slices, from sector b on, are zeroed.
 unfoldable pub zeroedSectors : List ℕ → ℕ → ℕ → List ℕ → ℕ → ℕ → List ℕ
@@ -44,23 +41,31 @@ unfoldable pub takenImage : List ℕ → ℕ → ℕ → ℕ → List ℕ → Li
 takenImage image q F s slices [] = image
 takenImage image q F s slices (k ∷ new) = store (allUsed image (k ∷ new)) (q * 256) (wholeIndex F s (slices ++ (k ∷ new)))
 
--- Remove: the place of the name is emptied, its slices are given back.
-unfoldable pub removedImage : Plain → List ℕ → ℕ → File → List ℕ
-removedImage p image t f = countedFree (allFree (emptyPlace p image t) (f .slices)) (p .s)
+-- Remove: the place of the name in its catalog is emptied, its slices are given back.
+unfoldable pub removedImage : Plain → Catalog → List ℕ → ℕ → File → List ℕ
+removedImage p c image t f = countedFree (allFree (emptyPlace p c image t) (f .slices)) (p .s)
 
--- "SYS first grows by H zeroed sectors": it takes the slices `new`; its entry stands in place t.
-unfoldable pub grownImage : Plain → List ℕ → ℕ → List ℕ → List ℕ
-grownImage p image t new =
-    let longer : List ℕ = takenImage image sysIndexSector (p .F) (p .s) (p .sys) new in
-    let zeroed : List ℕ = zeroedSectors longer (p .F) (p .s) (p .sys ++ new) (p .H * p .layers + sysFrom) (p .H) in
-    countedFree (storePlace p zeroed t (sysEntry (p .H) (p .s) (suc (p .layers)) (p .sys ++ new))) (p .s)
+-- "SYS first grows by H zeroed sectors": a catalog takes the slices `new`, and the blocks of one layer more are zeroed.
+abbrev pub layeredImage : Plain → Catalog → List ℕ → List ℕ → List ℕ
+layeredImage p c image new =
+    let longer : List ℕ = takenImage image (c .index) (p .F) (p .s) (c .slices) new in
+    zeroedSectors longer (p .F) (p .s) (c .slices ++ new) (p .H * c .layers + c .from) (p .H)
+
+-- Its own entry is written anew, in place t of the catalog `home` in which it is entered.
+unfoldable pub grownImage : Plain → Catalog → List ℕ → List ℕ → Catalog → ℕ → List ℕ → List ℕ
+grownImage p c image new home t words = countedFree (storePlace p home (layeredImage p c image new) t words) (p .s)
+
+-- SYS is entered in itself, with its new length and slices.
+abbrev pub grownSys : Plain → List ℕ → ℕ → List ℕ → List ℕ
+grownSys p image t new =
+    grownImage p (sysOf p) image new (sysOf p) t (sysEntry (p .H) (p .s) (suc (p .layers)) (p .sys ++ new))
 
 -- Create, Set: the new file's slices are taken and its blocks zeroed; its entry stands in place t.
-unfoldable pub createdImage : Plain → List ℕ → ℕ → ℕ → File → List ℕ
-createdImage p image t n f =
+unfoldable pub createdImage : Plain → Catalog → List ℕ → ℕ → ℕ → File → List ℕ
+createdImage p c image t n f =
     let longer : List ℕ = takenImage image (sectorIn (p .F) (p .s) (f .slices) 0) (p .F) (p .s) [] (f .slices) in
     let zeroed : List ℕ = zeroedSectors longer (p .F) (p .s) (f .slices) fileFrom (length (f .sectors)) in
-    countedFree (storePlace p zeroed t (fileEntry (p .F) (p .s) n f)) (p .s)
+    countedFree (storePlace p c zeroed t (fileEntry (p .F) (p .s) n f)) (p .s)
 
 -- "Gives back from the end": the first `keep` of a file's slices are kept; the index block in sector q is written whole, unless
 -- none is kept or none is given back.
@@ -83,17 +88,17 @@ resizedImage p image f f′ =
 
 -- Change of file f, whose entry stands in place t, to f′: its own name n is kept, or it is renamed to m and "empties the entry's
 -- place, then takes one by the new key", place u.
-unfoldable pub changedImage : Plain → List ℕ → ℕ → ℕ → File → File → List ℕ
-changedImage p image t n f f′ =
-    countedFree (storePlace p (resizedImage p image f f′) t (fileEntry (p .F) (p .s) n f′)) (p .s)
+unfoldable pub changedImage : Plain → Catalog → List ℕ → ℕ → ℕ → File → File → List ℕ
+changedImage p c image t n f f′ =
+    countedFree (storePlace p c (resizedImage p image f f′) t (fileEntry (p .F) (p .s) n f′)) (p .s)
 
-unfoldable pub renamedImage : Plain → List ℕ → ℕ → ℕ → ℕ → File → File → List ℕ
-renamedImage p image t u m f f′ =
-    countedFree (storePlace p (emptyPlace p (resizedImage p image f f′) t) u (fileEntry (p .F) (p .s) m f′)) (p .s)
+unfoldable pub renamedImage : Plain → Catalog → List ℕ → ℕ → ℕ → ℕ → File → File → List ℕ
+renamedImage p c image t u m f f′ =
+    countedFree (storePlace p c (emptyPlace p c (resizedImage p image f f′) t) u (fileEntry (p .F) (p .s) m f′)) (p .s)
 
 -- Remove area: "length and slices are booked".
-unfoldable pub bookedImage : Plain → List ℕ → ℕ → ℕ → File → List ℕ
-bookedImage p image t n f = storePlace p image t (fileEntry (p .F) (p .s) n (bookLive f))
+unfoldable pub bookedImage : Plain → Catalog → List ℕ → ℕ → ℕ → File → List ℕ
+bookedImage p c image t n f = storePlace p c image t (fileEntry (p .F) (p .s) n (bookLive f))
 
 -- Output below the live length: block b of file f is replaced by 256 words.
 unfoldable pub replacedImage : Plain → List ℕ → File → ℕ → List ℕ → List ℕ

@@ -1,5 +1,5 @@
 -- The writes of Remove: what each asks, and the image that they leave.
-use mathlib.Core.Path.{_≡_, refl, ap, ap₂, _∙_}
+use mathlib.Core.Path.{_≡_, ap, ap₂, _∙_}
 use mathlib.Core.List.{List}
 use Prim.Native.Nat.{ℕ, _+_, _*_, _≤_, _<_}
 use native.Mathlib.Omega.{arith}
@@ -11,23 +11,23 @@ use Rattle.words.specs.Store.{store, zeroWords}
 use Rattle.words.proofs.StoreLaws.{length-store}
 use Rattle.map.specs.Marks.{allFree}
 use Rattle.index.specs.Block.{sliceTotal}
-use Rattle.take.specs.Take.{CanGive, Given}
 use Rattle.catalog.specs.declared.Place.{Place}
 use Rattle.catalog.specs.Catalog.{placeStart, entryWord}
 use Rattle.plain.specs.Table.{tableRemove}
-use Rattle.plain.specs.Unit.{Plain, File, M, held, withFiles}
+use Rattle.plain.specs.Unit.{Plain, File, sysOf, M, held, withFiles}
+use Rattle.plain.proofs.KeepsCatalog.{removed-good}
 use Rattle.refine.specs.Writes.{countedFree, emptyPlace, removedImage}
 use Rattle.refine.proofs.Ground.{Ground, ground, top, part-file}
 use Rattle.refine.proofs.Writers.{long}
-use Rattle.steps.proofs.RemoveStep.{removed-good, freed-layout, freed-words}
+use Rattle.steps.proofs.RemoveStep.{freed-layout, freed-words}
 use Rattle.unit.specs.declared.Opened.{Opened}
 use Rattle.unit.specs.Files.{BlockOf}
 use Rattle.unit.proofs.OpenLaws.{on-catalog}
 use Rattle.unit.proofs.FindLaws.{place-room}
 use Rattle.unit.proofs.FileLaws.{block-is, block-total, total-fits, live-index}
-use Rattle.writes.specs.Writes.{CanCutFrom}
-use Rattle.writes.proofs.WriteLaws.{can-give}
-use Rattle.writes.proofs.FileLaws.{unit-file, count-fits}
+use Rattle.slices.specs.Give.{CanCutFrom, CanCut, Freed}
+use Rattle.slices.proofs.BlockLaws.{unit-file}
+use Rattle.slices.proofs.ZeroLaws.{count-fits}
 use Rattle.remove.specs.Remove.{CanDropFrom}
 
 module _ {image : List ℕ} {o : Opened} {place : Place} {p : Plain} {n : ℕ} {f : File} (can : CanDropFrom image o place p n f) where
@@ -39,7 +39,7 @@ module _ {image : List ℕ} {o : Opened} {place : Place} {p : Plain} {n : ℕ} {
   drop-room = place-room (on-catalog (can .on)) (can .at .is)
 
   abbrev freed : List ℕ
-  freed = allFree (emptyPlace p image (can .at .number)) (f .slices)
+  freed = allFree (emptyPlace p (sysOf p) image (can .at .number)) (f .slices)
 
   -- the index block, read from the sector that the entry names
   module _ {index : ℕ} {block : List ℕ} (e : index ≡ entryWord image place 8) (of : BlockOf image index block) where
@@ -51,7 +51,7 @@ module _ {image : List ℕ} {o : Opened} {place : Place} {p : Plain} {n : ℕ} {
 
     -- the place emptied, all slices are given back
     module _ {cleared : List ℕ} {total : ℕ} (empty : cleared ≡ store image (placeStart place) (zeroWords 16)) (all : total ≡ sliceTotal (o .slice) block 0) where
-      cleared-is : cleared ≡ emptyPlace p image (can .at .number)
+      cleared-is : cleared ≡ emptyPlace p (sysOf p) image (can .at .number)
       cleared-is = empty ∙ ap₂ (λ (q t : ℕ). store image (q * 256 + t * 16) (zeroWords 16)) (can .at .is .sector) (can .at .is .slot)
 
       can-cut : CanCutFrom cleared block (p .F) (p .s) (M p) total (f .slices)
@@ -63,14 +63,14 @@ module _ {image : List ℕ} {o : Opened} {place : Place} {p : Plain} {n : ℕ} {
             count = omega (arith, block-total (can .on) (can .numbers) n f (can .file) of own);
           }
 
-      pub can-give-all : CanGive cleared block (o .first .0) (o .slice) 0 total
-      can-give-all = rw (can .numbers .first, can .numbers .slice) (record { slices = f .slices; can = can-give can-cut 0 (omega arith) })
+      pub can-give-all : CanCut cleared block (o .first .0) (o .slice) total
+      can-give-all = rw (can .numbers .first, can .numbers .slice) (record { m = M p; slices = f .slices; can = can-cut })
 
-      module _ {given : List ℕ} (back : Given cleared block (o .first .0) (o .slice) 0 total given) where
+      module _ {given : List ℕ} (back : Freed cleared block (o .first .0) (o .slice) 0 total given) where
         given-is : given ≡ freed
         given-is =
-            let b : Given cleared block (p .F) (p .s) 0 total given = rw (can .numbers .first, can .numbers .slice) at back in
-            b .all (f .slices) (can-give can-cut 0 (omega arith)) ∙ ap (λ (l : List ℕ). allFree l (f .slices)) cleared-is
+            let b : Freed cleared block (p .F) (p .s) 0 total given = rw (can .numbers .first, can .numbers .slice) at back in
+            b .all (M p) (f .slices) can-cut ∙ ap (λ (l : List ℕ). allFree l (f .slices)) cleared-is
 
         pub can-count : (2560 ≤ length given) × (o .slice * onesInMap given < 65536)
         can-count =
@@ -83,6 +83,6 @@ module _ {image : List ℕ} {o : Opened} {place : Place} {p : Plain} {n : ℕ} {
               count-fits (p .F) (p .s) (M p) (held (withFiles p (tableRemove n (p .files)))) freed (gr .limits .slices-high) (omega (arith, top p gr, gr .limits .sectors)) (layout .map) (good .once) words,
             )
 
-        pub dropped : {after : List ℕ} → after ≡ countedFree given (o .slice) → after ≡ removedImage p image (can .at .number) f
+        pub dropped : {after : List ℕ} → after ≡ countedFree given (o .slice) → after ≡ removedImage p (sysOf p) image (can .at .number) f
         unfolding removedImage
         dropped x = x ∙ ap₂ countedFree given-is (can .numbers .slice)

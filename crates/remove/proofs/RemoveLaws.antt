@@ -20,6 +20,8 @@ use Rattle.plain.specs.Unit.{Plain, File, entry, withFiles}
 use Rattle.plain.specs.Good.{Good}
 use Rattle.plain.specs.Questions.{replies, done, known}
 use Rattle.plain.specs.Catalog.{stepRemove}
+use Rattle.plain.proofs.QuestionLaws.{true-yes, false-no, asks-yes, asks-no, given-none, given-some}
+use Rattle.plain.proofs.UnitLaws.{system-none, ordinary-files}
 use Rattle.refine.specs.Represents.{Represents}
 use Rattle.refine.specs.Replies.{refused, written}
 use Rattle.steps.proofs.Whole.{on-disc}
@@ -29,8 +31,7 @@ use Rattle.unit.specs.Find.{NameAt, NameFound, FindsName}
 use Rattle.unit.specs.Files.{nameOpen}
 use Rattle.unit.proofs.OpenLaws.{on-catalog}
 use Rattle.unit.proofs.MeantLaws.{meant-known}
-use Rattle.unit.proofs.AskLaws.{true-yes, false-no, asks-yes, asks-no, given-none, given-some}
-use Rattle.unit.proofs.FileLaws.{found-file, file-words, system-none, name-open, name-closed}
+use Rattle.unit.proofs.FileLaws.{found-file, file-words, name-open, name-closed}
 use Rattle.remove.specs.Remove.{CanDropFrom, CanDrop, Dropped, Removes}
 
 -- ---- on the plain unit
@@ -78,7 +79,7 @@ module _ {image : List ℕ} {o : Opened} {n : ℕ} {r : Found} (state : State) (
     removes-system system = record {
       all = λ p g rep num. record {
         step = λ lent.
-            let none-there = system-none p (named name) g (true-yes (ap isSystem (sym is) ∙ system)) in
+            let none-there = system-none p (named name) (ordinary-files g) (true-yes (ap isSystem (sym is) ∙ system)) in
             refused (λ z. omega arith) (remove-system p name lent (meant-known meant rep) (at p g rep num .entered) none-there) refl;
       };
     }

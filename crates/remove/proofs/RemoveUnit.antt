@@ -8,7 +8,7 @@ use Rattle.disc.specs.Names.{named}
 use Rattle.plain.specs.Table.{tableRemove}
 use Rattle.plain.specs.Unit.{Plain, withFiles}
 use Rattle.plain.specs.Good.{Good}
-use Rattle.plain.specs.Questions.{done, replies}
+use Rattle.plain.specs.Questions.{done, replies, answer}
 use Rattle.plain.specs.Catalog.{stepRemove}
 use Rattle.refine.specs.Represents.{Represents}
 use Rattle.refine.specs.OnDisc.{OnDisc}
@@ -16,8 +16,8 @@ use Rattle.refine.specs.Replies.{Replies, refused, written}
 use Rattle.steps.proofs.Whole.{on-disc, represents}
 use Rattle.steps.proofs.RemoveStep.{remove-on}
 use Rattle.steps.proofs.AreaSteps.{remove-areas}
-use Rattle.unit.specs.Stepped.{Stepped}
-use Rattle.unit.proofs.StepLaws.{stepped}
+use Rattle.refine.specs.Leaves.{Leaves}
+use Rattle.refine.proofs.LeavesLaws.{leaves}
 use Rattle.remove.specs.Remove.{Removed, RemoveStep}
 
 module _ {image : List ℕ} {state : State} {p : Plain} (g : Good p) (r : Represents image state p) where
@@ -26,13 +26,13 @@ module _ {image : List ℕ} {state : State} {p : Plain} (g : Good p) (r : Repres
       subst (λ (i : List ℕ). OnDisc i (withFiles p (tableRemove n (p .files)))) (sym (w .written))
       (remove-on (on-disc g r) n (w .f) (w .file) (w .closed) (w .t) (w .inside) (w .stands))
 
-  pub remove-stepped : {name : Name} {after : List ℕ} {result : ℕ} → RemoveStep p image name after result → (lent : List ℕ) → Stepped (stepRemove p name lent) lent result after state
+  pub remove-stepped : {name : Name} {after : List ℕ} {result : ℕ} → RemoveStep p image name after result → (lent : List ℕ) → Leaves (stepRemove p name lent) (answer result 0 0 0) lent after state
   remove-stepped {name} {after} {result} s lent = go (s .step lent)
     where
-      go : Replies p (stepRemove p name lent) lent result (after ≡ image) (Removed p image (named name) after) → Stepped (stepRemove p name lent) lent result after state
-      go (refused nz e same) = stepped e g (rw same r)
+      go : Replies p (stepRemove p name lent) lent result (after ≡ image) (Removed p image (named name) after) → Leaves (stepRemove p name lent) (answer result 0 0 0) lent after state
+      go (refused nz e same) = leaves e g (rw same r)
       go (written z q e w) =
           let on = removed-on w in
           let there : stepRemove p name lent ≡ replies (withFiles p (tableRemove (named name) (p .files))) result lent =
           e ∙ ap (λ (x : Plain). done x lent) (w .unit) ∙ ap (λ (x : ℕ). replies (withFiles p (tableRemove (named name) (p .files))) x lent) (sym z) in
-          stepped there (on .good) (represents on (remove-areas (named name) g (w .closed) (r .areas)))
+          leaves there (on .good) (represents on (remove-areas (named name) g (w .closed) (r .areas)))

@@ -9,7 +9,7 @@ use Rattle.disc.specs.Names.{named}
 use Rattle.disc.specs.Entries.{placeCount, nameAt}
 use Rattle.catalog.specs.declared.Place.{Place}
 use Rattle.plain.specs.Table.{tableFind, tableRemove}
-use Rattle.plain.specs.Unit.{Plain, File, withFiles}
+use Rattle.plain.specs.Unit.{Plain, File, sysOf, withFiles}
 use Rattle.plain.specs.Good.{Good}
 use Rattle.plain.specs.Catalog.{stepRemove}
 use Rattle.refine.specs.Represents.{Represents}
@@ -38,7 +38,7 @@ pub record CanDrop (image : List ℕ) (o : Opened) (place : Place) : Type 0 wher
 
 -- The place of the name is emptied, its slices are given back, and the free sectors are counted.
 pub record Dropped (image : List ℕ) (o : Opened) (place : Place) (after : List ℕ) : Type 0 where
-  pub all : (p : Plain) (n : ℕ) (f : File) (can : CanDropFrom image o place p n f) → after ≡ removedImage p image (can .at .number) f
+  pub all : (p : Plain) (n : ℕ) (f : File) (can : CanDropFrom image o place p n f) → after ≡ removedImage p (sysOf p) image (can .at .number) f
 
 -- ---- the message
 
@@ -51,7 +51,7 @@ pub record Removed (p : Plain) (image : List ℕ) (n : ℕ) (after : List ℕ) (
   pub inside : t < placeCount (p .H) (p .layers)
   pub stands : nameAt (unitPlaces image p) t ≡ n
   pub unit : q ≡ withFiles p (tableRemove n (p .files))
-  pub written : after ≡ removedImage p image t f
+  pub written : after ≡ removedImage p (sysOf p) image t f
 
 -- Remove on the unit p, whatever words are lent.
 pub record RemoveStep (p : Plain) (image : List ℕ) (name : Name) (after : List ℕ) (result : ℕ) : Type 0 where

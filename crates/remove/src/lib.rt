@@ -19,8 +19,8 @@ fn drop_file(image: &mut [u16], o: Opened, place: Place)
     let block = unit::file_block(image, Sector(index));
     let total = index::slice_total(block, o.slice);
     catalog::clear_place(image, place);
-    take::give_back(image, block, o.first, o.slice, 0, total);
-    writes::count_free(image, o.slice);
+    slices::free_slices(image, block, o.first, o.slice, 0, total);
+    slices::count_free(image, o.slice);
 }
 
 // Remove of the name in a message that means this unit: the result word.

@@ -8,9 +8,9 @@ use Rattle.words.specs.Store.{store}
 use Rattle.words.proofs.StoreLaws.{store-front}
 use Rattle.plain.specs.Questions.{answer}
 use Rattle.plain.specs.Reports.{description, stepDescription}
+use Rattle.plain.proofs.QuestionLaws.{asks-yes, asks-no}
 use Rattle.unit.specs.declared.Opened.{Opened}
 use Rattle.unit.specs.Opened.{MeantOn}
-use Rattle.unit.proofs.AskLaws.{asks-yes, asks-no}
 use Rattle.unit.proofs.MeantLaws.{meant-on-known}
 use Rattle.reports.specs.Description.{described, Describes}
 
@@ -30,7 +30,7 @@ module _ {image : List ℕ} (o : Opened) (u bytes : ℕ) (lent : List ℕ) (mean
   unfolding stepDescription
   describes-done {after} enough room e = record {
     all = λ p on num own.
-        let same : described image o u ≡ description p = rw (← own, num .keys, num .slice, on .layout .kit .sectors, on .layout .kit .unused) refl in
+        let same : described image o u ≡ description p = rw (← own, num .catalog .keys, num .slice, on .layout .kit .sectors, on .layout .kit .unused) refl in
         let filled : after ≡ description p ++ drop 16 lent = e ∙ ap (store lent 0) same ∙ store-front lent (description p) room in
         asks-yes _ _ _ (meant-on-known p meant own) ∙ asks-yes _ _ _ (rw (le-leb _ _ enough) tt) ∙ asks-yes _ _ _ (rw (le-leb _ _ room) tt)
         ∙ ap (λ (l : List ℕ). record { unit = p; answer = answer 0 32 0 0; lent = l }) (sym filled);

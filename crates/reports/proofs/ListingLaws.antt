@@ -21,19 +21,18 @@ use Rattle.plain.specs.Table.{Row, Table}
 use Rattle.plain.specs.Unit.{Plain, M, entries, entry}
 use Rattle.plain.specs.Questions.{answer, fill}
 use Rattle.plain.specs.Reports.{joined, stepListing}
-use Rattle.plain.proofs.QuestionLaws.{and-right}
+use Rattle.plain.proofs.QuestionLaws.{and-right, asks-yes, asks-no}
+use Rattle.plain.proofs.UnitLaws.{sorted-entries}
 use Rattle.entries.proofs.PlaceLaws.{legal-first}
 use Rattle.sound.specs.Places.{Unused}
 use Rattle.refine.specs.Represents.{PlaceOf}
 use Rattle.refine.specs.OnDisc.{OnDisc}
 use Rattle.refine.proofs.CatalogLaws.{Named, name-zero}
-use Rattle.refine.proofs.Ground.{Ground, ground, entry-named, entry-legal, entry-length, positive, top, sys-in, sys-data, sys-slices}
-use Rattle.refine.proofs.PlaceFiles.{rowOf}
-use Rattle.steps.proofs.PlaceLaws.{sorted-entries, rowAt, positive-name, one-place, collected}
+use Rattle.refine.proofs.Ground.{Ground, ground, entry-named, entry-legal, entry-length, positive, top, joined-in, sys-ground, catalog-data, catalog-slices}
+use Rattle.refine.proofs.PlaceFiles.{rowOf, rowAt, positive-name, one-place, collected}
 use Rattle.unit.specs.declared.Opened.{Opened}
 use Rattle.unit.specs.Opened.{NumbersOf, OpenedOn, unitPlaces}
 use Rattle.unit.proofs.OpenLaws.{on-catalog, sys-once}
-use Rattle.unit.proofs.AskLaws.{asks-yes, asks-no}
 use Rattle.order.specs.Records.{recordAt, recordOf}
 use Rattle.order.specs.ByName.{CanOrder, ByName}
 use Rattle.reports.specs.Listing.{inTurn, slotStart, entryRecord, slotRecord, slotRecords, sysSector, blockRecords, Readable, CountOf, Lists}
@@ -70,7 +69,7 @@ module _ {image : List ℕ} {p : Plain} (on : OnDisc image p) where
   nm = entry-named p (on .good .names)
 
   block-inside : (b : ℕ) → b < p .H * p .layers → block b < p .N
-  block-inside b x = let e : b + sysFrom ≡ b = omega arith in rw e (sys-data p gr b (sys-in p gr b x) .1)
+  block-inside b x = let e : b + sysFrom ≡ b = omega arith in rw e (catalog-data (sys-ground gr) b (joined-in (sys-ground gr) b (omega (arith, x))) .1)
 
   sys-block : (b : ℕ) → b < p .H * p .layers → sysSector image b ≡ block b
   sys-block b x =
@@ -78,7 +77,7 @@ module _ {image : List ℕ} {p : Plain} (on : OnDisc image p) where
       let fits : block b < p .N = block-inside b x in
       let room : b < p .s * length (p .sys) = omega (arith, gr .sysCover, mul-comm (p .s) (length (p .sys))) in
       let small : sectorIn (p .F) (p .s) (p .sys) b < 65536 = rw e at (let z : block b < 65536 = omega (arith, on .good .limits .sectors) in z) in
-      rw e (read-sector image (p .F) (p .s) sysIndexSector (p .sys) (on .good .sysFew) (on .layout .sysIndex) (positive p gr) (sys-slices p gr) b room small)
+      rw e (read-sector image (p .F) (p .s) sysIndexSector (p .sys) (on .good .sysFew) (on .layout .sys .index) (positive p gr) (catalog-slices (sys-ground gr)) b room small)
 
   -- as many sectors as SYS has are in the unit
   few-blocks : p .H * p .layers ≤ 32767
@@ -100,7 +99,7 @@ module _ {image : List ℕ} {p : Plain} (on : OnDisc image p) where
   abbrev placeRecord : ℕ → List ℕ
   placeRecord t = slotRecord image (sector t) (t % 16)
 
-  unused-row : (t : ℕ) → Unused P t → rowAt p (on .good) (on .layout .catalog) t ≡ none
+  unused-row : (t : ℕ) → Unused P t → rowOf (nameAt P t) (entry p (nameAt P t)) ≡ none
   unused-row t z = ap (λ (n : ℕ). rowOf n (entry p n)) (name-zero P t z) ∙ ap (rowOf 0) (nm .zero)
 
   -- word w of place t
@@ -141,23 +140,24 @@ module _ {image : List ℕ} {p : Plain} (on : OnDisc image p) where
             inside = omega (arith, block-inside (t / 16) (omega arith), on .layout .size);
           }
 
-    place-note : PlaceNote image (rowAt p (on .good) (on .layout .catalog) t) (placeRecord t)
+    place-note : PlaceNote image (rowOf (nameAt P t) (entry p (nameAt P t))) (placeRecord t)
     place-note = ⊎-elim
         (λ (z : Unused P t).
         let e : firstWord image (sector t) (t % 16) ≡ 0 = word-at t 0 (slotStart (sector t) (t % 16)) (omega arith) ∙ z .zero 0 (omega arith) in
         subst (λ (o : Option (Row (List ℕ))). PlaceNote image o (placeRecord t)) (sym (unused-row t z)) (slot-none image (sector t) (t % 16) e))
         (λ (u : PlaceOf P (p .H) (entry p) t).
         subst (λ (o : Option (Row (List ℕ))). PlaceNote image o (placeRecord t)) (sym (ap (rowOf (nameAt P t)) (u .entered))) (rw (place-record u) (used-note u)))
-        (on .layout .catalog .each t x)
+        (on .layout .sys .places .each t x)
 
   places-noted : NotesOf image (entries p) (blockRecords image (p .H * p .layers))
+  unfolding entry
   places-noted =
-      let g = on .good in
-      let cat = on .layout .catalog in
+      let cat = on .layout .sys .places in
+      let sorted = sorted-entries p (on .good .names) in
       let n : ℕ = p .H * p .layers in
       let by-place : NotesOf image (entries p) (inTurn placeRecord N) =
-      subst (λ (T : Table (List ℕ)). NotesOf image T (inTurn placeRecord N)) (collected p g cat)
-      (collect-notes (rowAt p g cat) (positive-name p g cat) N (one-place p g cat) image placeRecord place-note N (omega arith)) in
+      subst (λ (T : Table (List ℕ)). NotesOf image T (inTurn placeRecord N)) (collected P (entries p) sorted (cat .there) (cat .alone))
+      (collect-notes (rowAt P (entries p)) (positive-name P (entries p) sorted (cat .there) (cat .alone)) N (one-place P (entries p) sorted (cat .there) (cat .alone)) image placeRecord place-note N (omega arith)) in
       let by-block : inTurn placeRecord N ≡ inTurn (λ b. slotRecords image (block b) 16) n = turn-groups (λ b. slotRecord image (block b)) n in
       let same : inTurn (λ b. slotRecords image (block b) 16) n ≡ blockRecords image n =
       turn-ext (λ b. slotRecords image (block b) 16) (λ b. slotRecords image (sysSector image b) 16) n (λ b x. ap (λ (q : ℕ). slotRecords image q 16) (sym (sys-block b x))) in
@@ -178,26 +178,26 @@ module _ {image : List ℕ} {p : Plain} (on : OnDisc image p) where
 
     listing-done : {after : List ℕ} → ByName image (length (entries p)) noted after → after ≡ fill (joined (entries p)) lent
     listing-done by =
-        let sorted = sorted-entries p (on .good) in
+        let sorted = sorted-entries p (on .good .names) in
         in-name-order places-noted lent room by (table-listing 0 (entries p) sorted entered) (names-increase 0 (entries p) sorted entered)
 
   -- as many entries as are counted
-  entries-counted : {o : Opened} {count : ℕ} → NumbersOf o p → CountOf (blockRecords image (o .keys * o .layers)) count → count ≡ length (entries p)
+  entries-counted : {o : Opened} {count : ℕ} → NumbersOf o p → CountOf (blockRecords image (o .catalog .keys * o .catalog .layers)) count → count ≡ length (entries p)
   entries-counted {o} num n =
-      let own = rw (num .keys, num .layers) at n in
+      let own = rw (num .catalog .keys, num .catalog .layers) at n in
       omega (arith, own .words, places-noted .size)
 
 -- ---- the listing
 
-pub can-read : {image : List ℕ} {o : Opened} → OpenedOn image o → Readable image (o .keys * o .layers)
-can-read h = rw (h .numbers .keys, h .numbers .layers) (readable (h .on))
+pub can-read : {image : List ℕ} {o : Opened} → OpenedOn image o → Readable image (o .catalog .keys * o .catalog .layers)
+can-read h = rw (h .numbers .catalog .keys, h .numbers .catalog .layers) (readable (h .on))
 
 -- the records stored, in the numbers of a unit on the image
-own-noted : (image lent : List ℕ) {o : Opened} {p : Plain} {count : ℕ} {noted : List ℕ} → NumbersOf o p → count ≡ length (entries p) → noted ≡ store lent (4 * count) (blockRecords image (o .keys * o .layers))
+own-noted : (image lent : List ℕ) {o : Opened} {p : Plain} {count : ℕ} {noted : List ℕ} → NumbersOf o p → count ≡ length (entries p) → noted ≡ store lent (4 * count) (blockRecords image (o .catalog .keys * o .catalog .layers))
     → noted ≡ store lent (4 * length (entries p)) (blockRecords image (p .H * p .layers))
-own-noted image lent num c e = rw (← c, ← num .keys, ← num .layers) e
+own-noted image lent num c e = rw (← c, ← num .catalog .keys, ← num .catalog .layers) e
 
-module _ {image : List ℕ} {o : Opened} {count : ℕ} (lent : List ℕ) (n : CountOf (blockRecords image (o .keys * o .layers)) count) where
+module _ {image : List ℕ} {o : Opened} {count : ℕ} (lent : List ℕ) (n : CountOf (blockRecords image (o .catalog .keys * o .catalog .layers)) count) where
   pub lists-short : length lent < 16 * count → Lists image o lent (answer 0x1200 0 0 0) lent
   unfolding stepListing
   lists-short short = record {
@@ -206,7 +206,7 @@ module _ {image : List ℕ} {o : Opened} {count : ℕ} (lent : List ℕ) (n : Co
         asks-yes _ _ _ mine ∙ asks-no _ _ _ (rw (← c, lt-leb _ _ short) tt);
   }
 
-  module _ (room : 16 * count ≤ length lent) {noted : List ℕ} (e : noted ≡ store lent (4 * count) (blockRecords image (o .keys * o .layers))) where
+  module _ (room : 16 * count ≤ length lent) {noted : List ℕ} (e : noted ≡ store lent (4 * count) (blockRecords image (o .catalog .keys * o .catalog .layers))) where
     pub lists-can : count < 4294967296 → OpenedOn image o → CanOrder image count noted
     lists-can few h =
         let c : count ≡ length (entries (h .unit)) = entries-counted (h .on) (h .numbers) n in

@@ -45,7 +45,7 @@ fn store_description(image: &[u16], o: Opened, unit: u16, lent: &mut [u16])
         0,
         0,
         0,
-        o.keys,
+        o.catalog.keys,
         o.slice,
         sectors,
         free,
@@ -157,7 +157,7 @@ pub fn list(image: &[u16], o: Opened, lent: &mut [u16]) -> Answer
     requires { ⌜ CanList (now image) o ⌝ }
     ensures { λ r. ⌜ Lists (now (image .entry)) o (now (lent .entry)) r (now (lent .exit)) ⌝ }
 {
-    let blocks = o.keys as u32 * o.layers as u32;
+    let blocks = o.catalog.keys as u32 * o.catalog.layers as u32;
     let count = count_entries(image, blocks);
     if lent.len() < 16 * count as usize {
         return refused();

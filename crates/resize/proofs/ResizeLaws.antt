@@ -10,16 +10,19 @@ use Rattle.disc.specs.Numbers.{need}
 use Rattle.disc.specs.Slices.{occurrences, InRangeOnce, taken, lastOf}
 use Rattle.disc.specs.Stretches.{sectorIn, fileFrom}
 use Rattle.disc.proofs.NumberLaws.{ceilDiv-le}
-use Rattle.disc.proofs.SliceLaws.{occurrences-append, length-taken, taken-law}
+use Rattle.disc.proofs.SliceLaws.{occurrences-append, length-taken, taken-law, length-after, occurrences-take}
 use Rattle.index.specs.Block.{wholeIndex}
 use Rattle.plain.specs.Unit.{Plain, File, M, held}
 use Rattle.refine.specs.Writes.{zeroedSectors, takenImage, cutImage, resizedImage}
 use Rattle.refine.proofs.Ground.{Ground, ground, part-file}
-use Rattle.steps.proofs.ResizeLaws.{Resizes, resizes-taken, length-after, occurrences-take, cut-none, resliced-size}
+use Rattle.steps.proofs.ResizeLaws.{Resizes, resizes-taken, cut-none, resliced-size}
 use Rattle.steps.proofs.WriteLaws.{taken-none}
 use Rattle.unit.specs.declared.Opened.{Opened}
-use Rattle.writes.specs.Writes.{FileBlock, CanZeroFrom, CanZero, Zeroed, CanLengthenFrom, CanLengthen, Lengthened, CanCutFrom, CanCut, Cut}
-use Rattle.writes.proofs.FileLaws.{unit-file}
+use Rattle.slices.specs.FileBlock.{FileBlock}
+use Rattle.slices.specs.Take.{CanLengthenFrom, CanLengthen, Lengthened}
+use Rattle.slices.specs.Give.{CanCutFrom, CanCut, Cut}
+use Rattle.slices.specs.Zero.{CanZeroFrom, CanZero, Zeroed}
+use Rattle.slices.proofs.BlockLaws.{unit-file}
 use Rattle.resize.specs.declared.Extent.{Extent}
 use Rattle.resize.specs.Resize.{slicesThen, CanResliceFrom, slicedImage, Resliced, CanResizeFrom}
 

@@ -16,9 +16,9 @@ fn reslice(image: &mut [u16], o: Opened, block: IndexBlock, had: u16, has: u16) 
     ensures { λ r. ⌜ Resliced (now (image .entry)) o (block .words) had has (now (image .exit)) (r .words) ⌝ }
 {
     if has <= had {
-        return writes::give_back(image, block, o.first, o.slice, has, had);
+        return slices::give_back(image, block, o.first, o.slice, has, had);
     }
-    writes::take_more(image, block, o.first, o.slice, o.slices, has - had)
+    slices::take_more(image, block, o.first, o.slice, o.slices, has - had)
 }
 
 // The file whose index block is given, with the sectors and slices that it had and is to have; the sectors that join are zeroed.
@@ -36,6 +36,6 @@ pub fn resize(
     if has.size <= had.size {
         return after;
     }
-    writes::zero_sectors(image, after, had.size + 1, has.size - had.size);
+    slices::zero_sectors(image, after, had.size + 1, has.size - had.size);
     after
 }

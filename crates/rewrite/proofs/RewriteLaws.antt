@@ -6,7 +6,7 @@ use mathlib.Core.Logic.{_≢_}
 use Prim.Native.Nat.{ℕ, _+_, _*_, _%_, _≤_, _<_}
 use native.Mathlib.Omega.{arith}
 use native.Mathlib.Nat.{mod-lt, mul-le-mul-left}
-use lib.ListN.{length, take, drop, length-drop}
+use lib.ListN.{length, take, drop}
 use lib.Seq.{take-all, length-take-le}
 use Rattle.disc.specs.Numbers.{bit}
 use Rattle.disc.specs.Words.{Words}
@@ -15,50 +15,48 @@ use Rattle.disc.specs.Attributes.{permanent}
 use Rattle.disc.specs.Stretches.{sectorIn}
 use Rattle.disc.specs.Map.{onesInMap}
 use Rattle.disc.specs.Entries.{entryWords, indexSector}
-use Rattle.disc.proofs.WordLaws.{words-drop}
+use Rattle.disc.specs.Catalog.{placeSector}
 use Rattle.disc.proofs.SliceLaws.{sum-law}
 use Rattle.words.specs.Store.{store, zeroWords}
 use Rattle.words.proofs.StoreLaws.{length-store}
 use Rattle.index.specs.Block.{wholeIndex, jointSector}
 use Rattle.catalog.specs.Catalog.{placeStart, entryAt}
 use Rattle.plain.specs.Table.{tableRemove}
-use Rattle.plain.specs.Unit.{Plain, File, M, fileEntry, withFiles}
+use Rattle.plain.specs.Unit.{Plain, File, sysOf, M, fileEntry, withFiles}
 use Rattle.plain.specs.Catalog.{optionalIn, tailIn}
 use Rattle.plain.specs.Good.{WordsOf}
-use Rattle.plain.proofs.WordLaws.{wordsOf-take}
-use Rattle.refine.specs.Writes.{countedFree, placeSector, storePlace, emptyPlace, resizedImage, changedImage, renamedImage}
+use Rattle.plain.proofs.WordLaws.{optional-words, tail-words}
+use Rattle.plain.proofs.KeepsCatalog.{removed-good}
+use Rattle.plain.proofs.ChangeUnit.{Changes, changes-size}
+use Rattle.plain.proofs.QuestionLaws.{cond-law}
+use Rattle.refine.specs.Writes.{countedFree, storePlace, emptyPlace, resizedImage, changedImage, renamedImage}
 use Rattle.refine.proofs.Ground.{Ground, ground, top, entry-length}
 use Rattle.refine.proofs.Writers.{long}
 use Rattle.steps.proofs.WriteLaws.{zeroed-size}
 use Rattle.steps.proofs.ResizeLaws.{resliced-size}
-use Rattle.steps.proofs.ChangeStep.{Changes, changes-resizes, changes-size, changes-entry, change-on}
+use Rattle.steps.proofs.ChangeStep.{changes-resizes, changes-entry, change-on}
 use Rattle.steps.proofs.RenameStep.{rename-emptied, rename-at}
-use Rattle.steps.proofs.RemoveStep.{removed-good}
 use Rattle.unit.specs.declared.Opened.{Opened}
 use Rattle.unit.specs.Opened.{NumbersOf, CatalogOn}
 use Rattle.unit.proofs.OpenLaws.{on-catalog}
 use Rattle.unit.proofs.FindLaws.{place-room}
 use Rattle.unit.proofs.FileLaws.{file-entry}
 use Rattle.unit.proofs.LookUpLaws.{entry-at}
-use Rattle.writes.specs.Writes.{FileBlock}
-use Rattle.writes.proofs.FileLaws.{unit-file, index-told}
+use Rattle.slices.specs.FileBlock.{FileBlock}
+use Rattle.slices.proofs.BlockLaws.{unit-file, index-told}
+use Rattle.unit.specs.Find.{FirstUnused}
 use Rattle.grow.proofs.BlockLaws.{counted-word}
 use Rattle.resize.specs.declared.Extent.{Extent}
 use Rattle.resize.specs.Resize.{slicesThen, CanResizeFrom, CanResize, Resized}
 use Rattle.resize.proofs.ResizeLaws.{then-length, then-once}
 use Rattle.rewrite.specs.declared.Standing.{Standing}
 use Rattle.rewrite.specs.declared.Wanted.{Wanted}
-use Rattle.unit.specs.Find.{FirstUnused}
 use Rattle.rewrite.specs.Move.{CanMoveFrom, CanMove, Moved, MovedFrom}
 use Rattle.rewrite.specs.Rewrite.{StandsAs, fileThen, CanRewriteFrom, Rewrites, stayed, moved}
 use Rattle.rewrite.proofs.EntryLaws.{lent-optional, lent-tail, entry-optional, entry-tail}
 use Rattle.rewrite.proofs.MoveLaws.{stored-place}
 
 -- ---- optional and tail
-
-cond-words : (k : ℕ) (b : Bool) (l m : List ℕ) → WordsOf k l → WordsOf k m → WordsOf k (cond b l m)
-cond-words k true l m v w = v
-cond-words k false l m v w = w
 
 -- a part of one of two lists
 cond-part : (P : List ℕ → List ℕ) (b : Bool) (x y u v : List ℕ) → P x ≡ u → P y ≡ v → P (cond b x y) ≡ cond b u v
@@ -96,12 +94,8 @@ module _ {image : List ℕ} {o : Opened} {now : Standing} {w : Wanted} {lent : L
         needed = can .needed;
         attributes = can .allowed;
         entryOnly = can .only;
-        optional =
-            cond-words 3 (permanent (f .attributes)) (f .optional) (optionalIn lent) (fg .optional)
-            (wordsOf-take 3 (drop 3 lent) (omega (arith, length-drop 3 lent, can .lentSize)) (words-drop 3 lent (can .lentWords)));
-        tail =
-            cond-words 6 (permanent (f .attributes)) (f .tail) (tailIn lent) (fg .tail)
-            (wordsOf-take 6 (drop 10 lent) (omega (arith, length-drop 10 lent, can .lentSize)) (words-drop 10 lent (can .lentWords)));
+        optional = cond-law (WordsOf 3) (permanent (f .attributes)) _ _ (fg .optional) (optional-words lent (can .lentWords) (can .lentSize));
+        tail = cond-law (WordsOf 6) (permanent (f .attributes)) _ _ (fg .tail) (tail-words lent (can .lentWords) (can .lentSize));
         room = can .room;
         few = can .few;
       }
@@ -208,7 +202,7 @@ module _ {image : List ℕ} {o : Opened} {now : Standing} {w : Wanted} {lent : L
       -- the name kept
       module _ (same : w .moves ≡ false) where
         abbrev kept-image : List ℕ
-        kept-image = storePlace p (resizedImage p image f f′) t (fileEntry (p .F) (p .s) n f′)
+        kept-image = storePlace p (sysOf p) (resizedImage p image f f′) t (fileEntry (p .F) (p .s) n f′)
 
         pub kept-room : (16 ≤ length words) × (placeStart (now .place) + 16 ≤ length resized)
         kept-room = (omega (arith, words-length), omega (arith, place-inside, ap length (both .0), same-size))
@@ -226,7 +220,7 @@ module _ {image : List ℕ} {o : Opened} {now : Standing} {w : Wanted} {lent : L
 
           pub kept-count : (2560 ≤ length stored) × (o .slice * onesInMap stored < 65536)
           kept-count =
-              let far : 2560 ≤ length kept-image = omega (arith, length-store (resizedImage p image f f′) (placeSector p t * 256 + t % 16 * 16) (fileEntry (p .F) (p .s) n f′), same-size, long gr (s₀ .on .layout)) in
+              let far : 2560 ≤ length kept-image = omega (arith, length-store (resizedImage p image f f′) (placeSector (p .F) (p .s) (sysOf p) t * 256 + t % 16 * 16) (fileEntry (p .F) (p .s) n f′), same-size, long gr (s₀ .on .layout)) in
               let same-count : o .slice * onesInMap stored ≡ p .s * onesInMap kept-image = ap₂ (λ (a b : ℕ). a * b) (num .slice) (ap onesInMap stored-is) in
               (omega (arith, ap length stored-is), omega (arith, counted-word kept-image (p .s) far kept-on))
 
@@ -235,7 +229,7 @@ module _ {image : List ℕ} {o : Opened} {now : Standing} {w : Wanted} {lent : L
           kept-rewrites e = stayed (can .kept same) (e ∙ ap₂ countedFree stored-is (num .slice))
 
       -- another name
-      module _ (other : w .moves ≡ true) {k : ℕ} (key : k ≡ keyOf (o .keys) (pack (w .name .0) (w .name .1) (w .name .2))) where
+      module _ (other : w .moves ≡ true) {k : ℕ} (key : k ≡ keyOf (o .catalog .keys) (pack (w .name .0) (w .name .1) (w .name .2))) where
         abbrev without : Plain
         without = withFiles p (tableRemove n (p .files))
 
@@ -243,16 +237,16 @@ module _ {image : List ℕ} {o : Opened} {now : Standing} {w : Wanted} {lent : L
         differs = can .moved other
 
         key-is : k ≡ keyOf (p .H) m
-        key-is = key ∙ ap₂ keyOf (num .keys) (can .name .packed)
+        key-is = key ∙ ap₂ keyOf (num .catalog .keys) (can .name .packed)
 
-        emptied : CatalogOn (emptyPlace without resized t) without
+        emptied : CatalogOn (emptyPlace without (sysOf without) resized t) without
         emptied =
             let l = rename-emptied (s₀ .on) n m (s₀ .file) (s₀ .closed) changes differs (can .legal) (can .vacant differs) (can .fits differs) t (s₀ .at .is .inside) (s₀ .at .named) in
-            rw (both .0) (record { good = removed-good p n (s₀ .on .good) (s₀ .closed); size = l .size; sysIndex = l .sysIndex; catalog = l .catalog })
+            rw (both .0) (record { good = removed-good p n (s₀ .on .good) (s₀ .closed); size = l .size; sys = l .sys })
 
         move-from : CanMoveFrom resized o (now .place) k without t
         move-from = record {
-          numbers = record { keys = num .keys; slice = num .slice; first = num .first; slices = num .slices; layers = num .layers };
+          numbers = record { slice = num .slice; first = num .first; slices = num .slices; catalog = num .catalog };
           is = record { inside = s₀ .at .is .inside; sector = s₀ .at .is .sector; slot = s₀ .at .is .slot };
           emptied = emptied;
           low = rw key-is (mod-lt _ (omega (arith, gr .limits .keys-low)));
@@ -268,20 +262,20 @@ module _ {image : List ℕ} {o : Opened} {now : Standing} {w : Wanted} {lent : L
 
           -- the image with its place empty, and the entry in its new place
           abbrev bare : List ℕ
-          bare = emptyPlace p (resizedImage p image f f′) t
+          bare = emptyPlace p (sysOf p) (resizedImage p image f f′) t
 
           abbrev moved-image : List ℕ
-          moved-image = storePlace p bare (taken-place .u) (fileEntry (p .F) (p .s) m f′)
+          moved-image = storePlace p (sysOf p) bare (taken-place .u) (fileEntry (p .F) (p .s) m f′)
 
-          first-unused : FirstUnused bare p (keyOf (p .H) m) (taken-place .u)
+          first-unused : FirstUnused bare p (sysOf p) (keyOf (p .H) m) (taken-place .u)
           first-unused =
-              let x : FirstUnused bare without (keyOf (p .H) m) (taken-place .u) =
-              subst (λ (j : ℕ). FirstUnused bare without j (taken-place .u)) key-is
-              (subst (λ (i : List ℕ). FirstUnused (emptyPlace without i t) without k (taken-place .u)) (both .0) (taken-place .first)) in
+              let x : FirstUnused bare without (sysOf without) (keyOf (p .H) m) (taken-place .u) =
+              subst (λ (j : ℕ). FirstUnused bare without (sysOf without) j (taken-place .u)) key-is
+              (subst (λ (i : List ℕ). FirstUnused (emptyPlace without (sysOf without) i t) without (sysOf without) k (taken-place .u)) (both .0) (taken-place .first)) in
               record { inside = x .inside; key = x .key; unused = x .unused; earlier = x .earlier }
 
           moved-is : stored ≡ moved-image
-          moved-is = taken-place .written ∙ ap₂ (λ (i l : List ℕ). storePlace p (emptyPlace p i t) (taken-place .u) l) (both .0) words-are
+          moved-is = taken-place .written ∙ ap₂ (λ (i l : List ℕ). storePlace p (sysOf p) (emptyPlace p (sysOf p) i t) (taken-place .u) l) (both .0) words-are
 
           moved-words : Words (countedFree moved-image (p .s))
           unfolding renamedImage
@@ -291,7 +285,7 @@ module _ {image : List ℕ} {o : Opened} {now : Standing} {w : Wanted} {lent : L
 
           pub moved-count : (2560 ≤ length stored) × (o .slice * onesInMap stored < 65536)
           moved-count =
-              let far : 2560 ≤ length moved-image = omega (arith, length-store bare (placeSector p (taken-place .u) * 256 + taken-place .u % 16 * 16) (fileEntry (p .F) (p .s) m f′), length-store (resizedImage p image f f′) (placeSector p t * 256 + t % 16 * 16) (zeroWords 16), same-size, long gr (s₀ .on .layout)) in
+              let far : 2560 ≤ length moved-image = omega (arith, length-store bare (placeSector (p .F) (p .s) (sysOf p) (taken-place .u) * 256 + taken-place .u % 16 * 16) (fileEntry (p .F) (p .s) m f′), length-store (resizedImage p image f f′) (placeSector (p .F) (p .s) (sysOf p) t * 256 + t % 16 * 16) (zeroWords 16), same-size, long gr (s₀ .on .layout)) in
               let same-count : o .slice * onesInMap stored ≡ p .s * onesInMap moved-image = ap₂ (λ (a b : ℕ). a * b) (num .slice) (ap onesInMap moved-is) in
               (omega (arith, ap length moved-is), omega (arith, counted-word moved-image (p .s) far moved-words))
 
@@ -300,5 +294,5 @@ module _ {image : List ℕ} {o : Opened} {now : Standing} {w : Wanted} {lent : L
           moved-rewrites e = moved differs (taken-place .u) first-unused (e ∙ ap₂ countedFree moved-is (num .slice))
 
   -- H is at least 1
-  pub some-key : 1 ≤ o .keys
-  some-key = omega (arith, gr .limits .keys-low, num .keys)
+  pub some-key : 1 ≤ o .catalog .keys
+  some-key = omega (arith, gr .limits .keys-low, num .catalog .keys)

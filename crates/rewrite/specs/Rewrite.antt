@@ -15,7 +15,7 @@ use Rattle.disc.specs.Stretches.{stretchCount}
 use Rattle.index.specs.Block.{wholeIndex}
 use Rattle.names.specs.NameIs.{NameIs}
 use Rattle.plain.specs.Table.{tableFind, tableRemove}
-use Rattle.plain.specs.Unit.{Plain, File, freeSlices, entry}
+use Rattle.plain.specs.Unit.{Plain, File, sysOf, freeSlices, entry}
 use Rattle.plain.specs.Taking.{placesTaken}
 use Rattle.plain.specs.Catalog.{changed}
 use Rattle.refine.specs.OnDisc.{OnDisc}
@@ -58,7 +58,7 @@ pub record CanRewriteFrom (image : List ℕ) (o : Opened) (now : Standing) (w : 
   pub room : w .slices - length (f .slices) ≤ freeSlices p
   pub few : stretchCount (slicesThen p f (w .slices)) ≤ 127
   pub vacant : m ≢ n → entry p m ≡ none
-  pub fits : m ≢ n → placesTaken (p .H) (keyOf (p .H) m) (tableRemove n (p .files)) < 16 * p .layers
+  pub fits : m ≢ n → placesTaken (p .H) (keyOf (p .H) m) (sysOf p) (tableRemove n (p .files)) < 16 * p .layers
 
 pub record CanRewrite (image : List ℕ) (o : Opened) (now : Standing) (w : Wanted) (lent : List ℕ) : Type 0 where
   pub unit : Plain
@@ -70,9 +70,9 @@ pub record CanRewrite (image : List ℕ) (o : Opened) (now : Standing) (w : Want
 -- The image with the entry of f, which stood in place t, as that of f′: under its own name, or under m in the first place of the
 -- new key that is unused once place t is empty.
 pub data Rewrites (image : List ℕ) (p : Plain) (t n m : ℕ) (f f′ : File) (after : List ℕ) : Type 0 where
-  stayed : m ≡ n → after ≡ changedImage p image t n f f′ → Rewrites image p t n m f f′ after
-  moved : m ≢ n → (u : ℕ) → FirstUnused (emptyPlace p (resizedImage p image f f′) t) p (keyOf (p .H) m) u
-      → after ≡ renamedImage p image t u m f f′ → Rewrites image p t n m f f′ after
+  stayed : m ≡ n → after ≡ changedImage p (sysOf p) image t n f f′ → Rewrites image p t n m f f′ after
+  moved : m ≢ n → (u : ℕ) → FirstUnused (emptyPlace p (sysOf p) (resizedImage p image f f′) t) p (sysOf p) (keyOf (p .H) m) u
+      → after ≡ renamedImage p (sysOf p) image t u m f f′ → Rewrites image p t n m f f′ after
 
 pub record Rewritten (image : List ℕ) (o : Opened) (now : Standing) (w : Wanted) (lent after : List ℕ) : Type 0 where
   pub all : (p : Plain) (n m : ℕ) (f : File) (can : CanRewriteFrom image o now w lent p n m f)

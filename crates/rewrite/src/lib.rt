@@ -113,10 +113,16 @@ pub fn rewrite(image: &mut [u16], o: Opened, f: Standing, w: Wanted, lent: &[u16
     let index = index::block_sector(block, 0, Block(0));
     let entry = new_entry(source, w, index, o.slice * w.slices);
     if w.moves {
-        move_entry(image, o, f.place, numbers::key(w.name, o.keys), entry);
-        writes::count_free(image, o.slice);
+        move_entry(
+            image,
+            o,
+            f.place,
+            numbers::key(w.name, o.catalog.keys),
+            entry,
+        );
+        slices::count_free(image, o.slice);
         return;
     }
     catalog::write_entry(image, f.place, &entry.words);
-    writes::count_free(image, o.slice);
+    slices::count_free(image, o.slice);
 }

@@ -27,18 +27,15 @@ use Rattle.plain.specs.Good.{Good}
 use Rattle.refine.specs.Represents.{usersIn, SameAreas, Represents}
 use Rattle.refine.specs.OnDisc.{OnDisc}
 use Rattle.refine.proofs.UserLaws.{plainUser}
+use Rattle.refine.specs.Leaves.{Leaves}
+use Rattle.refine.proofs.LeavesLaws.{leaves}
 use Rattle.refine.proofs.StateLaws.{same-size}
 use Rattle.steps.proofs.Whole.{on-disc, represents}
 use Rattle.steps.proofs.AreaMessages.{area-set-same, area-low, area-found, reserve-outcome, reserve-areas, sender-found, release-areas, move-areas, position-low, reserve-on, release-on, move-on}
 use Rattle.steps.proofs.OutputUnit.{positioned-negative, positioned-past, positioned-done}
 use Rattle.steps.proofs.AreaUnit.{user-release}
 use Rattle.sharing.specs.Sharing.{atPosition, positionWord, positionReached}
-use Rattle.sharing.specs.Leaves.{Leaves, Seat}
-
--- an outcome by its parts
-pub leaves : {o : Outcome} {q : Plain} {a : Answer} {lent image : List ℕ} {state : State} → o ≡ record { unit = q; answer = a; lent = lent } → Good q → Represents image state q
-    → Leaves o a lent image state
-leaves {a = a} {lent = lent} {image = image} {state = state} e g r = subst (λ (x : Outcome). Leaves x a lent image state) (sym e) (record { answered = refl; good = g; represents = r })
+use Rattle.sharing.specs.Seat.{Seat}
 
 -- ---- Reserve
 

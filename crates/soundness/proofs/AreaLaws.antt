@@ -1,32 +1,41 @@
 -- A name is entered exactly if it is found in the sectors of its key.
-use mathlib.Core.Path.{_≡_, sym, _∙_, subst, ap}
+use mathlib.Core.Path.{_≡_, refl, _∙_, subst, ap}
 use mathlib.Core.List.{List}
-use Prim.Native.Nat.{ℕ, _*_, _≤_, _<_, _/_}
+use Prim.Native.Nat.{ℕ, _≤_, _<_}
 use native.Mathlib.Omega.{arith}
 use lib.Dec.{T}
 use Rattle.disc.specs.Names.{pack, isSystem, legalName, keyOf}
-use Rattle.disc.specs.Entries.{nameAt}
-use Rattle.sound.specs.Places.{Used}
+use Rattle.disc.specs.Entries.{placeCount}
+use Rattle.catalog.specs.declared.Catalog.{Catalog}
+use Rattle.catalog.specs.declared.Place.{Place}
+use Rattle.catalog.specs.declared.Found.{Found}
+use Rattle.catalog.specs.declared.Found.the-variants.{At, Nothing}
+use Rattle.catalog.specs.Catalog.{NamePlace}
 use Rattle.kit.specs.declared.Geometry.{Geometry}
-use Rattle.entries.specs.Sys.{sysSlices, placesIn}
-use Rattle.entries.specs.Found.{Stands, FirstAt, NoneAt}
+use Rattle.entries.specs.Sys.{placesIn}
+use Rattle.entries.proofs.FindLaws.{sys-at, sys-none}
 use Rattle.entries.proofs.NamesLaws.{named-used}
 use Rattle.entries.proofs.PlaceLaws.{legal-first}
 use Rattle.alone.specs.Scan.{LegalSys}
 use Rattle.soundness.specs.Areas.{OrdinaryEntered}
 
-module _ {image : List ℕ} {g : Geometry} {blocks : ℕ} (sys : LegalSys image g blocks) where
+module _ {image : List ℕ} {g : Geometry} {c : Catalog} (sys : LegalSys image g c) where
+  abbrev Entered : ℕ → Type 0
+  Entered n = OrdinaryEntered (placesIn image g) (placeCount (g .keys) (c .layers)) n
+
   -- an entered name is legal, so its first word is not 0
-  pub entered-first : (a b c : ℕ) → b < 65536 → c < 65536 → OrdinaryEntered (placesIn image g) (16 * blocks) (pack a b c) → a ≡ 0 → ⊥
-  entered-first a b c hb hc e z =
+  pub entered-first : (x y z : ℕ) → y < 65536 → z < 65536 → Entered (pack x y z) → x ≡ 0 → ⊥
+  entered-first x y z hy hz e zero =
       let t = e .entered in
-      legal-first (pack a b c) (subst (λ (n : ℕ). T (legalName n)) (t .3) (sys .legal (t .0) (t .1) (t .2) .name)) (omega arith)
+      legal-first (pack x y z) (subst (λ (n : ℕ). T (legalName n)) (t .3) (sys .legal (t .0) (t .1) (t .2) .name)) (omega arith)
 
-  pub entered-found : (n : ℕ) → NoneAt (placesIn image g) (g .keys) n (16 * blocks) → OrdinaryEntered (placesIn image g) (16 * blocks) n → ⊥
-  entered-found n none e =
-      let t = e .entered in
-      none .none (t .0) (t .1) (record { key = sys .legal (t .0) (t .1) (t .2) .key ∙ ap (keyOf (g .keys)) (t .3); named = t .3 })
+  module _ {n : ℕ} {r : Found} (found : NamePlace image c n r) where
+    pub entered-found : r ≡ Nothing → Entered n → ⊥
+    entered-found none e =
+        let t = e .entered in
+        sys-none (sys .catalog) refl found none .lacks (t .0) (t .1) (sys .legal (t .0) (t .1) (t .2) .key ∙ ap (keyOf (g .keys)) (t .3)) (t .3)
 
-  pub found-entered : (n t : ℕ) → 1 ≤ n → (T (isSystem n) → ⊥) → FirstAt (placesIn image g) (g .keys) n (16 * blocks) t → OrdinaryEntered (placesIn image g) (16 * blocks) n
-  found-entered n t some ordinary found =
-      record { entered = (t, found .inside, named-used _ t (omega (arith, found .here .named, some)), found .here .named); ordinary = ordinary }
+    pub found-entered : {p : Place} → 1 ≤ n → (T (isSystem n) → ⊥) → r ≡ At p → Entered n
+    found-entered some ordinary at =
+        let f = sys-at (sys .catalog) refl found at in
+        record { entered = (f .place, f .inside, named-used _ (f .place) (omega (arith, f .has, some)), f .has); ordinary = ordinary }

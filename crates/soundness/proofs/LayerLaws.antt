@@ -19,20 +19,12 @@ use Rattle.sound.specs.Parts.{SoundNames, MarksOf, Marking}
 use Rattle.kit.specs.declared.Geometry.{Geometry}
 use Rattle.entries.specs.Sys.{sysSlices, placesIn}
 use Rattle.entries.proofs.NamesLaws.{sound-legal}
-use Rattle.alone.specs.Scan.{LegalSys}
 use Rattle.files.specs.Walk.{SysKnown, NamesKnown, SoundFiles}
 use Rattle.soundness.specs.Areas.{AreasEntered}
 use Rattle.soundness.specs.Layers.{SoundLayers, unitSlices}
 
 module _ {image : List ℕ} {g : Geometry} {L : ℕ} where
   module _ {before : List ℕ} (known : SysKnown image g before (g .keys * L)) (names : SoundNames (g .keys) (g .slice) L (sysSlices image g) (placesIn image g) (placeCount (g .keys) L)) where
-    pub names-legal : LegalSys image g (g .keys * L)
-    names-legal = record {
-      sys = record { unit = known .unit; index = known .index; once = known .marked .once };
-      room = known .room;
-      legal = names .legal;
-    }
-
     abbrev P : ℕ → ℕ → ℕ
     P = placesIn image g
 

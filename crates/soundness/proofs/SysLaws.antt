@@ -19,7 +19,7 @@ use Rattle.kit.specs.Geometry.{UnitOf}
 use Rattle.marks.specs.declared.Indexed.{Indexed}
 use Rattle.marks.specs.Marked.{Marked}
 use Rattle.marks.specs.Indexed.{IndexMarking}
-use Rattle.entries.specs.Sys.{sysSlices, placesIn, SysOf}
+use Rattle.entries.specs.Sys.{sysSlices, SysOf}
 use Rattle.entries.specs.Names.{LayersOf}
 use Rattle.soundness.specs.Layers.{SysMarking}
 
@@ -69,7 +69,7 @@ module _ {image : List ℕ} {g : Geometry} {before after : List ℕ} {sys : Inde
       only = λ L sound names. absurd (d (one-first (sound .first)));
     }
 
-    pub sys-layers : {r : ℕ} → sys .start .0 ≡ g .first .0 → LayersOf (g .keys) (g .slice) (sysSlices image g) (placesIn image g) r → SysMarking image g after r
+    pub sys-layers : {r : ℕ} → sys .start .0 ≡ g .first .0 → LayersOf image g r → SysMarking image g after r
     sys-layers {r} e layers = record {
       known = λ d.
           let fits = layers .fits d in (

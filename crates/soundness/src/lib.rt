@@ -1,9 +1,12 @@
 // Whether a unit is sound: the rules of document 01's section 'A sound unit', decided.
 
+ghost use mathlib.Core.Path.{_≡_};
 ghost use mathlib.Core.List.{[]};
 ghost use Prim.Native.Nat.{_*_};
 ghost use Rattle.disc.specs.Decide.{Decides};
 ghost use Rattle.disc.specs.Names.{pack};
+ghost use Rattle.disc.specs.Entries.{placeCount};
+ghost use Rattle.catalog.specs.Catalog.{sysValue};
 ghost use Rattle.entries.specs.Sys.{placesIn};
 ghost use Rattle.alone.specs.Scan.{LegalSys};
 ghost use Rattle.sound.specs.Sound.{SoundUnit};
@@ -12,16 +15,17 @@ ghost use Rattle.marks.specs.Marked.{Marked};
 ghost use Rattle.files.specs.Walk.{SysKnown};
 ghost use Rattle.soundness.specs.Areas.{OrdinaryEntered, AreasEntered};
 ghost use Rattle.soundness.specs.Layers.{SysMarking, SoundLayers};
-use entries::Found;
+use catalog::Catalog;
+use catalog::Found;
 use kit::Geometry;
 use types::Name;
 use types::Sector;
 use types::State;
 
-// Whether a name is entered in the first `blocks` sectors of SYS, and not SYS or MAP.
-fn name_entered(image: &[u16], g: Geometry, name: Name, blocks: u16) -> bool
-    requires { ⌜ LegalSys (now image) g blocks ⌝ }
-    ensures { λ r. ⌜ Decides r (OrdinaryEntered (placesIn (now (image .entry)) g) (16 * blocks) (pack (name .0) (name .1) (name .2))) ⌝ }
+// Whether a name is entered in SYS, and not SYS or MAP.
+fn name_entered(image: &[u16], g: Geometry, sys: Catalog, name: Name) -> bool
+    requires { ⌜ LegalSys (now image) g sys ⌝ }
+    ensures { λ r. ⌜ Decides r (OrdinaryEntered (placesIn (now (image .entry)) g) (placeCount (g .keys) (sys .layers)) (pack (name .0) (name .1) (name .2))) ⌝ }
 {
     if name.0 == 0 {
         return false;
@@ -29,21 +33,21 @@ fn name_entered(image: &[u16], g: Geometry, name: Name, blocks: u16) -> bool
     if names::is_system(name) {
         return false;
     }
-    let Found::At(_) = entries::find(image, g, name, blocks) else {
+    let Found::At(_) = catalog::find(image, sys, name) else {
         return false;
     };
     true
 }
 
 // Whether the names of all open area processes are.
-pub fn areas_entered(image: &[u16], g: Geometry, state: State, blocks: u16) -> bool
-    requires { ⌜ LegalSys (now image) g blocks ⌝ }
-    ensures { λ r. ⌜ Decides r (AreasEntered state (placesIn (now (image .entry)) g) (16 * blocks)) ⌝ }
+pub fn areas_entered(image: &[u16], g: Geometry, sys: Catalog, state: State) -> bool
+    requires { ⌜ LegalSys (now image) g sys ⌝ }
+    ensures { λ r. ⌜ Decides r (AreasEntered state (placesIn (now (image .entry)) g) (placeCount (g .keys) (sys .layers))) ⌝ }
 {
     let mut j: usize = 0;
     while j < 8 {
         let area = state.areas[j];
-        if area.live && !name_entered(image, g, area.name, blocks) {
+        if area.live && !name_entered(image, g, sys, area.name) {
             return false;
         }
         j += 1;
@@ -68,24 +72,24 @@ fn mark_sys(image: &[u16], g: Geometry, marks: &mut [u8; 4096]) -> u16
     entries::find_layers(image, g)
 }
 
-// Whether names, areas, files and map are those of a sound unit whose SYS has so many layers.
+// Whether names, areas, files and map are those of a sound unit with this SYS.
 fn layers_sound(
     image: &[u16],
     state: State,
     g: Geometry,
-    layers: u16,
+    sys: Catalog,
     marks: &mut [u8; 4096],
 ) -> bool
-    requires { ⌜ SysKnown (now image) g (now marks) (g .keys * layers) ⌝ }
-    ensures { λ r. ⌜ Decides r (SoundLayers (now (image .entry)) state g layers) ⌝ }
+    requires { ⌜ SysKnown (now image) g (now marks) (g .keys * sys .layers) × (sys ≡ sysValue (g .keys) (sys .layers)) ⌝ }
+    ensures { λ r. ⌜ Decides r (SoundLayers (now (image .entry)) state g (sys .layers)) ⌝ }
 {
-    if !alone::names_sound(image, g, layers) {
+    if !alone::names_sound(image, g, sys) {
         return false;
     }
-    if !areas_entered(image, g, state, g.keys * layers) {
+    if !areas_entered(image, g, sys, state) {
         return false;
     }
-    if !files::files_sound(image, state, g, layers, marks) {
+    if !files::files_sound(image, state, g, sys.layers, marks) {
         return false;
     }
     marks::map_agrees(image, marks, g)
@@ -107,5 +111,5 @@ pub fn sound(image: &[u16], state: State) -> bool
     if layers == 0 {
         return false;
     }
-    layers_sound(image, state, g, layers, &mut marks)
+    layers_sound(image, state, g, catalog::sys(g.keys, layers), &mut marks)
 }

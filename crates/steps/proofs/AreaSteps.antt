@@ -3,8 +3,7 @@ use mathlib.Core.Path.{_≡_, refl, sym, ap, ap₂, _∙_}
 use mathlib.Core.List.{List, []}
 use mathlib.Core.Logic.{_≢_}
 use mathlib.Core.Option.{Option, none, some}
-use Prim.Native.Nat.{ℕ, suc, _<_}
-use native.Mathlib.Omega.{arith}
+use Prim.Native.Nat.{ℕ, suc}
 use lib.ListN.{length}
 use Rattle.types.specs.declared.Name.{Name}
 use Rattle.types.specs.declared.Sector.{Sector}
@@ -16,9 +15,8 @@ use Rattle.plain.specs.Table.{Table, tableFind, tablePut, tableRemove}
 use Rattle.plain.specs.Unit.{Plain, File, AreaUser, held, freeSectors, entry, withTables, withFiles, withAreas}
 use Rattle.plain.specs.Areas.{bookLive}
 use Rattle.plain.specs.Good.{Good}
-use Rattle.plain.proofs.TableLaws.{some≢none, find-put, find-put-other, find-remove, find-remove-other, find-above, length-put}
+use Rattle.plain.proofs.TableLaws.{some≢none, find-put, find-put-other, find-remove, find-remove-other}
 use Rattle.plain.proofs.UnitLaws.{no-area}
-use Rattle.plain.proofs.KeepsAreas.{area-put-good}
 use Rattle.refine.specs.Represents.{areaOfState, areaOfUnit, SameAreas, Layout}
 use Rattle.refine.specs.OnDisc.{OnDisc}
 use Rattle.refine.proofs.UserLaws.{created-users}
@@ -69,7 +67,7 @@ pub areas-on : {i : List ℕ} {p : Plain} (areas : Table (Table AreaUser)) → O
 areas-on {i} {p} areas o g =
     let r = o .layout in
     let l : Layout i (withAreas p areas) (freeSectors p) (held p) (entry p) =
-    record { size = r .size; kit = r .kit; map = r .map; sysIndex = r .sysIndex; mapIndex = r .mapIndex; files = r .files; catalog = r .catalog } in
+    record { size = r .size; kit = r .kit; map = r .map; sys = r .sys; mapIndex = r .mapIndex; files = r .files } in
     record {
       good = g;
       words = o .words;
@@ -77,20 +75,6 @@ areas-on {i} {p} areas o g =
     }
 
 -- ---- Create area
-
--- the unit with a new area
-pub opened-good : (p : Plain) (n : ℕ) (f : File) → Good p → tableFind n (p .files) ≡ some f → length (p .areas) < 8 → Good (withAreas p (tablePut n [] (p .areas)))
-opened-good p n f g found room =
-    area-put-good p n [] g (find-above n 0 f (p .files) (g .names) found)
-    (record {
-      file = f;
-      entered = found;
-      sorted = tt;
-      three = omega arith;
-      roles = record { oneWriter = omega arith; alone = λ q. omega arith };
-      each = λ k a e. absurd (some≢none (sym e));
-    })
-    (omega (arith, length-put n [] (p .areas)))
 
 module _ {state : State} {p : Plain} (r : SameAreas state p) (n j : ℕ) (f : File) (found : tableFind n (p .files) ≡ some f) where
   -- the lowest vacant descriptor is taken for a name that is not open

@@ -15,31 +15,31 @@ use Rattle.plain.specs.Questions.{replies, done, known}
 use Rattle.plain.specs.Areas.{isExclusive, other, released, stepReserve, stepRelease, stepPosition}
 use Rattle.plain.specs.Transput.{stepTransput}
 use Rattle.plain.specs.Step.{isKnown, reserveCount, userStep, operationStep, stepArea}
-use Rattle.steps.proofs.AskLaws.{asks-yes, asks-no, given-yes, given-no}
+use Rattle.plain.proofs.QuestionLaws.{true-yes, false-no, asks-yes, asks-no, given-none, given-some}
 
 -- ---- "open? 4800h; no other exclusive user? 0200h; sender not 0? 0810h; known operation? 0A00h"
 
 module _ (p : Plain) (name : Name) (sender : ℕ) (operation : Operation) (lent : List ℕ) where
   pub area-unknown : known p (unitIn name) ≡ false → stepArea p name sender operation lent ≡ replies p 0x0A00 lent
-  area-unknown k = asks-no _ _ _ k
+  area-unknown k = asks-no _ _ _ (false-no k)
 
   module _ (k : known p (unitIn name) ≡ true) where
     pub area-shut : tableFind (named name) (p .areas) ≡ none → stepArea p name sender operation lent ≡ replies p 0x4800 lent
-    area-shut e = asks-yes _ _ _ k ∙ given-no _ _ _ e
+    area-shut e = asks-yes _ _ _ (true-yes k) ∙ given-none _ _ _ e
 
     module _ {users : Table AreaUser} (e : tableFind (named name) (p .areas) ≡ some users) where
       pub area-reserved : other isExclusive sender users ≡ true → stepArea p name sender operation lent ≡ replies p 0x0200 lent
-      area-reserved x = asks-yes _ _ _ k ∙ given-yes _ _ _ users e ∙ asks-no _ _ _ (ap not x)
+      area-reserved x = asks-yes _ _ _ (true-yes k) ∙ given-some _ users _ _ e ∙ asks-no _ _ _ (false-no (ap not x))
 
       pub area-nobody : other isExclusive sender users ≡ false → eqb sender 0 ≡ true → stepArea p name sender operation lent ≡ replies p 0x0810 lent
-      area-nobody x z = asks-yes _ _ _ k ∙ given-yes _ _ _ users e ∙ asks-yes _ _ _ (ap not x) ∙ asks-no _ _ _ (ap not z)
+      area-nobody x z = asks-yes _ _ _ (true-yes k) ∙ given-some _ users _ _ e ∙ asks-yes _ _ _ (false-no x) ∙ asks-no _ _ _ (false-no (ap not z))
 
       pub area-strange : other isExclusive sender users ≡ false → eqb sender 0 ≡ false → isKnown operation ≡ false → stepArea p name sender operation lent ≡ replies p 0x0A00 lent
-      area-strange x z s = asks-yes _ _ _ k ∙ given-yes _ _ _ users e ∙ asks-yes _ _ _ (ap not x) ∙ asks-yes _ _ _ (ap not z) ∙ asks-no _ _ _ s
+      area-strange x z s = asks-yes _ _ _ (true-yes k) ∙ given-some _ users _ _ e ∙ asks-yes _ _ _ (false-no x) ∙ asks-yes _ _ _ (false-no z) ∙ asks-no _ _ _ (false-no s)
 
       pub area-asked : other isExclusive sender users ≡ false → eqb sender 0 ≡ false → isKnown operation ≡ true
           → stepArea p name sender operation lent ≡ operationStep p (named name) sender users operation (reserveCount operation) lent
-      area-asked x z s = asks-yes _ _ _ k ∙ given-yes _ _ _ users e ∙ asks-yes _ _ _ (ap not x) ∙ asks-yes _ _ _ (ap not z) ∙ asks-yes _ _ _ s
+      area-asked x z s = asks-yes _ _ _ (true-yes k) ∙ given-some _ users _ _ e ∙ asks-yes _ _ _ (false-no x) ∙ asks-yes _ _ _ (false-no z) ∙ asks-yes _ _ _ (true-yes s)
 
 -- ---- the operation
 
@@ -51,12 +51,12 @@ module _ (p : Plain) (n sender : ℕ) (users : Table AreaUser) (operation : Oper
   -- "Release and all else: sender a user? 0810h."
   pub operation-stranger : tableFind sender users ≡ none → operationStep p n sender users operation none lent ≡ replies p 0x0810 lent
   unfolding operationStep
-  operation-stranger w = given-no _ _ _ w
+  operation-stranger w = given-none _ _ _ w
 
   pub operation-user : (u : AreaUser) (f : File) → tableFind sender users ≡ some u → tableFind n (p .files) ≡ some f
       → operationStep p n sender users operation none lent ≡ userStep p n sender users u f operation lent
   unfolding operationStep
-  operation-user u f w h = given-yes _ _ _ u w ∙ given-yes _ _ _ f h
+  operation-user u f w h = given-some _ u _ _ w ∙ given-some _ f _ _ h
 
 module _ (p : Plain) (n sender : ℕ) (users : Table AreaUser) (u : AreaUser) (f : File) (lent : List ℕ) where
   pub user-release : (count : ℕ) → userStep p n sender users u f (Reserve count) lent ≡ done (withAreas p (tablePut n (released sender (u .opens) u users) (p .areas))) lent

@@ -3,7 +3,7 @@ use mathlib.Core.Path.{_≡_, refl, sym, ap, _∙_}
 use mathlib.Core.List.{List}
 use mathlib.Core.Logic.{_≢_}
 use mathlib.Core.Option.{Option, some}
-use Prim.Native.Nat.{ℕ, zero, suc, _*_, _<_}
+use Prim.Native.Nat.{ℕ, _*_, _<_}
 use native.Mathlib.Omega.{arith}
 use lib.ListN.{length}
 use Rattle.disc.specs.Slices.{occurrences}
@@ -11,56 +11,25 @@ use Rattle.disc.specs.Stretches.{sysFrom}
 use Rattle.disc.specs.Entries.{placeWord, placeCount, nameAt, indexSector}
 use Rattle.disc.proofs.Compare.{same-or}
 use Rattle.disc.proofs.EntryLaws.{length-entry}
+use Rattle.disc.proofs.TakenLaws.{free-same}
 use Rattle.words.proofs.StoreLaws.{words-store}
-use Rattle.plain.specs.Table.{Table, tableFind, tablePut, tableRemove, Every}
-use Rattle.plain.specs.Unit.{Plain, File, AreaUser, M, held, freeSectors, fileEntry, entry, withTables}
+use Rattle.plain.specs.Table.{Table, tableFind, tablePut, tableRemove}
+use Rattle.plain.specs.Unit.{Plain, File, sysOf, AreaUser, M, held, freeSectors, fileEntry, entry, withTables}
 use Rattle.plain.specs.Areas.{bookLive}
-use Rattle.plain.specs.Good.{Good, GoodFile, GoodArea}
-use Rattle.plain.proofs.TableLaws.{some-inj, find-put, find-put-other, find-remove-other, sorted-remove, remove-some, length-remove}
+use Rattle.plain.specs.Good.{Good}
+use Rattle.plain.proofs.TableLaws.{some-inj, find-put, find-put-other}
 use Rattle.plain.proofs.UnitLaws.{legal-positive}
-use Rattle.plain.proofs.KeepsAreas.{area-beside, file-put-good, occurrences-put}
+use Rattle.plain.proofs.KeepsAreas.{remove-area-good, occurrences-put}
 use Rattle.refine.specs.Represents.{FileOnImage, Layout}
 use Rattle.refine.specs.OnDisc.{OnDisc}
 use Rattle.refine.specs.Writes.{storePlace, bookedImage}
 use Rattle.refine.proofs.Ground.{ground, entry-named}
 use Rattle.refine.proofs.Writers.{relabel}
-use Rattle.steps.proofs.TakenLaws.{free-same}
 use Rattle.steps.proofs.WriteLaws.{words-file-entry, entry-beside, entry-of, write-own}
-
--- ---- the unit
-
-book-good : {s : ℕ} {old new : Table (Table AreaUser)} {n : ℕ} {f : File} → GoodFile s old n f → GoodFile s new n (bookLive f)
-book-good g = record {
-  name = g .name;
-  ordinary = g .ordinary;
-  attributes = g .attributes;
-  entryOnly = g .entryOnly;
-  optional = g .optional;
-  tail = g .tail;
-  sectors = g .sectors;
-  covered = g .covered;
-  few = g .few;
-  bookedLow = omega arith;
-  bookedSlicesLow = omega arith;
-  bookedCovered = g .covered;
-  closed = λ _. (refl, refl);
-}
 
 -- The unit in which the area of n is closed, and its file booked.
 abbrev pub bookedUnit : Plain → ℕ → File → Plain
 bookedUnit p n f = withTables p (p .layers) (p .sys) (tablePut n (bookLive f) (p .files)) (tableRemove n (p .areas))
-
-pub booked-good : (p : Plain) (n : ℕ) (f : File) → Good p → tableFind n (p .files) ≡ some f → Good (bookedUnit p n f)
-booked-good p n f g h =
-    file-put-good p n f (bookLive f) (tableRemove n (p .areas)) g h (book-good (g .files n f h)) (λ k. omega (arith, g .once k))
-    (λ k d. find-remove-other k n 0 (p .areas) (g .areaNames) d) (sorted-remove 0 n (p .areas) (g .areaNames))
-    (omega (arith, length-remove n (p .areas), g .eight)) areas
-  where
-    areas : Every (GoodArea (tablePut n (bookLive f) (p .files))) (tableRemove n (p .areas))
-    areas k users e =
-        let r = remove-some k n 0 (p .areas) users (g .areaNames) e in
-        let a = g .areas k users (r .1) in
-        area-beside a (a .file) (find-put-other k n (bookLive f) (p .files) (r .0) ∙ a .entered) (omega arith)
 
 -- ---- the same slices and sectors under another entry
 
@@ -72,12 +41,11 @@ refile {i} {p} n f f′ areas r found slices sectors = record {
   size = r .size;
   kit = r .kit;
   map = r .map;
-  sysIndex = r .sysIndex;
+  sys = record { index = r .sys .index; places = r .sys .places };
   mapIndex = r .mapIndex;
   files = λ m a e. same-or m n
       (λ q. let z : f′ ≡ a = some-inj (sym (find-put n f′ (p .files)) ∙ ap (λ (x : ℕ). tableFind x (tablePut n f′ (p .files))) (sym q) ∙ e) in rw (← z) own)
       (λ d. r .files m a (sym (find-put-other m n f′ (p .files) d) ∙ e));
-  catalog = r .catalog;
 }
   where
     own : FileOnImage i (p .F) (p .s) f′
@@ -91,7 +59,7 @@ module _ {i : List ℕ} {p : Plain} (o : OnDisc i p) (n : ℕ) (f : File) (found
   p′ = bookedUnit p n f
 
   good′ : Good p′
-  good′ = booked-good p n f (o .good) found
+  good′ = remove-area-good p n f (o .good) found
 
   here : tableFind n (p′ .files) ≡ some (bookLive f)
   here = find-put n (bookLive f) (p .files)
@@ -99,7 +67,7 @@ module _ {i : List ℕ} {p : Plain} (o : OnDisc i p) (n : ℕ) (f : File) (found
   abbrev e : List ℕ
   e = fileEntry (p .F) (p .s) n (bookLive f)
 
-  r₁ : Layout (storePlace p i t e) p (freeSectors p) (held p) (entry p′)
+  r₁ : Layout (storePlace p (sysOf p) i t e) p (freeSectors p) (held p) (entry p′)
   r₁ =
       let fg = o .good .files n f found in
       let nz : n ≢ 0 = λ z. (let q = legal-positive n (fg .name) in omega arith) in
@@ -112,7 +80,7 @@ module _ {i : List ℕ} {p : Plain} (o : OnDisc i p) (n : ℕ) (f : File) (found
   same-held : (k : ℕ) → occurrences k (held p′) ≡ occurrences k (held p)
   same-held k = omega (arith, occurrences-put p n f (bookLive f) k found)
 
-  pub book-on : OnDisc (bookedImage p i t n f) (bookedUnit p n f)
+  pub book-on : OnDisc (bookedImage p (sysOf p) i t n f) (bookedUnit p n f)
   unfolding bookedImage
   book-on = record {
     good = good′;

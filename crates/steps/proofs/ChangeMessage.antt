@@ -3,7 +3,7 @@
 use mathlib.Core.Path.{_≡_, sym, ap, _∙_, subst}
 use mathlib.Core.List.{List}
 use mathlib.Core.Logic.{_≢_, _⊎_}
-use mathlib.Core.Option.{none, some}
+use mathlib.Core.Option.{some}
 use Prim.Native.Nat.{ℕ, _/_, _%_, _<_}
 use lib.Dec.{T}
 use Rattle.types.specs.declared.State.{State}
@@ -11,20 +11,19 @@ use Rattle.disc.specs.Words.{Words}
 use Rattle.disc.specs.Names.{keyOf}
 use Rattle.disc.specs.Stretches.{sysFrom}
 use Rattle.disc.specs.Entries.{placeWord, placeCount, nameAt}
-use Rattle.disc.proofs.Compare.{same-or}
 use Rattle.plain.specs.Table.{tableFind, tablePut, tableRemove}
-use Rattle.plain.specs.Unit.{Plain, File, withFiles}
+use Rattle.plain.specs.Unit.{Plain, File, sysOf, withFiles}
 use Rattle.plain.specs.Questions.{Outcome}
 use Rattle.plain.specs.Catalog.{isRecord, changeFile}
 use Rattle.plain.specs.Good.{Good}
-use Rattle.plain.proofs.UnitLaws.{entry-none, no-area}
+use Rattle.plain.proofs.GrowUnit.{entry-grown}
+use Rattle.plain.proofs.ChangeUnit.{changeGrown, changedOn, changedUnit, ChangeAsked, change-outcome, change-shut, change-shutₘ, change-changes, changeLayers, kept-unit, moved-vacant, moved-fits}
 use Rattle.sound.specs.Places.{Unused}
 use Rattle.refine.specs.Represents.{SameAreas}
 use Rattle.refine.specs.OnDisc.{OnDisc}
 use Rattle.refine.specs.Writes.{changedImage, renamedImage}
 use Rattle.steps.proofs.ChangeStep.{change-on}
 use Rattle.steps.proofs.RenameStep.{rename-on}
-use Rattle.steps.proofs.ChangeUnit.{changeGrown, changedOn, changedUnit, ChangeAsked, change-outcome, change-shut, change-changes, entry-grown, changeLayers, kept-unit, moved-vacant, moved-fits}
 use Rattle.steps.proofs.ChangeAreas.{areas-grown, areas-changed}
 
 module _ (p : Plain) (n m size attributes : ℕ) (f : File) (lent : List ℕ) (g : Good p) (found : tableFind n (p .files) ≡ some f)
@@ -46,12 +45,12 @@ module _ (p : Plain) (n m size attributes : ℕ) (f : File) (lent : List ℕ) (g
   module _ (w : Words lent) (rec : T (isRecord lent)) where
     -- the name kept
     pub change-kept : m ≡ n → (i : List ℕ) → OnDisc i p → (t : ℕ) → t < placeCount (p .H) (p .layers) → nameAt (placeWord i (p .F) (p .s) (p .sys) sysFrom) t ≡ n
-        → OnDisc (changedImage p i t n f (on p)) unit
+        → OnDisc (changedImage p (sysOf p) i t n f (on p)) unit
     change-kept e i =
         subst
-        (λ (q : Plain). OnDisc i q → (t : ℕ) → t < placeCount (q .H) (q .layers) → nameAt (placeWord i (q .F) (q .s) (q .sys) sysFrom) t ≡ n → OnDisc (changedImage q i t n f (on q)) unit)
+        (λ (q : Plain). OnDisc i q → (t : ℕ) → t < placeCount (q .H) (q .layers) → nameAt (placeWord i (q .F) (q .s) (q .sys) sysFrom) t ≡ n → OnDisc (changedImage q (sysOf q) i t n f (on q)) unit)
         (kept-unit p n m size attributes f lent g e)
-        (λ o t in₀ was. subst (λ (q : Plain). OnDisc (changedImage grown i t n f (on grown)) q) (name-back ∙ unit-is)
+        (λ o t in₀ was. subst (λ (q : Plain). OnDisc (changedImage grown (sysOf grown) i t n f (on grown)) q) (name-back ∙ unit-is)
         (change-on o n found (change-shut p n m size attributes f lent g found asked) (change-changes p n m size attributes f lent g found asked w rec) t in₀ was))
       where
         name-back : withFiles grown (tablePut n (on grown) (tableRemove n (p .files))) ≡ changedUnit p n m size attributes f lent grown
@@ -61,14 +60,14 @@ module _ (p : Plain) (n m size attributes : ℕ) (f : File) (lent : List ℕ) (g
     pub change-moved : m ≢ n → (q : Plain) → changeGrown p n m size attributes f lent ≡ q → (i : List ℕ) → OnDisc i q
         → (t : ℕ) → t < placeCount (q .H) (q .layers) → nameAt (placeWord i (q .F) (q .s) (q .sys) sysFrom) t ≡ n
         → (u : ℕ) → u < placeCount (q .H) (q .layers) → u / 16 % q .H ≡ keyOf (q .H) m → (u ≡ t) ⊎ Unused (placeWord i (q .F) (q .s) (q .sys) sysFrom) u
-        → OnDisc (renamedImage q i t u m f (on q)) unit
+        → OnDisc (renamedImage q (sysOf q) i t u m f (on q)) unit
     change-moved d q e i =
         subst
         (λ (q : Plain). OnDisc i q → (t : ℕ) → t < placeCount (q .H) (q .layers) → nameAt (placeWord i (q .F) (q .s) (q .sys) sysFrom) t ≡ n
         → (u : ℕ) → u < placeCount (q .H) (q .layers) → u / 16 % q .H ≡ keyOf (q .H) m → (u ≡ t) ⊎ Unused (placeWord i (q .F) (q .s) (q .sys) sysFrom) u
-        → OnDisc (renamedImage q i t u m f (on q)) unit)
+        → OnDisc (renamedImage q (sysOf q) i t u m f (on q)) unit)
         e
-        (λ o t in₀ was u in₁ key free. subst (λ (x : Plain). OnDisc (renamedImage grown i t u m f (on grown)) x) unit-is
+        (λ o t in₀ was u in₁ key free. subst (λ (x : Plain). OnDisc (renamedImage grown (sysOf grown) i t u m f (on grown)) x) unit-is
         (rename-on o n m found (change-shut p n m size attributes f lent g found asked) (change-changes p n m size attributes f lent g found asked w rec) d (asked .legal)
         (entry-grown p (changeLayers p n m size attributes f lent) m (moved-vacant p n m size attributes f lent d asked)) (moved-fits p n m size attributes f lent g d)
         t in₀ was u in₁ key free))
@@ -78,10 +77,4 @@ module _ (p : Plain) (n m size attributes : ℕ) (f : File) (lent : List ℕ) (g
   change-areas {state} a =
       subst (SameAreas state) unit-is
       (areas-changed (areas-grown a (changeLayers p n m size attributes f lent) (grown .sys)) n m
-      (on grown) (g .names) shut shutₘ)
-    where
-      shut : tableFind n (p .areas) ≡ none
-      shut = change-shut p n m size attributes f lent g found asked
-
-      shutₘ : tableFind m (p .areas) ≡ none
-      shutₘ = same-or m n (λ e. rw e shut) (λ d. no-area p m g (entry-none p m (rw (moved-vacant p n m size attributes f lent d asked) tt) .0))
+      (on grown) (g .names) (change-shut p n m size attributes f lent g found asked) (change-shutₘ p n m size attributes f lent g found asked))

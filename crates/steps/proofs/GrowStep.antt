@@ -17,27 +17,20 @@ use Rattle.disc.proofs.SliceLaws.{occurrences-append}
 use Rattle.words.specs.Store.{store}
 use Rattle.words.proofs.StoreLaws.{words-store}
 use Rattle.map.specs.Marks.{allUsed}
-use Rattle.plain.specs.Unit.{Plain, held, freeSlices, freeSectors, entry}
+use Rattle.plain.specs.Unit.{Plain, sysOf, held, freeSlices, freeSectors, entry}
 use Rattle.plain.specs.Good.{Good}
-use Rattle.plain.proofs.UnitLaws.{occurrences-held, entry-sys, entry-map, entry-other, system-cases}
-use Rattle.plain.proofs.TakingLaws.{sys-count, sys-first, taking-once}
+use Rattle.plain.proofs.UnitLaws.{occurrences-held, entry-sys}
+use Rattle.plain.proofs.GrowUnit.{entry-but-sys, grown-good}
 use Rattle.sound.specs.Places.{Unused}
 use Rattle.refine.specs.Represents.{Layout}
 use Rattle.refine.specs.OnDisc.{OnDisc}
-use Rattle.refine.specs.Writes.{countedFree, storePlace, zeroedSectors, takenImage, grownImage}
+use Rattle.refine.specs.Writes.{countedFree, storePlace, zeroedSectors, takenImage, grownImage, grownSys}
 use Rattle.refine.proofs.Sectors.{Same, marked-outside-map, same-trans, holds-kept}
 use Rattle.refine.proofs.CatalogLaws.{name-cong}
-use Rattle.refine.proofs.Ground.{Ground, ground, entry-named, sys-in, sys-data, part-sys, place-in}
+use Rattle.refine.proofs.Ground.{Ground, ground, entry-named, joined-in, sys-ground, catalog-data, place-in}
 use Rattle.refine.proofs.Writers.{place-off, place-same, long, write-used, write-layer, layer-old, layer-new, grown-sector}
 use Rattle.steps.proofs.WriteLaws.{counted-on, counted-keep, zeroed-size, zeroed-keep, zeroed-zero, words-zeroed, taken-size, taken-keep, taken-index, words-taken, part-in-map, words-index-part, words-marks, words-sys-entry, write-own}
 use Rattle.steps.specs.Units.{layerSlices, grownUnit}
-
--- SYS's entry alone is another
-pub entry-but-sys : (p : Plain) (m : ℕ) → m ≢ SYS → entry (grownUnit p) m ≡ entry p m
-entry-but-sys p m d = system-cases m
-    (λ q. absurd (d q))
-    (λ q. ap (entry (grownUnit p)) q ∙ entry-map (grownUnit p) ∙ sym (entry-map p) ∙ ap (entry p) (sym q))
-    (λ a b. entry-other (grownUnit p) m a b ∙ sym (entry-other p m a b))
 
 module _ {i : List ℕ} {p : Plain} (o : OnDisc i p) (room : ceilDiv (p .H * suc (p .layers)) (p .s) - length (p .sys) ≤ freeSlices p)
     (few : stretchCount (p .sys ++ layerSlices p) ≤ 127) where
@@ -53,27 +46,11 @@ module _ {i : List ℕ} {p : Plain} (o : OnDisc i p) (room : ceilDiv (p .H * suc
   gr : Ground p
   gr = ground p (o .good)
 
-  pub grown-good : Good (grownUnit p)
-  grown-good =
-      let g = o .good in
-      let up : p .layers ≤ suc (p .layers) = omega arith in
-      record {
-        limits = g .limits;
-        layered = omega arith;
-        sysCount = sys-count p (suc (p .layers)) g up;
-        sysFirst = sys-first p (suc (p .layers)) g up;
-        sysFew = few;
-        names = g .names;
-        chains = λ k. omega (arith, g .chains k);
-        files = g .files;
-        once = taking-once p (suc (p .layers)) g up 0 0 (p .files) (omega arith) (λ k. omega arith);
-        areaNames = g .areaNames;
-        eight = g .eight;
-        areas = g .areas;
-      }
+  good′ : Good (grownUnit p)
+  good′ = grown-good p (suc (p .layers)) (o .good) room (omega arith) few
 
   gr′ : Ground grown
-  gr′ = ground grown grown-good
+  gr′ = ground grown good′
 
   more : (k : ℕ) → occurrences k (held grown) ≡ occurrences k new + occurrences k (held p)
   more k = omega (arith, occurrences-held k (p .sys) (p .files), occurrences-held k all (p .files), occurrences-append k (p .sys) new)
@@ -86,7 +63,7 @@ module _ {i : List ℕ} {p : Plain} (o : OnDisc i p) (room : ceilDiv (p .H * suc
   i₁ = allUsed i new
 
   r₁ : Layout i₁ p (freeSectors p) (held grown) (entry p)
-  r₁ = write-used gr (o .layout) new (held grown) (grown-good .once) more
+  r₁ = write-used gr (o .layout) new (held grown) (good′ .once) more
 
   -- the index, and the zeroed layer
   abbrev i₂ : List ℕ
@@ -102,7 +79,7 @@ module _ {i : List ℕ} {p : Plain} (o : OnDisc i p) (room : ceilDiv (p .H * suc
   size₃ = zeroed-size i₂ (p .F) (p .s) all (p .H * p .layers + sysFrom) (p .H) ∙ size₂
 
   data₃ : (x : ℕ) → x < p .H * suc (p .layers) → (10 ≤ sectorIn (p .F) (p .s) all x) × (sectorIn (p .F) (p .s) all x < p .N)
-  data₃ x hi = sys-data grown gr′ x (sys-in grown gr′ x hi)
+  data₃ x hi = catalog-data (sys-ground gr′) x (joined-in (sys-ground gr′) x (omega (arith, hi)))
 
   zeroed-off : (q : ℕ) → ((b : ℕ) → p .H * p .layers ≤ b → b < p .H * suc (p .layers) → q ≢ sectorIn (p .F) (p .s) all b) → Same i₂ i₃ q
   zeroed-off q off = zeroed-keep i₂ (p .F) (p .s) all (p .H * p .layers + sysFrom) (p .H) q (λ x lo hi. off x (omega arith) (omega arith))
@@ -112,7 +89,7 @@ module _ {i : List ℕ} {p : Plain} (o : OnDisc i p) (room : ceilDiv (p .H * suc
 
   six₃ : Holds i₃ 6 (indexWords (p .F) (p .s) all)
   six₃ =
-      holds-kept (taken-index i sysIndexSector (p .F) (p .s) (p .sys) new few (omega (arith, long gr r₁)) (r₁ .sysIndex))
+      holds-kept (taken-index i sysIndexSector (p .F) (p .s) (p .sys) new few (omega (arith, long gr r₁)) (r₁ .sys .index))
       (zeroed-off 6 (λ b lo hi e. let d = data₃ b hi in omega (arith, d .0)))
 
   zero₃ : (b w : ℕ) → p .H * p .layers ≤ b → b < p .H * suc (p .layers) → w < 256 → word i₃ (sectorIn (p .F) (p .s) all b) w ≡ 0
@@ -126,12 +103,12 @@ module _ {i : List ℕ} {p : Plain} (o : OnDisc i p) (room : ceilDiv (p .H * suc
   words₃ =
       words-zeroed i₂ (p .F) (p .s) all (p .H * p .layers + sysFrom) (p .H)
       (words-taken i sysIndexSector (p .F) (p .s) (p .sys) new (words-marks grown gr′ 0 (omega arith) new i part (long gr (o .layout)) (o .words))
-      (words-index-part grown gr′ all (part-sys grown gr′)))
+      (words-index-part grown gr′ all (sys-ground gr′ .part)))
 
   -- the old places keep their words
   old₁ : (u w : ℕ) → u < placeCount (p .H) (p .layers) → w < 16 → placeWord i₁ (p .F) (p .s) (p .sys) sysFrom u w ≡ placeWord i (p .F) (p .s) (p .sys) sysFrom u w
-  old₁ = place-same p gr i i₁ (λ q x.
-      marked-outside-map 0 i new (omega arith) (part-in-map grown gr′ new part) (long gr (o .layout)) .same _ (let d = sys-data p gr q x in omega (arith, d .0), tt))
+  old₁ = place-same (sys-ground gr) i i₁ (λ q x.
+      marked-outside-map 0 i new (omega arith) (part-in-map grown gr′ new part) (long gr (o .layout)) .same _ (let d = catalog-data (sys-ground gr) q x in omega (arith, d .0), tt))
 
   old₃ : (u w : ℕ) → u < placeCount (p .H) (p .layers) → w < 16 → placeWord i₃ (p .F) (p .s) all sysFrom u w ≡ placeWord i (p .F) (p .s) (p .sys) sysFrom u w
   old₃ u w x y = layer-old gr r₁ new gr′ i₃ size₃ keep₃ six₃ zero₃ u w x y ∙ old₁ u w x y
@@ -141,41 +118,41 @@ module _ {i : List ℕ} {p : Plain} (o : OnDisc i p) (room : ceilDiv (p .H * suc
     e = sysEntry (p .H) (p .s) (suc (p .layers)) all
 
     abbrev i₄ : List ℕ
-    i₄ = storePlace p i₃ t e
+    i₄ = storePlace p (sysOf p) i₃ t e
 
     was₃ : nameAt (placeWord i₃ (p .F) (p .s) all sysFrom) t ≡ SYS
     was₃ = name-cong (placeWord i (p .F) (p .s) (p .sys) sysFrom) (placeWord i₃ (p .F) (p .s) all sysFrom) t (λ w x. old₃ t w in₀ x) ∙ was
 
     -- SYS's entry stands in an old place
-    same-place : storePlace grown i₃ t e ≡ i₄
-    same-place = ap (λ (q : ℕ). store i₃ (q * 256 + t % 16 * 16) e) (grown-sector gr (o .layout) new (t / 16 + sysFrom) (place-in p gr t in₀))
+    same-place : storePlace grown (sysOf grown) i₃ t e ≡ i₄
+    same-place = ap (λ (q : ℕ). store i₃ (q * 256 + t % 16 * 16) e) (grown-sector gr (o .layout) new (t / 16 + sysFrom) (place-in (sys-ground gr) t in₀))
 
     r₄ : Layout i₄ grown (freeSectors p) (held grown) (entry grown)
     r₄ =
         rw same-place at
-        (write-own gr′ r₃ (entry-named p (o .good .names)) (entry grown) SYS e refl (entry-but-sys p) (entry-sys grown) refl (omega arith) t (omega arith) was₃)
+        (write-own gr′ r₃ (entry-named p (o .good .names)) (entry grown) SYS e refl (entry-but-sys p (suc (p .layers))) (entry-sys grown) refl (omega arith) t (omega arith) was₃)
 
     words₄ : Words i₄
-    words₄ = words-store i₃ _ e words₃ (words-sys-entry grown grown-good)
+    words₄ = words-store i₃ _ e words₃ (words-sys-entry grown good′)
 
-    pub grow-on : OnDisc (grownImage p i t (layerSlices p)) (grownUnit p)
+    pub grow-on : OnDisc (grownSys p i t (layerSlices p)) (grownUnit p)
     unfolding grownImage
-    grow-on = counted-on grown-good words₄ r₄
+    grow-on = counted-on good′ words₄ r₄
 
     -- ---- the places afterwards: the old ones but SYS's keep their words, those of the new layer are unused
 
     -- after the entry and the free word
     late : (u w : ℕ) → u < placeCount (p .H) (suc (p .layers)) → u ≢ t → w < 16
-        → placeWord (grownImage p i t (layerSlices p)) (p .F) (p .s) all sysFrom u w ≡ placeWord i₃ (p .F) (p .s) all sysFrom u w
+        → placeWord (grownSys p i t (layerSlices p)) (p .F) (p .s) all sysFrom u w ≡ placeWord i₃ (p .F) (p .s) all sysFrom u w
     unfolding grownImage
     late u w x d y =
-        place-same grown gr′ i₄ (countedFree i₄ (p .s)) (λ q z. counted-keep i₄ (p .s) _ (let b = sys-data grown gr′ q z in omega (arith, b .0))) u w x y
-        ∙ ap (λ (j : List ℕ). placeWord j (p .F) (p .s) all sysFrom u w) (sym same-place) ∙ place-off grown gr′ i₃ (r₃ .size) t (omega arith) e refl u w x d y
+        place-same (sys-ground gr′) i₄ (countedFree i₄ (p .s)) (λ q z. counted-keep i₄ (p .s) _ (let b = catalog-data (sys-ground gr′) q z in omega (arith, b .0))) u w x y
+        ∙ ap (λ (j : List ℕ). placeWord j (p .F) (p .s) all sysFrom u w) (sym same-place) ∙ place-off (sys-ground gr′) i₃ (r₃ .size) t (omega arith) e refl u w x d y
 
     pub grow-old : (u w : ℕ) → u < placeCount (p .H) (p .layers) → u ≢ t → w < 16
-        → placeWord (grownImage p i t (layerSlices p)) (p .F) (p .s) (p .sys ++ layerSlices p) sysFrom u w ≡ placeWord i (p .F) (p .s) (p .sys) sysFrom u w
+        → placeWord (grownSys p i t (layerSlices p)) (p .F) (p .s) (p .sys ++ layerSlices p) sysFrom u w ≡ placeWord i (p .F) (p .s) (p .sys) sysFrom u w
     grow-old u w x d y = late u w (omega arith) d y ∙ old₃ u w x y
 
     pub grow-unused : (u : ℕ) → placeCount (p .H) (p .layers) ≤ u → u < placeCount (p .H) (suc (p .layers))
-        → Unused (placeWord (grownImage p i t (layerSlices p)) (p .F) (p .s) (p .sys ++ layerSlices p) sysFrom) u
+        → Unused (placeWord (grownSys p i t (layerSlices p)) (p .F) (p .s) (p .sys ++ layerSlices p) sysFrom) u
     grow-unused u lo hi = record { zero = λ w y. late u w hi (omega arith) y ∙ layer-new gr r₁ new gr′ i₃ size₃ keep₃ six₃ zero₃ u lo hi .zero w y }

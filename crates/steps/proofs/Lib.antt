@@ -1,9 +1,7 @@
 pub mod Whole
-pub mod TakenLaws
 pub mod WriteLaws
 pub mod RemoveStep
 pub mod GrowStep
-pub mod PlaceLaws
 pub mod CreateStep
 pub mod NewFileStep
 pub mod BookStep
@@ -11,12 +9,10 @@ pub mod AreaSteps
 pub mod ResizeLaws
 pub mod ChangeStep
 pub mod RenameStep
-pub mod ChangeUnit
 pub mod ChangeAreas
 pub mod ChangeMessage
 pub mod OutputStep
 pub mod AreaMessages
-pub mod AskLaws
 pub mod OutputUnit
 pub mod OutputMessage
 pub mod AreaUnit

@@ -13,7 +13,7 @@ use Rattle.plain.specs.Unit.{Plain, File, AreaUser, freeSlices}
 use Rattle.plain.specs.Questions.{Outcome, replies, done, either, fill}
 use Rattle.plain.specs.Areas.{isWriter, other, moved, positioned, stepPosition}
 use Rattle.plain.specs.Transput.{isOutput, isRandom, refusedAt, transferred, rewritten, withFile, endWord, input, output, append, slicesToTake, stepTransput}
-use Rattle.steps.proofs.AskLaws.{asks-yes, asks-no, either-yes, either-no}
+use Rattle.plain.proofs.QuestionLaws.{true-yes, false-no, asks-yes, asks-no, either-yes, either-no}
 use Rattle.steps.specs.Units.{appendSlices}
 
 -- ---- Position first
@@ -21,15 +21,15 @@ use Rattle.steps.specs.Units.{appendSlices}
 module _ (move : ℕ → Plain) (block len : ℕ) (refusal : Plain → ℕ → ℕ → Outcome) (next : Plain → ℕ → Outcome) where
   pub positioned-negative : negative block ≡ true → positioned move block len refusal next ≡ refusal (move 0) 0x0A00 0
   unfolding positioned
-  positioned-negative e = asks-no _ _ _ (ap not e)
+  positioned-negative e = asks-no _ _ _ (false-no (ap not e))
 
   pub positioned-past : negative block ≡ false → leb block len ≡ false → positioned move block len refusal next ≡ refusal (move len) 0x0810 len
   unfolding positioned
-  positioned-past e l = asks-yes _ _ _ (ap not e) ∙ asks-no _ _ _ l
+  positioned-past e l = asks-yes _ _ _ (false-no e) ∙ asks-no _ _ _ (false-no l)
 
   pub positioned-done : negative block ≡ false → leb block len ≡ true → positioned move block len refusal next ≡ next (move block) block
   unfolding positioned
-  positioned-done e l = asks-yes _ _ _ (ap not e) ∙ asks-yes _ _ _ l
+  positioned-done e l = asks-yes _ _ _ (false-no e) ∙ asks-yes _ _ _ (true-yes l)
 
 -- ---- the questions of transput
 
@@ -95,42 +95,42 @@ module _ (p : Plain) (n sender : ℕ) (users : Table AreaUser) (u : AreaUser) (f
       -- Input
       pub input-past : isOutput operation ≡ false → ltb k (length (f .sectors)) ≡ false → transputAt q k ≡ refusedAt q (endWord (f .attributes)) k lent
       unfolding input
-      input-past out l = either-no _ _ _ out ∙ asks-no _ _ _ l
+      input-past out l = either-no _ _ _ (false-no out) ∙ asks-no _ _ _ (false-no l)
 
       pub input-done : isOutput operation ≡ false → ltb k (length (f .sectors)) ≡ true
           → transputAt q k ≡ transferred (moved p n sender users u (suc k)) k (fill (getD (f .sectors) k []) lent)
       unfolding input
-      input-done out l = either-no _ _ _ out ∙ asks-yes _ _ _ l
+      input-done out l = either-no _ _ _ (false-no out) ∙ asks-yes _ _ _ (true-yes l)
 
       -- Output below the live length
       pub replace-done : isOutput operation ≡ true → ltb k (length (f .sectors)) ≡ true
           → transputAt q k ≡ transferred (withFile n (rewritten f (f .slices) (set (f .sectors) k (take 256 lent))) (moved p n sender users u (suc k))) k lent
       unfolding output
-      replace-done out l = either-yes _ _ _ out ∙ either-yes _ _ _ l
+      replace-done out l = either-yes _ _ _ (true-yes out) ∙ either-yes _ _ _ (true-yes l)
 
       -- Output at the live length
       module _ (out : isOutput operation ≡ true) (l : ltb k (length (f .sectors)) ≡ false) where
         appends : transputAt q k ≡ append p q (moved p n sender users u) n f k lent
         unfolding output
-        appends = either-yes _ _ _ out ∙ either-no _ _ _ l
+        appends = either-yes _ _ _ (true-yes out) ∙ either-no _ _ _ (false-no l)
 
         pub append-fixed : extendable (f .attributes) ≡ false → transputAt q k ≡ refusedAt q 0x0A00 k lent
         unfolding append
-        append-fixed e = appends ∙ asks-no _ _ _ e
+        append-fixed e = appends ∙ asks-no _ _ _ (false-no e)
 
         pub append-full : extendable (f .attributes) ≡ true → leb (slicesToTake (p .s) f) (freeSlices p) ≡ false → transputAt q k ≡ refusedAt q 0x0900 k lent
         unfolding append
-        append-full e r = appends ∙ asks-yes _ _ _ e ∙ asks-no _ _ _ r
+        append-full e r = appends ∙ asks-yes _ _ _ (true-yes e) ∙ asks-no _ _ _ (false-no r)
 
         pub append-many : extendable (f .attributes) ≡ true → leb (slicesToTake (p .s) f) (freeSlices p) ≡ true
             → (eqb (slicesToTake (p .s) f) 0 || leb (stretchCount (f .slices ++ appendSlices p f)) 127) ≡ false → transputAt q k ≡ refusedAt q 0x0808 k lent
         unfolding append
-        append-many e r m = appends ∙ asks-yes _ _ _ e ∙ asks-yes _ _ _ r ∙ asks-no _ _ _ m
+        append-many e r m = appends ∙ asks-yes _ _ _ (true-yes e) ∙ asks-yes _ _ _ (true-yes r) ∙ asks-no _ _ _ (false-no m)
 
         pub append-done : Appends p f
             → transputAt q k ≡ transferred (withFile n (rewritten f (f .slices ++ appendSlices p f) (f .sectors ++ (take 256 lent ∷ []))) (moved p n sender users u (suc k))) k lent
         unfolding append
-        append-done a = appends ∙ asks-yes _ _ _ (a .extends) ∙ asks-yes _ _ _ (a .free) ∙ asks-yes _ _ _ (a .few)
+        append-done a = appends ∙ asks-yes _ _ _ (true-yes (a .extends)) ∙ asks-yes _ _ _ (true-yes (a .free)) ∙ asks-yes _ _ _ (true-yes (a .few))
 
   -- ---- transput before it reads or writes
 
@@ -138,11 +138,11 @@ module _ (p : Plain) (n sender : ℕ) (users : Table AreaUser) (u : AreaUser) (f
     -- either no is the same refusal
     pub transput-bytes : eqb bytes 512 ≡ false → stepTransput p n sender users u f operation bytes block lent ≡ refusedAt p 0x0880 (u .position) lent
     unfolding stepTransput
-    transput-bytes e = asks-no _ _ _ e
+    transput-bytes e = asks-no _ _ _ (false-no e)
 
     transput-few : eqb bytes 512 ≡ true → leb 256 (length lent) ≡ false → stepTransput p n sender users u f operation bytes block lent ≡ refusedAt p 0x0880 (u .position) lent
     unfolding stepTransput
-    transput-few e l = asks-yes _ _ _ e ∙ asks-no _ _ _ l
+    transput-few e l = asks-yes _ _ _ (true-yes e) ∙ asks-no _ _ _ (false-no l)
 
     pub transput-short : leb 256 (length lent) ≡ false → stepTransput p n sender users u f operation bytes block lent ≡ refusedAt p 0x0880 (u .position) lent
     transput-short l = go (eqb bytes 512) refl
@@ -154,27 +154,27 @@ module _ (p : Plain) (n sender : ℕ) (users : Table AreaUser) (u : AreaUser) (f
     pub transput-writer : eqb bytes 512 ≡ true → leb 256 (length lent) ≡ true → isOutput operation ≡ true → other isWriter sender users ≡ true
         → stepTransput p n sender users u f operation bytes block lent ≡ refusedAt p 0x0A00 (u .position) lent
     unfolding stepTransput
-    transput-writer e l out w = asks-yes _ _ _ e ∙ asks-yes _ _ _ l ∙ asks-no _ _ _ (ap₂ (λ (a b : Bool). not (a && b)) out w)
+    transput-writer e l out w = asks-yes _ _ _ (true-yes e) ∙ asks-yes _ _ _ (true-yes l) ∙ asks-no _ _ _ (false-no (ap₂ (λ (a b : Bool). not (a && b)) out w))
 
     pub transput-protected : eqb bytes 512 ≡ true → leb 256 (length lent) ≡ true → isOutput operation ≡ true → other isWriter sender users ≡ false → writeProtected (f .attributes) ≡ true
         → stepTransput p n sender users u f operation bytes block lent ≡ refusedAt p 0x0C00 (u .position) lent
     unfolding stepTransput
     transput-protected e l out w t =
-        asks-yes _ _ _ e ∙ asks-yes _ _ _ l ∙ asks-yes _ _ _ (ap₂ (λ (a b : Bool). not (a && b)) out w) ∙ asks-no _ _ _ (ap₂ (λ (a b : Bool). not (a && b)) out t)
+        asks-yes _ _ _ (true-yes e) ∙ asks-yes _ _ _ (true-yes l) ∙ asks-yes _ _ _ (false-no (ap₂ (λ (a b : Bool). a && b) out w)) ∙ asks-no _ _ _ (false-no (ap₂ (λ (a b : Bool). not (a && b)) out t))
 
     module _ (a : Allowed sender users f operation bytes lent) where
       -- where the sender stands
       pub transput-here : isRandom operation ≡ false → stepTransput p n sender users u f operation bytes block lent ≡ transputAt operation lent p (u .position)
       unfolding stepTransput
       transput-here r =
-          asks-yes _ _ _ (a .sized) ∙ asks-yes _ _ _ (a .long) ∙ asks-yes _ _ _ (ap not (a .writer)) ∙ asks-yes _ _ _ (ap not (a .unprotected)) ∙ either-no _ _ _ r
+          asks-yes _ _ _ (true-yes (a .sized)) ∙ asks-yes _ _ _ (true-yes (a .long)) ∙ asks-yes _ _ _ (false-no (a .writer)) ∙ asks-yes _ _ _ (false-no (a .unprotected)) ∙ either-no _ _ _ (false-no r)
 
       -- 5 and 7 do Position first
       random : isRandom operation ≡ true → stepTransput p n sender users u f operation bytes block lent
           ≡ positioned (moved p n sender users u) block (length (f .sectors)) (λ q word k. refusedAt q word k lent) (transputAt operation lent)
       unfolding stepTransput
       random r =
-          asks-yes _ _ _ (a .sized) ∙ asks-yes _ _ _ (a .long) ∙ asks-yes _ _ _ (ap not (a .writer)) ∙ asks-yes _ _ _ (ap not (a .unprotected)) ∙ either-yes _ _ _ r
+          asks-yes _ _ _ (true-yes (a .sized)) ∙ asks-yes _ _ _ (true-yes (a .long)) ∙ asks-yes _ _ _ (false-no (a .writer)) ∙ asks-yes _ _ _ (false-no (a .unprotected)) ∙ either-yes _ _ _ (true-yes r)
 
       pub transput-negative : isRandom operation ≡ true → negative block ≡ true
           → stepTransput p n sender users u f operation bytes block lent ≡ refusedAt (moved p n sender users u 0) 0x0A00 0 lent

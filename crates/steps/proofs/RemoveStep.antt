@@ -1,5 +1,5 @@
 -- Remove: the place of the name is emptied, its slices are marked free, the free word is counted.
-use mathlib.Core.Path.{_≡_, sym, ap, _∙_}
+use mathlib.Core.Path.{_≡_, ap, _∙_}
 use mathlib.Core.List.{List}
 use mathlib.Core.Logic.{_≢_}
 use mathlib.Core.Option.{none, some}
@@ -13,38 +13,17 @@ use Rattle.words.specs.Store.{zeroWords}
 use Rattle.words.proofs.StoreLaws.{words-store, words-zeroWords}
 use Rattle.map.specs.Marks.{allFree}
 use Rattle.plain.specs.Table.{tableFind, tableRemove}
-use Rattle.plain.specs.Unit.{Plain, File, held, freeSectors, entry, withFiles, fileEntry}
+use Rattle.plain.specs.Unit.{Plain, File, sysOf, held, freeSectors, entry, withFiles, fileEntry}
 use Rattle.plain.specs.Good.{Good}
-use Rattle.plain.proofs.TableLaws.{some≢none, weightAt, find-remove, find-remove-other, sorted-remove, total-remove, remove-some}
+use Rattle.plain.proofs.TableLaws.{weightAt, find-remove, find-remove-other, total-remove}
 use Rattle.plain.proofs.UnitLaws.{legal-positive, holds, occurrences-held, entry-other, not-system, mapSome}
-use Rattle.plain.proofs.TakingLaws.{places-remove}
-use Rattle.plain.proofs.KeepsAreas.{area-beside}
+use Rattle.plain.proofs.KeepsCatalog.{removed-good}
 use Rattle.refine.specs.Represents.{Layout}
 use Rattle.refine.specs.OnDisc.{OnDisc}
 use Rattle.refine.specs.Writes.{emptyPlace, removedImage}
 use Rattle.refine.proofs.Ground.{Ground, ground, entry-named, part-file}
 use Rattle.refine.proofs.Writers.{long, write-zero, write-freed, forget-file}
 use Rattle.steps.proofs.WriteLaws.{counted-on, words-marks, entry-beside}
-
-pub removed-good : (p : Plain) (n : ℕ) → Good p → tableFind n (p .areas) ≡ none → Good (withFiles p (tableRemove n (p .files)))
-removed-good p n g e = record {
-  limits = g .limits;
-  layered = g .layered;
-  sysCount = g .sysCount;
-  sysFirst = g .sysFirst;
-  sysFew = g .sysFew;
-  names = sorted-remove 0 n (p .files) (g .names);
-  chains = λ k. omega (arith, g .chains k, places-remove (p .H) k n (p .files));
-  files = λ k f h. g .files k f (remove-some k n 0 (p .files) f (g .names) h .1);
-  once = λ k.
-      omega (arith, g .once k, occurrences-held k (p .sys) (p .files), occurrences-held k (p .sys) (tableRemove n (p .files)), total-remove (holds k) n (p .files));
-  areaNames = g .areaNames;
-  eight = g .eight;
-  areas = λ k users h.
-      let d : k ≢ n = λ q. (let h₂ : tableFind n (p .areas) ≡ some users = rw q at h in some≢none (sym h₂ ∙ e)) in
-      let a = g .areas k users h in
-      area-beside a (a .file) (find-remove-other k n 0 (p .files) (g .names) d ∙ a .entered) (omega arith);
-}
 
 module _ {i : List ℕ} {p : Plain} (o : OnDisc i p) (n : ℕ) (f : File) (found : tableFind n (p .files) ≡ some f) (shut : tableFind n (p .areas) ≡ none)
     (t : ℕ) (in₀ : t < placeCount (p .H) (p .layers)) (was : nameAt (placeWord i (p .F) (p .s) (p .sys) sysFrom) t ≡ n) where
@@ -76,19 +55,19 @@ module _ {i : List ℕ} {p : Plain} (o : OnDisc i p) (n : ℕ) (f : File) (found
       )
 
   -- the place emptied, and the slices given back
-  emptied : Layout (emptyPlace p i t) p (freeSectors p) (held p) (entry left)
+  emptied : Layout (emptyPlace p (sysOf p) i t) p (freeSectors p) (held p) (entry left)
   emptied =
       let nz : n ≢ 0 = λ e. (let q = legal-positive n (o .good .files n f found .name) in omega arith) in
       write-zero gr (o .layout) t in₀ (entry left) n (entry-named p (o .good .names)) stay gone was nz
 
-  pub freed-layout : Layout (allFree (emptyPlace p i t) (f .slices)) p (freeSectors p) (held left) (entry left)
+  pub freed-layout : Layout (allFree (emptyPlace p (sysOf p) i t) (f .slices)) p (freeSectors p) (held left) (entry left)
   freed-layout = write-freed gr emptied (f .slices) (held left) (o .good .once) given
 
-  pub freed-words : Words (allFree (emptyPlace p i t) (f .slices))
+  pub freed-words : Words (allFree (emptyPlace p (sysOf p) i t) (f .slices))
   freed-words =
-      let w : Words (emptyPlace p i t) = words-store i _ (zeroWords 16) (o .words) (words-zeroWords 16) in
-      words-marks p gr 1 (omega arith) (f .slices) (emptyPlace p i t) (part-file p gr n f found) (long gr emptied) w
+      let w : Words (emptyPlace p (sysOf p) i t) = words-store i _ (zeroWords 16) (o .words) (words-zeroWords 16) in
+      words-marks p gr 1 (omega arith) (f .slices) (emptyPlace p (sysOf p) i t) (part-file p gr n f found) (long gr emptied) w
 
-  pub remove-on : OnDisc (removedImage p i t f) (withFiles p (tableRemove n (p .files)))
+  pub remove-on : OnDisc (removedImage p (sysOf p) i t f) (withFiles p (tableRemove n (p .files)))
   unfolding removedImage
   remove-on = counted-on good freed-words (forget-file gr freed-layout n)

@@ -1,46 +1,41 @@
 -- Change with another name: as with the name kept, but the entry's place is emptied, and the entry under the new name stands in a
 -- place of the new key.
 use mathlib.Core.Path.{_≡_, ap, _∙_}
-use mathlib.Core.Bool.{not}
 use mathlib.Core.List.{List}
 use mathlib.Core.Logic.{_≢_, _⊎_, ⊎-elim}
 use mathlib.Core.Option.{none, some}
 use Prim.Native.Nat.{ℕ, _*_, _/_, _%_, _<_}
 use native.Mathlib.Omega.{arith}
 use lib.Dec.{T}
-use borrow.Author.Tests.{lt-leb, ne-eqb}
 use Rattle.disc.specs.Words.{Words}
-use Rattle.disc.specs.Names.{SYS, MAP, legalName, isSystem, keyOf}
+use Rattle.disc.specs.Names.{legalName, keyOf}
 use Rattle.disc.specs.Stretches.{sysFrom}
 use Rattle.disc.specs.Entries.{placeWord, placeCount, nameAt}
 use Rattle.disc.proofs.Compare.{same-or}
 use Rattle.words.specs.Store.{zeroWords}
 use Rattle.words.proofs.StoreLaws.{length-zeroWords, getD-zeroWords, words-store, words-zeroWords}
 use Rattle.plain.specs.Table.{Table, tableFind, tablePut, tableRemove}
-use Rattle.plain.specs.Unit.{Plain, File, held, freeSectors, entry, withFiles, fileEntry}
-use Rattle.plain.specs.Taking.{placesTaken, layersFor}
+use Rattle.plain.specs.Unit.{Plain, File, held, freeSectors, entry, withFiles, fileEntry, sysOf}
+use Rattle.plain.specs.Taking.{placesTaken}
 use Rattle.plain.specs.Good.{Good}
 use Rattle.plain.proofs.TableLaws.{find-put, find-put-other, find-remove, find-remove-other, sorted-remove}
-use Rattle.plain.proofs.UnitLaws.{legal-positive, entry-none, entry-other, not-system, no-area, mapSome}
+use Rattle.plain.proofs.UnitLaws.{legal-positive, vacant-name, entry-other, not-system, no-area, mapSome}
 use Rattle.plain.proofs.TakingLaws.{chains-put, places-remove}
+use Rattle.plain.proofs.ChangeUnit.{Changes, changed-good}
 use Rattle.sound.specs.Places.{Unused}
 use Rattle.refine.specs.Represents.{Layout}
 use Rattle.refine.specs.OnDisc.{OnDisc}
 use Rattle.refine.specs.Writes.{emptyPlace, resizedImage, renamedImage}
 use Rattle.refine.proofs.CatalogLaws.{name-cong, name-zero, absent}
-use Rattle.refine.proofs.Ground.{Ground, ground, entry-named}
+use Rattle.refine.proofs.Ground.{Ground, ground, entry-named, sys-ground}
 use Rattle.refine.proofs.Writers.{place-here, place-off, write-zero, write-entry}
 use Rattle.steps.proofs.WriteLaws.{counted-on, words-file-entry, entry-beside, entry-of}
 use Rattle.steps.proofs.ResizeLaws.{words-resized, write-resized, resized-places}
-use Rattle.steps.proofs.ChangeStep.{Changes, changes-resizes, changes-entry, changed-good}
-
--- a name with no entry is no file, and none of SYS and MAP
-vacant-name : (p : Plain) (m : ℕ) → entry p m ≡ none → (tableFind m (p .files) ≡ none) × T (not (isSystem m))
-vacant-name p m e = let v = entry-none p m (rw e tt) in (v .0, rw (ne-eqb m SYS (v .1), ne-eqb m MAP (v .2)) tt)
+use Rattle.steps.proofs.ChangeStep.{changes-resizes, changes-entry}
 
 module _ {i : List ℕ} {p : Plain} {f f′ : File} {size count : ℕ} (o : OnDisc i p) (n m : ℕ) (found : tableFind n (p .files) ≡ some f)
     (shut : tableFind n (p .areas) ≡ none) (c : Changes p f f′ size count) (other : m ≢ n) (legal : T (legalName m)) (unused : entry p m ≡ none)
-    (fits : placesTaken (p .H) (keyOf (p .H) m) (tableRemove n (p .files)) < 16 * p .layers)
+    (fits : placesTaken (p .H) (keyOf (p .H) m) (sysOf p) (tableRemove n (p .files)) < 16 * p .layers)
     (t : ℕ) (in₀ : t < placeCount (p .H) (p .layers)) (was : nameAt (placeWord i (p .F) (p .s) (p .sys) sysFrom) t ≡ n) where
   abbrev others : Table File
   others = tableRemove n (p .files)
@@ -57,13 +52,10 @@ module _ {i : List ℕ} {p : Plain} {f f′ : File} {size count : ℕ} (o : OnDi
   vacant : tableFind m others ≡ none
   vacant = find-remove-other m n 0 (p .files) (o .good .names) other ∙ fresh
 
-  stays : layersFor p m others ≡ p .layers
-  stays = rw (lt-leb (16 * p .layers) (placesTaken (p .H) (keyOf (p .H) m) others) fits)
-
   pub rename-good : Good after
   rename-good =
-      changed-good (o .good) c n m found shut (no-area p m (o .good) fresh) vacant legal (vacant-name p m unused .1)
-      (λ k. omega (arith, chains-put p m f′ others (λ j. omega (arith, places-remove (p .H) j n (p .files), o .good .chains j)) k, stays))
+      changed-good c (o .good) n m found shut (no-area p m (o .good) fresh) legal (vacant-name p m unused .1)
+      (chains-put (p .H) (sysOf p) (p .layers) m f′ others (λ j. omega (arith, places-remove (p .H) j (sysOf p) n (p .files), o .good .chains j)) fits)
 
   gr : Ground p
   gr = ground p (o .good)
@@ -97,25 +89,25 @@ module _ {i : List ℕ} {p : Plain} {f f′ : File} {size count : ℕ} (o : OnDi
       let d = not-system n (o .good .files n f found .ordinary) in
       entry-other without n (d .0) (d .1) ∙ ap (mapSome (fileEntry (p .F) (p .s) n)) (find-remove n 0 (p .files) (o .good .names))
 
-  pub rename-emptied : Layout (emptyPlace p image t) after (freeSectors p) (held after) (entry without)
+  pub rename-emptied : Layout (emptyPlace p (sysOf p) image t) after (freeSectors p) (held after) (entry without)
   rename-emptied =
       let nz : n ≢ 0 = λ e. (let q = legal-positive n (o .good .files n f found .name) in omega arith) in
       write-zero gr′ rename-resized t in₀ (entry without) n (entry-named p (o .good .names)) after-remove gone rename-place nz
 
   -- a place that is unused, or the one that is emptied
   pub unused-after : (u : ℕ) → u < placeCount (p .H) (p .layers) → (u ≡ t) ⊎ Unused (placeWord i (p .F) (p .s) (p .sys) sysFrom) u
-      → Unused (placeWord (emptyPlace p image t) (p .F) (p .s) (p .sys) sysFrom) u
+      → Unused (placeWord (emptyPlace p (sysOf p) image t) (p .F) (p .s) (p .sys) sysFrom) u
   unused-after u in₁ h =
       let len = length-zeroWords 16 in
       same-or u t
-      (λ e. rw e (record { zero = λ w x. place-here after gr′ image (rename-resized .size) t in₀ (zeroWords 16) len w x ∙ getD-zeroWords 16 w }))
+      (λ e. rw e (record { zero = λ w x. place-here (sys-ground gr′) image (rename-resized .size) t in₀ (zeroWords 16) len w x ∙ getD-zeroWords 16 w }))
       (λ d. ⊎-elim (λ (e : u ≡ t). absurd (d e))
       (λ (z : Unused (placeWord i (p .F) (p .s) (p .sys) sysFrom) u).
-      record { zero = λ w x. place-off after gr′ image (rename-resized .size) t in₀ (zeroWords 16) len u w in₁ d x ∙ places u w in₁ x ∙ z .zero w x }) h)
+      record { zero = λ w x. place-off (sys-ground gr′) image (rename-resized .size) t in₀ (zeroWords 16) len u w in₁ d x ∙ places u w in₁ x ∙ z .zero w x }) h)
 
   -- the entry in a place that is unused then
   pub rename-at : (u : ℕ) → u < placeCount (p .H) (p .layers) → u / 16 % p .H ≡ keyOf (p .H) m
-      → Unused (placeWord (emptyPlace p image t) (p .F) (p .s) (p .sys) sysFrom) u → OnDisc (renamedImage p i t u m f f′) after
+      → Unused (placeWord (emptyPlace p (sysOf p) image t) (p .F) (p .s) (p .sys) sysFrom) u → OnDisc (renamedImage p (sysOf p) i t u m f f′) after
   unfolding renamedImage
   rename-at u in₁ key clear =
       let e : List ℕ = fileEntry (p .F) (p .s) m f′ in
@@ -125,12 +117,12 @@ module _ {i : List ℕ} {p : Plain} {f f′ : File} {size count : ℕ} (o : OnDi
       let nz : m ≢ 0 = λ z. (let q = legal-positive m legal in omega arith) in
       let named = entry-named after (rename-good .names) .name m e new-entry in
       let r = write-entry gr′ rename-emptied u in₁ e (changes-entry c m) (entry after) m (entry-named without (sorted-remove 0 n (p .files) (o .good .names))) stay new-entry named nz key
-      (λ x y q. absurd (absent (rename-emptied .catalog) m (after-remove m other ∙ unused) nz x y q))
-      (λ _. name-zero (placeWord (emptyPlace p image t) (p .F) (p .s) (p .sys) sysFrom) u clear) in
+      (λ x y q. absurd (absent (rename-emptied .sys .places) m (after-remove m other ∙ unused) nz x y q))
+      (λ _. name-zero (placeWord (emptyPlace p (sysOf p) image t) (p .F) (p .s) (p .sys) sysFrom) u clear) in
       let w₁ : Words image = words-resized gr (o .layout) n m f f′ found vacant gr′ (changes-resizes c) (c .few) (o .words) in
-      let w₂ : Words (emptyPlace p image t) = words-store image _ (zeroWords 16) w₁ (words-zeroWords 16) in
-      counted-on rename-good (words-store (emptyPlace p image t) _ e w₂ (words-file-entry after rename-good m f′ here)) r
+      let w₂ : Words (emptyPlace p (sysOf p) image t) = words-store image _ (zeroWords 16) w₁ (words-zeroWords 16) in
+      counted-on rename-good (words-store (emptyPlace p (sysOf p) image t) _ e w₂ (words-file-entry after rename-good m f′ here)) r
 
   pub rename-on : (u : ℕ) → u < placeCount (p .H) (p .layers) → u / 16 % p .H ≡ keyOf (p .H) m
-      → (u ≡ t) ⊎ Unused (placeWord i (p .F) (p .s) (p .sys) sysFrom) u → OnDisc (renamedImage p i t u m f f′) after
+      → (u ≡ t) ⊎ Unused (placeWord i (p .F) (p .s) (p .sys) sysFrom) u → OnDisc (renamedImage p (sysOf p) i t u m f f′) after
   rename-on u in₁ key free = rename-at u in₁ key (unused-after u in₁ free)

@@ -16,6 +16,7 @@ use Rattle.disc.specs.Kit.{mapSector}
 use Rattle.disc.specs.Entries.{placeWord, placeCount}
 use Rattle.disc.proofs.Compare.{same-or, below-or}
 use Rattle.disc.proofs.SliceLaws.{occurrences-append}
+use Rattle.disc.proofs.EntryLaws.{no-slices}
 use Rattle.words.specs.Store.{store}
 use Rattle.words.proofs.StoreLaws.{length-store, words-store}
 use Rattle.map.specs.Marks.{allMarked, allUsed, allFree}
@@ -26,14 +27,13 @@ use Rattle.plain.specs.Table.{tableFind, tablePut, tableRemove}
 use Rattle.plain.specs.Unit.{Plain, File, held, withFiles}
 use Rattle.plain.specs.Taking.{zeroSectors}
 use Rattle.plain.specs.Catalog.{resized}
-use Rattle.plain.specs.Good.{WordsOf}
 use Rattle.plain.proofs.TableLaws.{weightAt, find-put, sorted-remove, total-put, total-remove, remove-some}
 use Rattle.plain.proofs.UnitLaws.{holds, occurrences-held}
-use Rattle.plain.proofs.WordLaws.{EachOf, each-take, each-append, length-zeroSectors, zeroSectors-words}
+use Rattle.plain.proofs.WordLaws.{length-resized}
 use Rattle.refine.specs.Represents.{Layout}
 use Rattle.refine.specs.Writes.{zeroedSectors, takenImage, cutBlock, cutImage, resizedImage}
 use Rattle.refine.proofs.Sectors.{Same, same-refl, same-trans, holds-kept, sector-outside, marked-outside-map}
-use Rattle.refine.proofs.Ground.{Ground, part-file, first-in, block-in, sys-data, file-data, sys-file, in-file}
+use Rattle.refine.proofs.Ground.{Ground, part-file, first-in, block-in, catalog-data, sys-ground, file-data, catalog-file, in-file}
 use Rattle.refine.proofs.Writers.{place-same, long, write-freed, write-used, forget-file, write-file}
 use Rattle.steps.proofs.WriteLaws.{part-in-map, words-index-part, words-marks, zeroed-size, zeroed-keep, zeroed-zero, words-zeroed, taken-none}
 
@@ -50,21 +50,10 @@ resizes-taken l l′ new count len e = below-or (length l) count
     let size : length l ≤ length l′ = omega (arith, ap length whole, length-append l new) in
     record { common = take-all (length l′) l size ∙ sym (take-at l new (length l) refl) ∙ ap (take (length l)) (sym whole) })
     (λ (x : count ≤ length l).
-    let none-new : new ≡ [] = no-more new (omega arith) in
+    let none-new : new ≡ [] = no-slices new (omega arith) in
     let part : l′ ≡ take count l = e ∙ ap (λ (k : List ℕ). take count l ++ k) none-new ∙ append-nil (take count l) in
     let size : length l′ ≡ count = ap length part ∙ length-take-le count l x in
     record { common = ap (λ (k : ℕ). take k l) size ∙ sym part ∙ sym (take-all (length l) l′ (omega arith)) })
-  where
-    no-more : (k : List ℕ) → length k ≤ 0 → k ≡ []
-    no-more [] h = refl
-    no-more (y ∷ k) h = absurd (omega arith)
-
--- the length that comes of it
-pub length-after : (l l′ new : List ℕ) (count : ℕ) → length new ≡ count - length l → l′ ≡ take count l ++ new → length l′ ≡ count
-length-after l l′ new count len e = omega (arith, ap length e, length-append (take count l) new, length-take count l)
-
-pub occurrences-take : (k c : ℕ) (l : List ℕ) → occurrences k (take c l) ≤ occurrences k l
-occurrences-take k c l = omega (arith, ap (occurrences k) (take-append-drop c l), occurrences-append k (take c l) (drop c l))
 
 module _ {l l′ : List ℕ} (r : Resizes l l′) where
   -- given back or kept
@@ -157,7 +146,7 @@ module _ (image : List ℕ) (q F s : ℕ) (slices : List ℕ) where
 
 -- ---- given back or taken: at most one of the two writes
 
-taken-some : (image : List ℕ) (q F s : ℕ) (slices new : List ℕ) → 0 < length new
+pub taken-some : (image : List ℕ) (q F s : ℕ) (slices new : List ℕ) → 0 < length new
     → takenImage image q F s slices new ≡ store (allUsed image new) (q * 256) (wholeIndex F s (slices ++ new))
 unfolding takenImage
 taken-some image q F s slices [] h = absurd (omega arith)
@@ -246,13 +235,6 @@ module _ (image : List ℕ) (q F s : ℕ) {l l′ : List ℕ} (r : Resizes l l�
   words-resliced w x = resliced-cases Words (λ _. w) (λ _. w) (λ _. words-store (remarked image l l′) (q * 256) (wholeIndex F s l′) w x)
 
 -- ---- the sectors of a resized file
-
-pub length-resized : (n : ℕ) (l : List (List ℕ)) → length (resized n l) ≡ n
-length-resized n l = omega (arith, length-append (take n l) (zeroSectors (n - length l)), length-take n l, length-zeroSectors (n - length l))
-
-pub resized-words : (n : ℕ) (l : List (List ℕ)) → EachOf (WordsOf 256) [] l → EachOf (WordsOf 256) [] (resized n l)
-resized-words n l ok =
-    each-append (WordsOf 256) [] (take n l) (zeroSectors (n - length l)) (each-take (WordsOf 256) [] n l ok) (zeroSectors-words (n - length l))
 
 pub resized-old : (n b : ℕ) (l : List (List ℕ)) → b < n → b < length l → getD (resized n l) b [] ≡ getD l b []
 resized-old n b l x y =
@@ -436,7 +418,7 @@ module _ {i : List ℕ} {p : Plain} {v : ℕ} {E : ℕ → Option (List ℕ)} (g
   pub resized-places : (t w : ℕ) → t < placeCount (p .H) (p .layers) → w < 16
       → placeWord (resizedImage p i f f′) (p .F) (p .s) (p .sys) sysFrom t w ≡ placeWord i (p .F) (p .s) (p .sys) sysFrom t w
   resized-places =
-      place-same p g i (resizedImage p i f f′) (λ x y.
-      let d = sys-data p g x y in
-      resized-keep (sectorIn (p .F) (p .s) (p .sys) x) (omega (arith, d .0)) (λ has e. sys-file after g′ m f′ here 0 x (zero-in has) y (sym e))
-      (λ b lo hi e. sys-file after g′ m f′ here b x (joined-in b lo hi) y (sym e)))
+      place-same (sys-ground g) i (resizedImage p i f f′) (λ x y.
+      let d = catalog-data (sys-ground g) x y in
+      resized-keep (sectorIn (p .F) (p .s) (p .sys) x) (omega (arith, d .0)) (λ has e. catalog-file (sys-ground g′) m f′ here 0 x (zero-in has) y (sym e))
+      (λ b lo hi e. catalog-file (sys-ground g′) m f′ here b x (joined-in b lo hi) y (sym e)))

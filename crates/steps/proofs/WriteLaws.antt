@@ -30,7 +30,7 @@ use Rattle.map.proofs.MarkLaws.{InMap, in-map, words-all-marked}
 use Rattle.index.specs.Block.{wholeIndex}
 use Rattle.index.proofs.BlockLaws.{length-wholeIndex, words-wholeIndex, holds-stored}
 use Rattle.plain.specs.Table.{Table, tableFind}
-use Rattle.plain.specs.Unit.{Plain, File, AreaUser, M, held, freeSectors, fileEntry, entry, withTables}
+use Rattle.plain.specs.Unit.{Plain, File, sysOf, AreaUser, M, held, freeSectors, fileEntry, entry, withTables}
 use Rattle.plain.specs.Good.{Good}
 use Rattle.plain.proofs.AttributeLaws.{not-negative}
 use Rattle.plain.proofs.UnitLaws.{mapSome, entry-sys, entry-map, entry-other, not-system, system-cases}
@@ -40,7 +40,7 @@ use Rattle.refine.specs.OnDisc.{OnDisc}
 use Rattle.refine.specs.Writes.{setFree, countedFree, storePlace, zeroedSectors, takenImage}
 use Rattle.refine.proofs.Sectors.{Same, same-refl, same-trans, store-outside, sector-outside}
 use Rattle.refine.proofs.CatalogLaws.{Named, nameIn, name-zero}
-use Rattle.refine.proofs.Ground.{Ground, ground, positive, top, part-sys, part-file, file-data, first-in}
+use Rattle.refine.proofs.Ground.{Ground, ground, positive, top, sys-ground, part-file, file-data, first-in}
 use Rattle.refine.proofs.Writers.{write-free, write-entry}
 
 -- ---- the free word
@@ -225,7 +225,7 @@ module _ (p : Plain) (g : Good p) where
 
   pub words-sys-entry : Words (sysEntry (p .H) (p .s) (p .layers) (p .sys))
   words-sys-entry =
-      let few = part-sectors p gr (p .sys) (part-sys p gr) in
+      let few = part-sectors p gr (p .sys) (sys-ground gr .part) in
       words-entry SYS (replicate 3 0) 0x8010 (p .H * p .layers) 6 (p .s * length (p .sys)) (replicate 6 0)
       (omega arith) (words-replicate 3 0 (omega arith)) (omega arith) (omega (arith, gr .sysCover)) (omega arith) (omega arith) (words-replicate 6 0 (omega arith))
 
@@ -254,7 +254,7 @@ place-key {P} {N} {H} {E} c t n x e nz =
 pub write-own : {i : List ℕ} {p : Plain} {v : ℕ} {h : List ℕ} {E : ℕ → Option (List ℕ)} → Ground p → Layout i p v h E → Named E → (D : ℕ → Option (List ℕ)) (n : ℕ) (e : List ℕ)
     → length e ≡ 16 → ((m : ℕ) → m ≢ n → D m ≡ E m) → D n ≡ some e → nameIn e ≡ n → n ≢ 0
     → (t : ℕ) → t < placeCount (p .H) (p .layers) → nameAt (placeWord i (p .F) (p .s) (p .sys) sysFrom) t ≡ n
-    → Layout (storePlace p i t e) p v h D
+    → Layout (storePlace p (sysOf p) i t e) p v h D
 write-own g r nm D n e len other new named nz t x was =
-    write-entry g r t x e len D n nm other new named nz (place-key (r .catalog) t n x was nz)
-    (λ u y q. r .catalog .alone u t y x (q ∙ sym was) (λ z. nz (sym q ∙ z))) (λ d. absurd (d was))
+    write-entry g r t x e len D n nm other new named nz (place-key (r .sys .places) t n x was nz)
+    (λ u y q. r .sys .places .alone u t y x (q ∙ sym was) (λ z. nz (sym q ∙ z))) (λ d. absurd (d was))

@@ -23,11 +23,11 @@ use Rattle.plain.specs.Unit.{Plain, File, AreaUser}
 use Rattle.plain.specs.Questions.{Outcome, fill}
 use Rattle.plain.specs.Areas.{isWriter, other, moved}
 use Rattle.plain.specs.Transput.{isOutput, isRandom, refusedAt, endWord, input, stepTransput}
-use Rattle.plain.proofs.QuestionLaws.{end-law}
+use Rattle.plain.proofs.QuestionLaws.{end-law, true-yes, false-no, either-yes, either-no}
 use Rattle.refine.specs.Represents.{Represents}
+use Rattle.refine.proofs.LeavesLaws.{leaves}
 use Rattle.refine.proofs.StateLaws.{named-name}
 use Rattle.steps.proofs.Whole.{on-disc, represents}
-use Rattle.steps.proofs.AskLaws.{either-yes, either-no}
 use Rattle.steps.proofs.AreaMessages.{area-other}
 use Rattle.steps.proofs.OutputUnit.{Allowed, input-allowed, output-allowed, transputAt, input-past, input-done, transput-bytes, transput-short, transput-writer, transput-protected, transput-here, transput-negative, transput-past, transput-there}
 use Rattle.steps.proofs.OutputMessage.{input-filled}
@@ -36,8 +36,9 @@ use Rattle.unit.specs.Opened.{NumbersOf, Searchable}
 use Rattle.unit.proofs.OpenLaws.{searchable}
 use Rattle.sharing.specs.declared.AreaReply.{AreaReply}
 use Rattle.sharing.specs.Sharing.{areaReply, atPosition, positionWord, positionReached}
-use Rattle.sharing.specs.Leaves.{Leaves, Seat, areaUsers, areaUser}
-use Rattle.sharing.proofs.ShareLaws.{leaves, seat-size, position-inside, moved-good, moved-represents, own-position, reached-low}
+use Rattle.refine.specs.Leaves.{Leaves}
+use Rattle.sharing.specs.Seat.{Seat, areaUsers, areaUser}
+use Rattle.sharing.proofs.ShareLaws.{seat-size, position-inside, moved-good, moved-represents, own-position, reached-low}
 use Rattle.output.specs.Output.{AttributesOf, BlockSectorOf, Placed, SomePlaced, outputImage, outputState, Outputs}
 use Rattle.output.proofs.OutputLaws.{own-size, own-from, own-attributes, image-refused, state-refused}
 use Rattle.transput.specs.Transput.{refusalWord, RefusalFor, inputState, InputLeaves, Inputs, transputFrom, transputImage, transputState, TransputLeaves, TransputsAt, Seated, Transputs}
@@ -130,7 +131,7 @@ done-state state j u k = ap (atPosition state j u) (add-one k)
 module _ {image : List ℕ} {state : State} {o : Opened} {p q : Plain} {n j sender u : ℕ} {f : File} {k : ℕ} (at : Placed image state o p q n j sender u f k) (lent : List ℕ) where
   -- Input is transput with operation 1
   is-input : input q (moved p n sender (areaUsers state j) (areaUser state j u)) f k lent ≡ transputAt p n sender (areaUsers state j) (areaUser state j u) f 1 lent q k
-  is-input = sym (either-no _ _ _ refl)
+  is-input = sym (either-no _ _ _ tt)
 
   pub input-refused : {w : ℕ} → length (f .sectors) ≤ k → w ≡ endWord (f .attributes) → InputLeaves image state p q n j sender u f k lent (areaReply (atPosition state j u k) w 0 k) lent
   input-refused {w} x e = record {
@@ -174,7 +175,7 @@ module _ {image : List ℕ} {state : State} {o : Opened} {j u operation k : ℕ}
     all = λ p q n sender f at.
         let l = h .all p q n sender f at in
         record {
-          leaves = subst (λ (x : Outcome). Leaves x (reply .answer) lent after (reply .state)) (sym (either-yes _ _ _ out)) (l .leaves);
+          leaves = subst (λ (x : Outcome). Leaves x (reply .answer) lent after (reply .state)) (sym (either-yes _ _ _ (true-yes out))) (l .leaves);
           written = rw (l .block) (l .written ∙ output-image p f k image lent operation (reply .answer .result) out);
           reached = rw (l .block) (l .reached ∙ output-reached p f k state j u operation (reply .answer .result) out);
         };
@@ -185,7 +186,7 @@ module _ {image : List ℕ} {state : State} {o : Opened} {j u operation k : ℕ}
     all = λ p q n sender f at.
         let l = h .all p q n sender f at in
         record {
-          leaves = subst (λ (x : Outcome). Leaves x (reply .answer) filled image (reply .state)) (sym (either-no _ _ _ out)) (l .leaves);
+          leaves = subst (λ (x : Outcome). Leaves x (reply .answer) filled image (reply .state)) (sym (either-no _ _ _ (false-no out))) (l .leaves);
           written = rw (l .block) (input-image p f k image lent operation (reply .answer .result) out);
           reached = rw (l .block) (l .reached ∙ input-reached p f k state j u operation (reply .answer .result) out);
         };

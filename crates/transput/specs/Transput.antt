@@ -20,7 +20,8 @@ use Rattle.unit.specs.declared.Opened.{Opened}
 use Rattle.unit.specs.Opened.{NumbersOf}
 use Rattle.sharing.specs.declared.AreaReply.{AreaReply}
 use Rattle.sharing.specs.Sharing.{atPosition}
-use Rattle.sharing.specs.Leaves.{Leaves, Seat, areaUsers, areaUser}
+use Rattle.refine.specs.Leaves.{Leaves}
+use Rattle.sharing.specs.Seat.{Seat, areaUsers, areaUser}
 use Rattle.output.specs.Output.{Placed, outputImage, outputState}
 
 -- ---- the questions before the position is moved

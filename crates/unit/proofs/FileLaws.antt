@@ -3,10 +3,10 @@ use mathlib.Core.Path.{_≡_, refl, sym, ap, ap₂, _∙_}
 use mathlib.Core.List.{List, []}
 use mathlib.Core.Logic.{_≢_}
 use mathlib.Core.Bool.{false, not}
-use mathlib.Core.Option.{Option, none, some}
+use mathlib.Core.Option.{none, some}
 use Prim.Native.Nat.{ℕ, zero, suc, _*_, _≤_, _<_}
 use native.Mathlib.Omega.{arith}
-use lib.Dec.{T, T-not}
+use lib.Dec.{T}
 use lib.ListN.{length, getD}
 use Rattle.types.specs.declared.State.{State}
 use Rattle.disc.specs.Names.{isSystem}
@@ -28,7 +28,7 @@ use Rattle.plain.specs.Unit.{Plain, File, fileEntry}
 use Rattle.plain.specs.Good.{Good}
 use Rattle.plain.proofs.TableLaws.{some-inj}
 use Rattle.plain.proofs.UnitLaws.{entry-file}
-use Rattle.plain.proofs.QuestionLaws.{not-some}
+use Rattle.plain.proofs.QuestionLaws.{not-some, false-no}
 use Rattle.refine.specs.Represents.{SameAreas}
 use Rattle.refine.specs.OnDisc.{OnDisc, SomeOnDisc}
 use Rattle.refine.proofs.Ground.{ground, part-file}
@@ -38,7 +38,6 @@ use Rattle.unit.specs.declared.Opened.{Opened}
 use Rattle.unit.specs.Opened.{NumbersOf, OpenedOn, Represented}
 use Rattle.unit.specs.Find.{NameAt}
 use Rattle.unit.specs.Files.{ownBlock, BlockOf, isFound, nameOpen}
-use Rattle.unit.proofs.AskLaws.{false-no}
 
 -- ---- a represented unit is on its image
 
@@ -129,13 +128,6 @@ module _ {image : List ℕ} {p : Plain} {n : ℕ} {place : Place} (g : Good p) (
   live-index closed = file-words .index ∙ ap (λ (b : ℕ). indexSector (p .F) (p .s) b (f .slices)) (g .files n f found .closed closed .1)
 
 -- SYS and MAP are no files
-pub system-none : (p : Plain) (n : ℕ) → Good p → T (isSystem n) → tableFind n (p .files) ≡ none
-system-none p n g system = go (tableFind n (p .files)) refl
-  where
-    go : (o : Option File) → tableFind n (p .files) ≡ o → o ≡ none
-    go none e = refl
-    go (some f) e = absurd (T-not (isSystem n) (g .files n f e .ordinary) system)
-
 -- ---- open names
 
 pub name-open : {state : State} {p : Plain} → SameAreas state p → (n : ℕ) → nameOpen n state ≡ isSome (tableFind n (p .areas))

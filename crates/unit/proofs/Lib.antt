@@ -1,9 +1,6 @@
 pub mod OpenLaws
 pub mod FindLaws
-pub mod CountLaws
 pub mod UnusedLaws
-pub mod AskLaws
 pub mod MeantLaws
 pub mod LookUpLaws
 pub mod FileLaws
-pub mod StepLaws

@@ -18,6 +18,7 @@ use Rattle.catalog.proofs.WalkLaws.{length-entryAt, getD-entryAt}
 use Rattle.plain.specs.Unit.{Plain, entry}
 use Rattle.plain.specs.Questions.{replies, known, fill}
 use Rattle.plain.specs.Catalog.{stepLookUp}
+use Rattle.plain.proofs.QuestionLaws.{asks-yes, asks-no, given-none, given-some}
 use Rattle.refine.specs.OnDisc.{OnDisc}
 use Rattle.refine.proofs.Ground.{entry-length}
 use Rattle.unit.specs.declared.Opened.{Opened}
@@ -25,7 +26,6 @@ use Rattle.unit.specs.Opened.{NumbersOf, MeantOn, CatalogOn}
 use Rattle.unit.specs.Find.{NameAt, NameFound, FindsName}
 use Rattle.unit.specs.LookUp.{LooksUp}
 use Rattle.unit.proofs.OpenLaws.{on-catalog}
-use Rattle.unit.proofs.AskLaws.{asks-yes, asks-no, given-none, given-some}
 use Rattle.unit.proofs.MeantLaws.{meant-on-known}
 use Rattle.unit.proofs.FindLaws.{place-room}
 

@@ -7,6 +7,8 @@ use Prim.Native.Nat.{ℕ, _<_}
 use native.Mathlib.Omega.{arith}
 use Rattle.disc.specs.Names.{SYS, MAP}
 use Rattle.disc.specs.Slices.{InRangeOnce}
+use Rattle.disc.specs.Stretches.{sysFrom}
+use Rattle.disc.specs.Kit.{sysIndexSector}
 use Rattle.disc.specs.Entries.{placeCount, nameAt, sysEntry, mapEntry}
 use Rattle.kit.specs.declared.Geometry.{Geometry}
 use Rattle.kit.specs.Geometry.{GeometryOf}
@@ -15,18 +17,18 @@ use Rattle.plain.proofs.UnitLaws.{entry-sys, entry-map, legal-positive}
 use Rattle.sound.specs.Places.{Unused, Used, Entered, LegalPlace}
 use Rattle.sound.specs.Parts.{SoundNames}
 use Rattle.entries.specs.Names.{LayersOf}
-use Rattle.entries.specs.Sys.{SysOf, sysSlices, placesIn}
+use Rattle.entries.specs.Sys.{SysOf}
 use Rattle.refine.specs.Represents.{PlaceOf}
 use Rattle.refine.specs.OnDisc.{OnDisc, SomeOnDisc}
 use Rattle.refine.proofs.CatalogLaws.{Named, at}
-use Rattle.refine.proofs.Ground.{Ground, ground, entry-named, entry-legal, part-sys}
+use Rattle.refine.proofs.Ground.{Ground, ground, entry-named, entry-legal, sys-ground}
 use Rattle.refine.proofs.UnitFiles.{sys-read, sys-index}
 use Rattle.unit.specs.declared.Opened.{Opened}
 use Rattle.unit.specs.Opened.{NumbersOf, NumbersIn, CatalogOn, Searchable, OpenedOn, unitPlaces}
 
 -- the catalog of a unit on the image
 pub on-catalog : {image : List ℕ} {p : Plain} → OnDisc image p → CatalogOn image p
-on-catalog on = record { good = on .good; size = on .layout .size; sysIndex = on .layout .sysIndex; catalog = on .layout .catalog }
+on-catalog on = record { good = on .good; size = on .layout .size; sys = on .layout .sys }
 
 pub opened : {image : List ℕ} {o : Opened} → SomeOnDisc image → NumbersIn image o → OpenedOn image o
 opened h n = record { unit = h .unit; on = h .on; numbers = n .all (h .unit) (h .on) }
@@ -48,25 +50,25 @@ module _ {image : List ℕ} {p : Plain} (on : CatalogOn image p) where
   unit-named = entry-named p (on .good .names)
 
   pub sys-once : InRangeOnce (M p) (p .sys)
-  sys-once k = omega (arith, on .good .once k, part-sys p unit-ground k)
+  sys-once k = omega (arith, on .good .once k, sys-ground unit-ground .part k)
 
   -- ---- the names in SYS
 
   entered : (n : ℕ) (e : List ℕ) → entry p n ≡ some e → Entered P N e
-  entered n e h = let a = at (on .catalog) unit-named n e h in record { place = a .place; inside = a .inside; holds = a .holds }
+  entered n e h = let a = at (on .sys .places) unit-named n e h in record { place = a .place; inside = a .inside; holds = a .holds }
 
   legal-place : (t : ℕ) → t < N → Used P t → LegalPlace P (p .H) t
   legal-place t x used = ⊎-elim
       (λ (z : Unused P t). absurd (used z))
       (λ (u : PlaceOf P (p .H) (entry p) t). record { name = entry-legal p (on .good) (nameAt P t) (u .words) (u .entered); key = u .key })
-      (on .catalog .each t x)
+      (on .sys .places .each t x)
 
   pub sound-names : SoundNames (p .H) (p .s) (p .layers) (p .sys) P N
   sound-names = record {
     sysEntered = entered SYS (sysEntry (p .H) (p .s) (p .layers) (p .sys)) (entry-sys p);
     mapEntered = entered MAP mapEntry (entry-map p);
     legal = legal-place;
-    alone = λ t u x y a b e. on .catalog .alone t u x y e (λ z. let k = legal-positive (nameAt P t) (legal-place t x a .name) in omega arith);
+    alone = λ t u x y a b e. on .sys .places .alone t u x y e (λ z. let k = legal-positive (nameAt P t) (legal-place t x a .name) in omega arith);
   }
 
 -- ---- the unit's numbers in the kit
@@ -95,15 +97,20 @@ module _ {image : List ℕ} {p : Plain} (on : OnDisc image p) {g : Geometry} (ge
           limits = rw (keys-is, slice-is, first-is, sectors-is) (on .good .limits);
           slices = geo .slices;
         };
-        index = rw (first-is, slice-is) (sys-index image p (on .good) (on .layout .sysIndex));
-        once = rw (slices-is, first-is, slice-is, sys-read image p (on .good) (on .layout .sysIndex)) (sys-once (on-catalog on));
+        index = rw (first-is, slice-is) (sys-index image p (on .good) (on .layout .sys .index));
+        once = rw (slices-is, first-is, slice-is, sys-read image p (on .good) (on .layout .sys .index)) (sys-once (on-catalog on));
       }
 
-  layers-is : {r : ℕ} → LayersOf (g .keys) (g .slice) (sysSlices image g) (placesIn image g) r → r ≡ p .layers
+  layers-is : {r : ℕ} → LayersOf image g r → r ≡ p .layers
   layers-is of =
-      let own = rw (keys-is, first-is, slice-is, sys-read image p (on .good) (on .layout .sysIndex)) at of in
-      own .only (p .layers) (on .good .layered) (on .good .sysCount) (sound-names (on-catalog on))
+      let only = rw (keys-is, first-is, slice-is, sys-read image p (on .good) (on .layout .sys .index)) at (of .only) in
+      only (p .layers) (on .good .layered) (on .good .sysCount) (sound-names (on-catalog on))
 
-  pub numbers-of : (o : Opened) → o .keys ≡ g .keys → o .slice ≡ g .slice → o .first .0 ≡ g .first .0 → o .slices ≡ g .slices
-      → LayersOf (g .keys) (g .slice) (sysSlices image g) (placesIn image g) (o .layers) → NumbersOf o p
-  numbers-of o a b c d e = record { keys = a ∙ keys-is; slice = b ∙ slice-is; first = c ∙ first-is; slices = d ∙ slices-is; layers = layers-is e }
+  pub numbers-of : (o : Opened) → o .catalog .index .0 ≡ sysIndexSector → o .catalog .from ≡ sysFrom → o .catalog .keys ≡ g .keys → o .slice ≡ g .slice
+      → o .first .0 ≡ g .first .0 → o .slices ≡ g .slices → LayersOf image g (o .catalog .layers) → NumbersOf o p
+  numbers-of o i f a b c d e = record {
+    slice = b ∙ slice-is;
+    first = c ∙ first-is;
+    slices = d ∙ slices-is;
+    catalog = record { index = i; from = f; keys = a ∙ keys-is; layers = layers-is e };
+  }

@@ -2,4 +2,3 @@ pub mod Opened
 pub mod Find
 pub mod Files
 pub mod LookUp
-pub mod Stepped

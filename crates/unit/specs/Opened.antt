@@ -5,26 +5,21 @@ use Prim.Native.Nat.{ℕ, _*_}
 use lib.Dec.{T}
 use lib.ListN.{length}
 use Rattle.types.specs.declared.State.{State}
-use Rattle.disc.specs.Words.{Holds}
-use Rattle.disc.specs.Stretches.{indexWords}
-use Rattle.disc.specs.Kit.{sysIndexSector}
-use Rattle.disc.specs.Entries.{placeCount}
-use Rattle.catalog.specs.declared.Catalog.{Catalog}
-use Rattle.plain.specs.Unit.{Plain, M, entry}
+use Rattle.disc.specs.Catalog.{placesIn}
+use Rattle.catalog.specs.Value.{CatalogIs}
+use Rattle.plain.specs.Unit.{Plain, sysOf, M, entry}
 use Rattle.plain.specs.Good.{Good}
 use Rattle.plain.specs.Questions.{known}
-use Rattle.sound.specs.Sound.{sysPlaces}
-use Rattle.refine.specs.Represents.{CatalogOf, Represents}
+use Rattle.refine.specs.Represents.{CatalogOnImage, Represents}
 use Rattle.refine.specs.OnDisc.{OnDisc}
 use Rattle.unit.specs.declared.Opened.{Opened}
 
--- "It holds .. H, s, F, N, L": the unit's numbers, with M for N.
+-- "It holds .. H, s, F, N, L": the unit's numbers, with M for N; H and L are those of its catalog SYS.
 pub record NumbersOf (o : Opened) (p : Plain) : Type 0 where
-  pub keys : o .keys ≡ p .H
   pub slice : o .slice ≡ p .s
   pub first : o .first .0 ≡ p .F
   pub slices : o .slices ≡ M p
-  pub layers : o .layers ≡ p .layers
+  pub catalog : CatalogIs (o .catalog) (p .H) (sysOf p)
 
 -- They are the numbers of every unit on the image.
 pub record NumbersIn (image : List ℕ) (o : Opened) : Type 0 where
@@ -56,22 +51,17 @@ pub record Meant (image : List ℕ) (state : State) (o : Opened) (number : ℕ) 
 
 -- The places of a unit's SYS.
 abbrev pub unitPlaces : List ℕ → Plain → ℕ → ℕ → ℕ
-unitPlaces image p = sysPlaces image (p .F) (p .s) (p .sys)
+unitPlaces image p = placesIn image (p .F) (p .s) (sysOf p)
 
 -- The part of a unit that a search reads: SYS's index block, and the entries. It also stands half way through a message, where
 -- map, free word and files are not yet those of the unit.
 pub record CatalogOn (image : List ℕ) (p : Plain) : Type 0 where
   pub good : Good p
   pub size : length image ≡ 256 * p .N
-  pub sysIndex : Holds image sysIndexSector (indexWords (p .F) (p .s) (p .sys))
-  pub catalog : CatalogOf (unitPlaces image p) (placeCount (p .H) (p .layers)) (p .H) (entry p)
+  pub sys : CatalogOnImage image (p .H) (p .s) (p .F) (sysOf p) (entry p)
 
 -- What every search starts from.
 pub record Searchable (image : List ℕ) (o : Opened) : Type 0 where
   pub unit : Plain
   pub on : CatalogOn image unit
   pub numbers : NumbersOf o unit
-
--- SYS as a catalog: "Sector 6 is the index block of SYS", and its blocks begin with joined sector 0.
-abbrev pub sysCatalog : Opened → Catalog
-sysCatalog o = record { index = record { 0 = 6 }; from = 0; keys = o .keys; layers = o .layers }

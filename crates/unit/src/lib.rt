@@ -6,7 +6,7 @@ ghost use Prim.Native.Nat.{_<_};
 ghost use Rattle.disc.specs.Names.{pack, unitIn};
 ghost use Rattle.catalog.specs.Catalog.{placeUnused};
 ghost use Rattle.refine.specs.OnDisc.{SomeOnDisc};
-ghost use Rattle.unit.specs.Opened.{NumbersIn, MeantOn, Searchable, sysCatalog};
+ghost use Rattle.unit.specs.Opened.{NumbersIn, MeantOn, Searchable};
 ghost use Rattle.unit.specs.Find.{FindsName, FindsUnused};
 ghost use Rattle.unit.specs.Files.{ownBlock, BlockOf, nameOpen};
 ghost use Rattle.unit.specs.LookUp.{LooksUp};
@@ -17,13 +17,12 @@ use types::Name;
 use types::Sector;
 use types::State;
 
-// The unit's numbers: H, s, F, M and L of document 01.
+// The unit's numbers: s, F and M of document 01, and its catalog SYS with H and L.
 pub struct Opened {
-    pub keys: u16,
     pub slice: u16,
     pub first: Sector,
     pub slices: u16,
-    pub layers: u16,
+    pub catalog: Catalog,
 }
 
 // The numbers of the unit on the image.
@@ -34,24 +33,17 @@ pub fn open_unit(image: &[u16]) -> Opened
     let g = kit::geometry_of(image);
     let layers = entries::find_layers(image, g);
     let first = g.first;
-    Opened {
+    let sys = Catalog {
+        index: Sector(6),
+        from: 0,
         keys: g.keys,
+        layers: layers,
+    };
+    Opened {
         slice: g.slice,
         first: first,
         slices: g.slices,
-        layers: layers,
-    }
-}
-
-// SYS as a catalog.
-pub fn sys_catalog(o: Opened) -> Catalog
-    ensures { λ r. ⌜ r ≡ sysCatalog o ⌝ }
-{
-    Catalog {
-        index: Sector(6),
-        from: 0,
-        keys: o.keys,
-        layers: o.layers,
+        catalog: sys,
     }
 }
 
@@ -63,16 +55,16 @@ pub fn find_name(image: &[u16], o: Opened, name: Name) -> Found
     if names::packed(name) == 0 {
         return Found::Nothing;
     }
-    catalog::find(image, sys_catalog(o), name)
+    catalog::find(image, o.catalog, name)
 }
 
 // The first unused place of a key.
 pub fn find_unused(image: &[u16], o: Opened, key: u16) -> Found
-    requires { ⌜ Searchable (now image) o × (key < o .keys) ⌝ }
-    ensures first { λ r. ⌜ r ≡ placeUnused (now (image .entry)) (sysCatalog o) key ⌝ }
+    requires { ⌜ Searchable (now image) o × (key < o .catalog .keys) ⌝ }
+    ensures first { λ r. ⌜ r ≡ placeUnused (now (image .entry)) (o .catalog) key ⌝ }
     ensures found { λ r. ⌜ FindsUnused (now (image .entry)) o key r ⌝ }
 {
-    catalog::first_unused(image, sys_catalog(o), key)
+    catalog::first_unused(image, o.catalog, key)
 }
 
 // The index block of the ordinary file with the index sector given; that of a file with no slice, whose index sector is 0.

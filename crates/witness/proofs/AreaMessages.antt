@@ -16,8 +16,9 @@ use Rattle.state.specs.declared.Found.{Found}
 use Rattle.state.specs.declared.Found.the-variants.{At, Absent}
 use Rattle.state.specs.declared.Kind.the-variants.{Exclusive}
 use Rattle.state.specs.Areas.{areaNamed, entryOf, anyOther}
-use Rattle.plain.specs.Unit.{Plain, M}
+use Rattle.plain.specs.Unit.{Plain, M, sysOf}
 use Rattle.plain.specs.Step.{isKnown}
+use Rattle.catalog.specs.Value.{valueOf}
 use Rattle.unit.specs.declared.Opened.{Opened}
 use Rattle.unit.specs.Opened.{NumbersOf, Meant}
 use Rattle.transput.specs.Transput.{Seated}
@@ -27,10 +28,10 @@ use Rattle.witness.proofs.Transput.{SomeReply, transput-some}
 
 -- the unit's numbers
 abbrev pub numbers : Plain → Opened
-numbers p = record { keys = p .H; slice = p .s; first = record { 0 = p .F }; slices = M p; layers = p .layers }
+numbers p = record { slice = p .s; first = record { 0 = p .F }; slices = M p; catalog = valueOf (p .H) (sysOf p) }
 
 pub numbers-of : (p : Plain) → NumbersOf (numbers p) p
-numbers-of p = record { keys = refl; slice = refl; first = refl; slices = refl; layers = refl }
+numbers-of p = record { slice = refl; first = refl; slices = refl; catalog = record { index = refl; from = refl; keys = refl; layers = refl } }
 
 module _ {image : List ℕ} {state : State} {o : Opened} {j sender : ℕ} (lent : List ℕ) (words : Words lent) where
   -- ---- a user's operation

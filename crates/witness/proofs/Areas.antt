@@ -18,7 +18,7 @@ use Rattle.state.specs.declared.Found.{Found}
 use Rattle.state.specs.declared.Found.the-variants.{At, Absent}
 use Rattle.state.specs.Areas.{areaNamed, vacantAreaOf, areaOpened, areaClosed}
 use Rattle.plain.specs.Table.{Table, tableFind, tablePut, isSome}
-use Rattle.plain.specs.Unit.{Plain, File, AreaUser, entry, withAreas}
+use Rattle.plain.specs.Unit.{Plain, File, sysOf, AreaUser, entry, withAreas}
 use Rattle.plain.specs.Questions.{known, done}
 use Rattle.plain.specs.Areas.{stepCreateArea, stepRemoveArea}
 use Rattle.plain.specs.Good.{Good}
@@ -103,7 +103,7 @@ module _ {image : List ℕ} {state : State} {p : Plain} (g : Good p) (r : Repres
         give (tableFind n (p .areas)) dummy (λ users live. turn (eqb (length users) 0) dummy (λ nobody. give (tableFind n (p .files)) dummy (λ f file.
         let at = open-at n live in
         let stands = name-place (on-disc g r) n (entry-of p n f ordinary file) in
-        finish _ (bookedImage p image (stands .0) n f, areaClosed state (at .0))
+        finish _ (bookedImage p (sysOf p) image (stands .0) n f, areaClosed state (at .0))
         (books (record {
           f = f;
           file = file;

@@ -13,7 +13,7 @@ use Rattle.disc.specs.Kit.{Limits}
 use Rattle.disc.proofs.WordLaws.{words-cons, words-replicate}
 use Rattle.plain.specs.Questions.{Outcome, answer}
 use Rattle.plain.specs.Good.{Good}
-use Rattle.plain.specs.Paper.{paperUnit}
+use Rattle.examples.specs.Paper.{paperUnit}
 use Rattle.sound.specs.State.{Shaped}
 use Rattle.sound.specs.Sound.{SoundUnit}
 use Rattle.refine.specs.Represents.{Represents}

@@ -6,16 +6,17 @@ use Prim.Native.Nat.{ℕ, zero, suc, _*_, _/_, _%_, _≤_, _<_}
 use native.Mathlib.Omega.{arith}
 use Rattle.disc.specs.Entries.{placeCount}
 use Rattle.disc.proofs.Compare.{same-or}
-use Rattle.plain.specs.Unit.{Plain, entry}
+use Rattle.plain.specs.Unit.{Plain, entry, sysOf}
 use Rattle.plain.specs.Taking.{placesTaken}
 use Rattle.plain.proofs.TableLaws.{some≢none}
+use Rattle.plain.proofs.UnitLaws.{ordinary-files}
 use Rattle.sound.specs.Places.{Unused}
 use Rattle.refine.specs.Represents.{PlaceOf}
 use Rattle.refine.proofs.CatalogLaws.{name-zero}
+use Rattle.refine.proofs.PlaceCount.{used-full}
 use Rattle.unit.specs.Opened.{CatalogOn, unitPlaces}
 use Rattle.unit.specs.Find.{FirstUnused}
 use Rattle.unit.proofs.OpenLaws.{unit-named}
-use Rattle.unit.proofs.CountLaws.{used-full}
 
 module _ {image : List ℕ} {p : Plain} (on : CatalogOn image p) (k : ℕ) where
   abbrev P : ℕ → ℕ → ℕ
@@ -29,7 +30,7 @@ module _ {image : List ℕ} {p : Plain} (on : CatalogOn image p) (k : ℕ) where
   Full c = (t : ℕ) → t < c → t / 16 % p .H ≡ k → Unused (unitPlaces image p) t → ⊥
 
   data Search (c : ℕ) : Type 0 where
-    first : (u : ℕ) → FirstUnused image p k u → Search c
+    first : (u : ℕ) → FirstUnused image p (sysOf p) k u → Search c
     full : Full c → Search c
 
   more : (c : ℕ) → Full c → (c / 16 % p .H ≡ k → Unused (unitPlaces image p) c → ⊥) → Full (suc c)
@@ -48,12 +49,12 @@ module _ {image : List ℕ} {p : Plain} (on : CatalogOn image p) (k : ℕ) where
           (λ e. ⊎-elim
           (λ (z : Unused P c). first c (record { inside = h; key = e; unused = z; earlier = f }))
           (λ (u : PlaceOf P (p .H) (entry p) c). full (more c f (λ _. used c u)))
-          (on .catalog .each c h))
+          (on .sys .places .each c h))
           (λ d. full (more c f (λ e. absurd (d e))))
 
-  pub first-unused : k < p .H → placesTaken (p .H) k (p .files) < 16 * p .layers → (u : ℕ) × FirstUnused image p k u
+  pub first-unused : k < p .H → placesTaken (p .H) k (sysOf p) (p .files) < 16 * p .layers → (u : ℕ) × FirstUnused image p (sysOf p) k u
   first-unused low room = go (search N (omega arith))
     where
-      go : Search (placeCount (p .H) (p .layers)) → (u : ℕ) × FirstUnused image p k u
+      go : Search (placeCount (p .H) (p .layers)) → (u : ℕ) × FirstUnused image p (sysOf p) k u
       go (first u f) = (u, f)
-      go (full f) = absurd (omega (arith, used-full on k low f))
+      go (full f) = absurd (omega (arith, used-full p (on .good .names) (ordinary-files (on .good)) (on .sys .places) k low f))

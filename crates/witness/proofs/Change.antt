@@ -15,23 +15,24 @@ use Rattle.disc.specs.Attributes.{givesEntryOnly}
 use Rattle.disc.specs.Entries.{placeCount, nameAt}
 use Rattle.disc.proofs.Compare.{same-or, below-or}
 use Rattle.plain.specs.Table.{tableFind, tableRemove, isSome}
-use Rattle.plain.specs.Unit.{Plain, File, withFiles, entry}
+use Rattle.plain.specs.Unit.{Plain, File, sysOf, withFiles, entry}
 use Rattle.plain.specs.Questions.{Outcome, known}
 use Rattle.plain.specs.Good.{Good}
 use Rattle.plain.specs.Taking.{placesTaken}
 use Rattle.plain.specs.Catalog.{attributesIn, isRecord, newName, changeFile, stepChange}
+use Rattle.plain.proofs.KeepsCatalog.{removed-good}
+use Rattle.plain.proofs.ChangeUnit.{changeLayers, changeGrown, changedUnit, ChangeAsked, change-outcome, change-shut, change-changes, kept-layers, moved-layers, moved-vacant, moved-fits}
+use Rattle.plain.proofs.TakingLaws.{layers-stay, layers-grow}
+use Rattle.plain.proofs.GrowUnit.{grownTo, not-grown, entry-grown}
+use Rattle.plain.proofs.QuestionLaws.{asks-yes, given-some}
 use Rattle.refine.specs.OnDisc.{OnDisc}
 use Rattle.refine.specs.Writes.{emptyPlace, resizedImage, changedImage, renamedImage}
 use Rattle.refine.specs.Replies.{refused, written}
 use Rattle.steps.specs.Units.{grownUnit}
-use Rattle.steps.proofs.CreateStep.{layers-stay, layers-grow}
-use Rattle.steps.proofs.RemoveStep.{removed-good}
 use Rattle.steps.proofs.RenameStep.{rename-emptied}
 use Rattle.steps.proofs.WriteLaws.{entry-of}
-use Rattle.steps.proofs.ChangeUnit.{grownTo, not-grown, entry-grown, changeLayers, changeGrown, changedUnit, ChangeAsked, change-outcome, change-shut, change-changes, kept-layers, moved-layers, moved-vacant, moved-fits}
 use Rattle.unit.specs.Opened.{CatalogOn, unitPlaces}
 use Rattle.unit.specs.Find.{FirstUnused}
-use Rattle.unit.proofs.AskLaws.{asks-yes, given-some}
 use Rattle.grow.specs.Grow.{GrownFrom}
 use Rattle.rewrite.specs.Rewrite.{stayed, moved}
 use Rattle.change.specs.Change.{sizeThen, attributesThen, fileAfter, layersThen, ChangedOn, Changed, stays, grows, ChangeDone}
@@ -69,22 +70,22 @@ module _ {p : Plain} (g : Good p) (n : ℕ) {f : File} (file : tableFind n (p .f
     f′ = fileAfter (changeGrown p n (newName n lent) (sizeThen f lent) (attributesThen f lent) f lent) f lent
 
     -- the new name's place, once the file's own is empty
-    new-place : m ≢ n → (u : ℕ) × FirstUnused (emptyPlace grown (resizedImage grown i f f′) (stands .0)) grown (keyOf (grown .H) m) u
+    new-place : m ≢ n → (u : ℕ) × FirstUnused (emptyPlace grown (sysOf grown) (resizedImage grown i f f′) (stands .0)) grown (sysOf grown) (keyOf (grown .H) m) u
     new-place d =
         let fits = moved-fits p n m sz at f lent g d in
         let l = rename-emptied on n m file shut (change-changes p n m sz at f lent g file asked words rec) d (asked .legal)
         (entry-grown p (changeLayers p n m sz at f lent) m (moved-vacant p n m sz at f lent d asked)) fits (stands .0) (stands .1) (stands .2) in
         let without : Plain = withFiles grown (tableRemove n (grown .files)) in
-        let bare : CatalogOn (emptyPlace grown (resizedImage grown i f f′) (stands .0)) without =
-        record { good = removed-good grown n (on .good) shut; size = l .size; sysIndex = l .sysIndex; catalog = l .catalog } in
+        let bare : CatalogOn (emptyPlace grown (sysOf grown) (resizedImage grown i f f′) (stands .0)) without =
+        record { good = removed-good grown n (on .good) shut; size = l .size; sys = l .sys } in
         let u = first-unused bare (keyOf (grown .H) m) (mod-lt _ (g .limits .keys-low)) fits in
         (u .0, record { inside = u .1 .inside; key = u .1 .key; unused = u .1 .unused; earlier = u .1 .earlier })
 
     rewrites : (after : List ℕ) × ChangedOn grown i n f lent after
     rewrites = same-or m n
-        (λ e. (changedImage grown i (stands .0) n f f′, record { t = stands .0; inside = stands .1; stands = stands .2; rewrites = stayed e refl }))
+        (λ e. (changedImage grown (sysOf grown) i (stands .0) n f f′, record { t = stands .0; inside = stands .1; stands = stands .2; rewrites = stayed e refl }))
         (λ d. let u = new-place d in
-        (renamedImage grown i (stands .0) (u .0) m f f′, record { t = stands .0; inside = stands .1; stands = stands .2; rewrites = moved d (u .0) (u .1) refl }))
+        (renamedImage grown (sysOf grown) i (stands .0) (u .0) m f f′, record { t = stands .0; inside = stands .1; stands = stands .2; rewrites = moved d (u .0) (u .1) refl }))
 
   -- ---- SYS as it was, or grown
 
@@ -95,9 +96,9 @@ module _ {p : Plain} (g : Good p) (n : ℕ) {f : File} (file : tableFind n (p .f
       → (after : List ℕ) × Changed p image n f lent after (changedUnit p n (newName n lent) (sizeThen f lent) (attributesThen f lent) f lent (changeGrown p n (newName n lent) (sizeThen f lent) (attributesThen f lent) f lent))
   changes {image} on next = same-or m n
       (λ e. beside (kept-layers p n m sz at f lent e))
-      (λ d. below-or (placesTaken (p .H) (keyOf (p .H) m) (tableRemove n (p .files))) (16 * p .layers)
-      (λ room. beside (moved-layers p n m sz at f lent d ∙ layers-stay p m (tableRemove n (p .files)) room))
-      (λ taken. layer (moved-layers p n m sz at f lent d ∙ layers-grow p m (tableRemove n (p .files)) taken)))
+      (λ d. below-or (placesTaken (p .H) (keyOf (p .H) m) (sysOf p) (tableRemove n (p .files))) (16 * p .layers)
+      (λ room. beside (moved-layers p n m sz at f lent d ∙ layers-stay (p .H) (sysOf p) m (tableRemove n (p .files)) room))
+      (λ taken. layer (moved-layers p n m sz at f lent d ∙ layers-grow (p .H) (sysOf p) m (tableRemove n (p .files)) taken)))
     where
       beside : layersThen p n lent ≡ p .layers → (after : List ℕ) × Changed p image n f lent after (changedUnit p n m sz at f lent grown)
       beside e =

@@ -13,17 +13,17 @@ use Rattle.disc.specs.Attributes.{permanent}
 use Rattle.disc.specs.Entries.{placeCount, nameAt}
 use Rattle.disc.proofs.Compare.{below-or}
 use Rattle.plain.specs.Table.{tableFind, isSome}
-use Rattle.plain.specs.Unit.{Plain, entry}
+use Rattle.plain.specs.Unit.{Plain, entry, sysOf}
 use Rattle.plain.specs.Questions.{Outcome, known, done}
 use Rattle.plain.specs.Taking.{layersFor, placesTaken}
 use Rattle.plain.specs.Catalog.{optionalIn, attributesIn, sizeIn, tailIn, isRecord, newFile, stepCreate, stepSet, stepRemove}
 use Rattle.plain.proofs.UnitLaws.{entry-sys}
 use Rattle.plain.proofs.QuestionLaws.{not-some, is-some}
+use Rattle.plain.proofs.TakingLaws.{layers-stay, layers-grow}
+use Rattle.plain.proofs.CreateUnit.{unitAfter, Yes, sys-room, sys-few, unit-grown, unit-stays}
 use Rattle.refine.specs.OnDisc.{OnDisc}
-use Rattle.refine.specs.Writes.{grownImage, createdImage, removedImage}
+use Rattle.refine.specs.Writes.{createdImage, removedImage, grownSys}
 use Rattle.steps.specs.Units.{layerSlices, grownUnit, newFileOf}
-use Rattle.steps.proofs.CreateStep.{layers-stay, layers-grow}
-use Rattle.steps.proofs.NewFileStep.{unitAfter, Yes, unit-stays, unit-grows, sys-room, sys-few}
 use Rattle.steps.proofs.GrowStep.{grow-on}
 use Rattle.unit.specs.Opened.{unitPlaces}
 use Rattle.unit.specs.Find.{FirstUnused}
@@ -42,7 +42,7 @@ abbrev pub creates : Plain → List ℕ → ℕ → ℕ → ℕ → List ℕ →
 creates p image n size attributes optional tail = writes image (Created p image n size attributes optional tail)
 
 -- the first unused place of a name's key
-pub first-place : {image : List ℕ} {p : Plain} → OnDisc image p → (n : ℕ) → placesTaken (p .H) (keyOf (p .H) n) (p .files) < 16 * p .layers → (u : ℕ) × FirstUnused image p (keyOf (p .H) n) u
+pub first-place : {image : List ℕ} {p : Plain} → OnDisc image p → (n : ℕ) → placesTaken (p .H) (keyOf (p .H) n) (sysOf p) (p .files) < 16 * p .layers → (u : ℕ) × FirstUnused image p (sysOf p) (keyOf (p .H) n) u
 first-place {p = p} on n room = first-unused (on-catalog on) (keyOf (p .H) n) (mod-lt _ (on .good .limits .keys-low)) room
 
 -- ---- SYS grows by a layer
@@ -51,8 +51,8 @@ module _ {image : List ℕ} {p : Plain} (on : OnDisc image p) where
   -- its entry is written anew where it stands
   pub grown-from : (after : List ℕ) × GrownFrom image p after
   grown-from =
-      let at = on .layout .catalog .there SYS _ (entry-sys p) in
-      (grownImage p image (at .0) (layerSlices p), record { place = at .0; inside = at .1; named = at .2; written = refl })
+      let at = on .layout .sys .places .there SYS _ (entry-sys p) in
+      (grownSys p image (at .0) (layerSlices p), record { place = at .0; inside = at .1; named = at .2; written = refl })
 
   -- ---- a new file
 
@@ -61,34 +61,34 @@ module _ {image : List ℕ} {p : Plain} (on : OnDisc image p) where
     Made = Ends p words (creates p image n size attributes optional tail)
 
     -- SYS is grown
-    in-layer : {j : List ℕ} → 16 * p .layers ≤ placesTaken (p .H) (keyOf (p .H) n) (p .files) → GrownFrom image p j → OnDisc j (grownUnit p)
+    in-layer : {j : List ℕ} → 16 * p .layers ≤ placesTaken (p .H) (keyOf (p .H) n) (sysOf p) (p .files) → GrownFrom image p j → OnDisc j (grownUnit p)
         → Made (λ i. done (unitAfter p (suc (p .layers)) n size attributes optional tail) (words i))
     in-layer {j} taken from grown-on =
         let u = first-place grown-on n (omega (arith, on .good .chains (keyOf (p .H) n))) in
-        finish _ (createdImage (grownUnit p) j (u .0) n (newFileOf (grownUnit p) size attributes optional tail))
-        (grows (record { full = taken; grown = j; grows = from; created = record { place = u .0; first = u .1; written = refl } }) (unit-grows p n size attributes optional tail))
+        finish _ (createdImage (grownUnit p) (sysOf (grownUnit p)) j (u .0) n (newFileOf (grownUnit p) size attributes optional tail))
+        (grows (record { full = taken; grown = j; grows = from; created = record { place = u .0; first = u .1; written = refl } }) (unit-grown p (suc (p .layers)) n size attributes optional tail))
 
     -- every question is answered yes
-    made : Yes p (layersFor p n (p .files)) n size attributes → Made (λ i. done (unitAfter p (layersFor p n (p .files)) n size attributes optional tail) (words i))
-    made asked = below-or (placesTaken (p .H) (keyOf (p .H) n) (p .files)) (16 * p .layers) beside new-layer
+    made : Yes p (layersFor (p .H) (sysOf p) n (p .files)) n size attributes → Made (λ i. done (unitAfter p (layersFor (p .H) (sysOf p) n (p .files)) n size attributes optional tail) (words i))
+    made asked = below-or (placesTaken (p .H) (keyOf (p .H) n) (sysOf p) (p .files)) (16 * p .layers) beside new-layer
       where
-        at : {l : ℕ} → layersFor p n (p .files) ≡ l → Made (λ i. done (unitAfter p l n size attributes optional tail) (words i)) → Made (λ i. done (unitAfter p (layersFor p n (p .files)) n size attributes optional tail) (words i))
+        at : {l : ℕ} → layersFor (p .H) (sysOf p) n (p .files) ≡ l → Made (λ i. done (unitAfter p l n size attributes optional tail) (words i)) → Made (λ i. done (unitAfter p (layersFor (p .H) (sysOf p) n (p .files)) n size attributes optional tail) (words i))
         at e m = subst (λ (k : ℕ). Made (λ i. done (unitAfter p k n size attributes optional tail) (words i))) (sym e) m
 
-        beside : placesTaken (p .H) (keyOf (p .H) n) (p .files) < 16 * p .layers → Made (λ i. done (unitAfter p (layersFor p n (p .files)) n size attributes optional tail) (words i))
+        beside : placesTaken (p .H) (keyOf (p .H) n) (sysOf p) (p .files) < 16 * p .layers → Made (λ i. done (unitAfter p (layersFor (p .H) (sysOf p) n (p .files)) n size attributes optional tail) (words i))
         beside room =
             let u = first-place on n room in
             let e = unit-stays (on .good) n size attributes optional tail in
-            at (layers-stay p n (p .files) room)
-            (finish _ (createdImage p image (u .0) n (newFileOf p size attributes optional tail))
+            at (layers-stay (p .H) (sysOf p) n (p .files) room)
+            (finish _ (createdImage p (sysOf p) image (u .0) n (newFileOf p size attributes optional tail))
             (stays (record { place = u .0; first = u .1; written = refl }) e))
 
-        new-layer : 16 * p .layers ≤ placesTaken (p .H) (keyOf (p .H) n) (p .files) → Made (λ i. done (unitAfter p (layersFor p n (p .files)) n size attributes optional tail) (words i))
+        new-layer : 16 * p .layers ≤ placesTaken (p .H) (keyOf (p .H) n) (sysOf p) (p .files) → Made (λ i. done (unitAfter p (layersFor (p .H) (sysOf p) n (p .files)) n size attributes optional tail) (words i))
         new-layer taken =
-            let e = layers-grow p n (p .files) taken in
+            let e = layers-grow (p .H) (sysOf p) n (p .files) taken in
             let y = subst (λ (l : ℕ). Yes p l n size attributes) e asked in
             at e (in-layer taken (grown-from .1) (rw (grown-from .1 .written)
-            (grow-on on (sys-room p n size attributes optional tail on y) (sys-few p n size attributes optional tail on y) (grown-from .1 .place) (grown-from .1 .inside) (grown-from .1 .named))))
+            (grow-on on (sys-room y) (sys-few y) (grown-from .1 .place) (grown-from .1 .inside) (grown-from .1 .named))))
 
     pub new-file : Made (λ i. newFile p n size attributes optional tail (words i))
     unfolding newFile
@@ -116,7 +116,7 @@ module _ {image : List ℕ} {p : Plain} (on : OnDisc image p) where
 
   -- the place where a name stands
   pub name-place : (n : ℕ) {e : List ℕ} → entry p n ≡ some e → (t : ℕ) × (t < placeCount (p .H) (p .layers)) × (nameAt (unitPlaces image p) t ≡ n)
-  name-place n h = on .layout .catalog .there n _ h
+  name-place n h = on .layout .sys .places .there n _ h
 
   pub remove-ends : (name : Name) → Ends p (λ lent. lent) (writes image (Removed p image (named name))) (stepRemove p name)
   remove-ends name =
@@ -124,7 +124,7 @@ module _ {image : List ℕ} {p : Plain} (on : OnDisc image p) where
       give (tableFind (named name) (p .files)) (refuse 0x1200 (omega arith)) (λ f file.
       ask (not (isSome (tableFind (named name) (p .areas)))) 0x1200 (omega arith) (λ shut. ask (not (permanent (f .attributes))) 0x1200 (omega arith) (λ _.
       let at = name-place (named name) (is-some (entry p (named name)) entered .1) in
-      finish _ (removedImage p image (at .0) f)
+      finish _ (removedImage p (sysOf p) image (at .0) f)
       (record {
         f = f;
         file = file;

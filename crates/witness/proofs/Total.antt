@@ -25,7 +25,9 @@ use Rattle.refine.specs.Represents.{Represents}
 use Rattle.refine.specs.Demands.{Performed, empty, then}
 use Rattle.refine.proofs.SoundRepresents.{sound-represents}
 use Rattle.steps.proofs.Whole.{on-disc}
-use Rattle.known.specs.Known.{unknownWord, unsoundWord, unitMeant, Ready, Known}
+use Rattle.known.specs.declared.Class.{Class}
+use Rattle.known.specs.declared.Class.the-variants as class
+use Rattle.known.specs.Known.{classified, unknownWord, unsoundWord, unitMeant, Ready, Known}
 use Rattle.format.specs.Format.{FormatAnswer}
 use Rattle.perform.specs.Perform.{performed, Obeyed, Performs, unknown, unsound, obeyed}
 use Rattle.perform.proofs.ObeyLaws.{meant, stays, create-by, set-by, remove-by, change-by, create-area-by, remove-area-by, area-message-obeyed, init-obeyed}
@@ -84,22 +86,15 @@ module _ (state : State) (eight : length (state .areas) ≡ 8) where
   initialized-or : {C : Type 0} → (state .initialized ≡ true → C) → ((state .initialized ≡ true → ⊥) → C) → C
   initialized-or f h = true-or (state .initialized) f (λ e. h (λ t. true≢false (sym t ∙ e)))
 
-  ready-or : (message : Message) {C : Type 0} → (Ready state message → C) → ((Ready state message → ⊥) → C) → C
-  ready-or (Init unit) f h = let d = none-open state eight in true-or (not (anyOpen state)) (λ e. f (d .yes e)) (λ e. h (d .not e))
-  ready-or (Set name) f h = initialized-or f h
-  ready-or (Create name size attributes) f h = initialized-or f h
-  ready-or (LookUp name) f h = initialized-or f h
-  ready-or (Change name) f h = initialized-or f h
-  ready-or (Remove name) f h = initialized-or f h
-  ready-or (CreateArea name) f h = initialized-or f h
-  ready-or (RemoveArea name) f h = initialized-or f h
-  ready-or (AreaMessage name sender operation) f h = initialized-or f h
-  ready-or (UnitDescription unit bytes) f h = initialized-or f h
-  ready-or (Listing unit) f h = initialized-or f h
+  ready-or : (kind : Class) {C : Type 0} → (Ready state kind → C) → ((Ready state kind → ⊥) → C) → C
+  ready-or class.Init f h = let d = none-open state eight in true-or (not (anyOpen state)) (λ e. f (d .yes e)) (λ e. h (d .not e))
+  ready-or class.Catalog f h = initialized-or f h
+  ready-or class.Area f h = initialized-or f h
+  ready-or class.Report f h = initialized-or f h
 
   known-or : (message : Message) {C : Type 0} → (Known state message → C) → ((Known state message → ⊥) → C) → C
   known-or message f h = same-or (unitMeant message) (state .unit)
-      (λ e. below-or 3 (state .unit) (λ x. h (λ k. omega (arith, k .low))) (λ x. ready-or message (λ r. f (record { number = e; low = x; ready = r })) (λ n. h (λ k. n (k .ready)))))
+      (λ e. below-or 3 (state .unit) (λ x. h (λ k. omega (arith, k .low))) (λ x. ready-or (classified message .class) (λ r. f (record { number = e; low = x; ready = r })) (λ n. h (λ k. n (k .ready)))))
       (λ d. h (λ k. d (k .number)))
 
 -- ---- the one call

@@ -23,7 +23,7 @@ use Rattle.unit.specs.declared.Opened.{Opened}
 use Rattle.unit.specs.Opened.{NumbersOf}
 use Rattle.sharing.specs.declared.AreaReply.{AreaReply}
 use Rattle.sharing.specs.Sharing.{atPosition, positionWord}
-use Rattle.sharing.specs.Leaves.{Seat, areaUsers, areaUser}
+use Rattle.sharing.specs.Seat.{Seat, areaUsers, areaUser}
 use Rattle.output.specs.Output.{roomWord, CanAppendFrom, Placed, OutputLeaves, Outputs}
 use Rattle.output.proofs.OutputLaws.{placed-on, placed-live, refused, replaced, fixed, no-room, appended}
 use Rattle.transput.specs.Transput.{refusalWord, InputLeaves, Inputs, TransputsAt, TransputLeaves, Transputs}

@@ -18,8 +18,8 @@ use Rattle.plain.specs.Areas.{stepReserve, stepRelease, positioned}
 use Rattle.plain.specs.Transput.{input, append, output, stepTransput}
 use Rattle.plain.specs.Step.{Call, Reply, answers, userStep, operationStep}
 use Rattle.plain.specs.Claims.{LentWords}
-use Rattle.plain.specs.Cases.{callsOf, answersIn, Shows}
-use Rattle.plain.specs.Paper.{paperUnit}
+use Rattle.examples.specs.Cases.{callsOf, answersIn, Shows}
+use Rattle.examples.specs.Paper.{paperUnit}
 use Rattle.sound.specs.Sound.{SoundUnit}
 use Rattle.refine.specs.Demands.{Contract, Run, empty, then}
 use Rattle.known.specs.Known.{Known}

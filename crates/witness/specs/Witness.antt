@@ -10,8 +10,8 @@ use Rattle.types.specs.State.{freshState}
 use Rattle.disc.specs.Words.{Words}
 use Rattle.words.specs.Store.{zeroWords}
 use Rattle.plain.specs.Claims.{LentWords}
-use Rattle.plain.specs.Cases.{Case, gives, givesAt, callsOf, expected, answersIn}
-use Rattle.plain.specs.Paper.{pass, zzzzz, sectorOf, passArea, sevenCalls}
+use Rattle.examples.specs.Cases.{Case, gives, givesAt, callsOf, expected, answersIn}
+use Rattle.examples.specs.Paper.{pass, zzzzz, sectorOf, passArea, sevenCalls}
 use Rattle.sound.specs.Sound.{SoundUnit}
 use Rattle.refine.specs.Demands.{Performed, Contract, AcceptedState}
 use Rattle.format.specs.declared.Formatted.{Formatted}

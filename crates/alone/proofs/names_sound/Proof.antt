@@ -1,7 +1,6 @@
 -- `alone::names_sound` meets its contract. Assumes nothing.
 use mathlib.Core.Path.{refl}
 use native.Mathlib.Omega.{arith}
-use borrow.Author.Needs.{needs}
 use Rattle.disc.proofs.DecideLaws.{grants}
 use Rattle.entries.proofs.SysLaws.{sys-small}
 use Rattle.alone.proofs.SoundLaws.{not-sound, judged-entered}
@@ -9,34 +8,34 @@ use Rattle.alone.proofs.names_sound.Statement.{statement}
 use Rattle.alone.proofs.names_sound.Tie as tie
 
 inverse-requires : tie.Need-inverse-requires
-inverse-requires c κs = search needs
+inverse-requires c κs = c .before .pre .sys .unit .limits .keys-low
 
 mul-t6 : tie.Need-mul-t6
-mul-t6 c = let pre = c .before .before .before .pre in record { fits = omega (arith, pre .1, sys-small (pre .0), pre .0 .unit .limits .sectors) }
+mul-t6 c = let sys = c .before .before .before .before .pre in record { fits = omega (arith, sys .room, sys-small (sys .sys), sys .sys .unit .limits .sectors) }
 
 sys-sectors-requires : tie.Need-sys-sectors-requires
-sys-sectors-requires c κs = search needs
+sys-sectors-requires c κs = c .before .before .before .before .pre .sys
 
 places-sound-requires : tie.Need-places-sound-requires
-places-sound-requires c κs = search needs
+places-sound-requires c κs = record { catalog = c .before .before .before .before .before .pre; whole = refl; room = omega arith }
 
 returns : tie.Need-returns
 returns c =
     let read = c .before .before in
-    let start = read .before .before .before .before in
-    not-sound (start .args .image .now) (start .args .g) (start .args .layers) _ refl (read .sys-sectors .ensures) (c .before .places-sound .ensures) (c .if1 .taken)
+    let start = read .before .before .before .before .before in
+    not-sound (start .args .image .now) (start .args .g) (start .args .sys .layers) _ refl (read .sys-sectors .ensures) (c .before .places-sound .ensures) (c .if1 .taken)
 
 system-entered-requires : tie.Need-system-entered-requires
 system-entered-requires c κs =
-    let pre = c .before .before .before .before .before .before .pre in
-    (pre .0, pre .1, grants _ (c .before .places-sound .ensures) (c .if1 .left) .0)
+    let sys = c .before .before .before .before .before .before .before .pre in
+    (record { catalog = sys; whole = refl; room = omega arith }, grants _ (c .before .places-sound .ensures) (c .if1 .left) .0)
 
 returns-2 : tie.Need-returns-2
 returns-2 c =
     let places = c .before .before in
     let read = places .before in
-    let start = read .before .before .before .before in
-    judged-entered (start .args .image .now) (start .args .g) (start .args .layers) _ refl (read .sys-sectors .ensures) (places .places-sound .ensures) (c .before .if1 .left) (c .system-entered .ensures)
+    let start = read .before .before .before .before .before in
+    judged-entered (start .args .image .now) (start .args .g) (start .args .sys .layers) _ refl (read .sys-sectors .ensures) (places .places-sound .ensures) (c .before .if1 .left) (c .system-entered .ensures)
 
 pub names-sound-spec : {M : Type 1} → statement M
 names-sound-spec =

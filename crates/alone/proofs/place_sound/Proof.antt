@@ -1,6 +1,6 @@
 -- `alone::place_sound` meets its contract. Assumes nothing.
-use mathlib.Core.Path.{sym}
-use Prim.Native.Nat.{_+_, _*_, _/_, _%_, _≤_}
+use mathlib.Core.Path.{_≡_, sym, ap, _∙_}
+use Prim.Native.Nat.{ℕ, _+_, _*_, _/_, _%_, _≤_}
 use native.Mathlib.Nat.{mod-lt}
 use native.Mathlib.Omega.{arith}
 use lib.ListN.{length}
@@ -10,29 +10,30 @@ use Rattle.disc.proofs.DecideLaws.{grants}
 use Rattle.entries.specs.Legal.{NameIn, PlaceLegal, ownEntry}
 use Rattle.entries.specs.Sys.{sysSlices, placesIn}
 use Rattle.entries.proofs.SysLaws.{sys-inside}
+use Rattle.entries.proofs.FindLaws.{in-keys}
 use Rattle.entries.proofs.PlaceLaws.{name-packed}
 use Rattle.entries.proofs.BlockLaws.{name-block, place-block}
-use Rattle.alone.proofs.AloneLaws.{scanned, not-legal, not-noted, passed-unused, passed-new, passed-first, not-alone, zero-unused, some-name, stands-here}
+use Rattle.alone.proofs.AloneLaws.{scanned, not-legal, not-noted, passed-unused, passed-new, passed-first, not-alone, zero-unused, some-name, own-key, in-slices}
 use Rattle.alone.proofs.place_sound.Statement.{statement}
 use Rattle.alone.proofs.place_sound.Tie as tie
 
 -- the sector is in the image
 inside : (c : tie.Start) → c .args .q .0 * 256 + 256 ≤ length (c .args .image .now)
 inside c =
-    let sys = c .pre .0 .sys in
-    omega (arith, c .pre .2, sys-inside sys (c .args .b .0) (omega (arith, c .pre .0 .room)), sys .unit .size)
+    let sys = c .pre .0 .catalog .sys in
+    omega (arith, c .pre .2, sys-inside sys (c .args .b .0) (omega (arith, in-slices (c .pre .0))), sys .unit .size)
 
 -- what was judged, of the place of SYS
 judged : (c : tie.After-place-legal) → let a = c .before .before .args in
-    Decides (c .place-legal .result) (PlaceLegal (placesIn (a .image .now) (a .g)) (a .g .keys) ((16 * a .b .0 + a .i) / 16 % a .g .keys) (ownEntry (a .catalog)) (16 * a .b .0 + a .i))
+    Decides (c .place-legal .result) (PlaceLegal (placesIn (a .image .now) (a .g)) (a .g .keys) ((16 * a .b .0 + a .i) / 16 % a .g .keys) (ownEntry (a .expected)) (16 * a .b .0 + a .i))
 judged c =
     let start = c .before .before in
     let a = start .args in
-    place-block (a .image .now) (a .g .first .0) (a .g .slice) (sysSlices (a .image .now) (a .g)) (a .b .0) (a .i) (a .q .0) (start .pre .4) (start .pre .2) (start .pre .0 .keys) (start .pre .3) (c .place-legal .ensures)
+    place-block (a .image .now) (a .g .first .0) (a .g .slice) (sysSlices (a .image .now) (a .g)) (a .b .0) (a .i) (a .q .0) (start .pre .4) (start .pre .2) (in-keys (start .pre .0 .catalog)) (start .pre .3) (c .place-legal .ensures)
 
 -- it is legal
 legal : (c : tie.Else1) → let a = c .before .before .before .args in
-    PlaceLegal (placesIn (a .image .now) (a .g)) (a .g .keys) ((16 * a .b .0 + a .i) / 16 % a .g .keys) (ownEntry (a .catalog)) (16 * a .b .0 + a .i)
+    PlaceLegal (placesIn (a .image .now) (a .g)) (a .g .keys) ((16 * a .b .0 + a .i) / 16 % a .g .keys) (ownEntry (a .expected)) (16 * a .b .0 + a .i)
 legal c = grants _ (judged (c .before)) (c .if1 .left)
 
 -- the name, in the place of SYS
@@ -45,8 +46,8 @@ name-of c =
 place-legal-requires : tie.Need-place-legal-requires
 place-legal-requires c κs =
     let start = c .before in
-    let sys = start .pre .0 .sys in
-    (inside start, start .pre .4, omega (arith, start .pre .3, start .pre .0 .keys, mod-lt (start .args .b .0) {m = start .args .g .keys} (omega (arith, sys .unit .limits .keys-low))), start .pre .1)
+    let sys = start .pre .0 .catalog in
+    (inside start, start .pre .4, omega (arith, start .pre .3, in-keys sys, mod-lt (start .args .b .0) {m = start .args .g .keys} (omega (arith, sys .sys .unit .limits .keys-low))), start .pre .1)
 
 returns : tie.Need-returns
 returns c = not-legal (judged (c .before)) (c .if1 .taken)
@@ -71,14 +72,24 @@ returns-3 c =
 
 is-first-requires : tie.Need-is-first-requires
 is-first-requires c κs =
-    let first = c .before .before .before in
+    let first = c .before .before .before .before in
     let named = first .before .before in
     let start = named .before .before .before .before in
-    (start .pre .0 .sys, start .pre .0 .room, start .pre .4, stands-here (name-of named) (legal (named .before)) (first .if2 .left))
+    let a = start .args in
+    let block : (16 * a .b .0 + a .i) / 16 ≡ a .b .0 = omega (arith, start .pre .4) in (
+      start .pre .0 .catalog,
+      record {
+        sector = start .pre .2;
+        inside = omega (arith, start .pre .0 .room, start .pre .0 .whole);
+        place = start .pre .4;
+        key = ap (λ (x : ℕ). x % a .g .keys) (sym block) ∙ own-key (name-of named) (legal (named .before)) (first .if2 .left);
+        named = sym (name-packed (name-of named));
+      },
+    )
 
 returns-4 : tie.Need-returns-4
 returns-4 c =
-    let k = c .before .before in
+    let k = c .before .before .before in
     let first = k .before .before in
     let named = first .before .before in
     let start = named .before .before .before .before in

@@ -10,10 +10,10 @@ use Rattle.alone.proofs.sector_sound.Statement.{statement}
 use Rattle.alone.proofs.sector_sound.Tie as tie
 
 abbrev Inv-loop : tie.InvT-loop
-Inv-loop image g q b key catalog classes filter₀ i₀ filter i = (i ≤ 16) × Passed (placesIn image g) (g .keys) (ownEntry catalog) filter (16 * b .0 + i)
+Inv-loop image g q b key expected classes filter₀ i₀ filter i = (i ≤ 16) × Passed (placesIn image g) (g .keys) (ownEntry expected) filter (16 * b .0 + i)
 
 abbrev μ-loop : tie.MeasureT-loop
-μ-loop image g q b key catalog classes filter₀ i₀ filter i = 16 - i
+μ-loop image g q b key expected classes filter₀ i₀ filter i = 16 - i
 
 loop-holds : tie.Need-loop-holds Inv-loop μ-loop
 loop-holds c = (omega arith, passed-at (omega arith) (c .before .pre .4))

@@ -10,19 +10,19 @@ use Rattle.entries.specs.Sys.{placesIn}
 use Rattle.entries.proofs.SysLaws.{sys-small}
 use Rattle.entries.proofs.BlockLaws.{key-next}
 use Rattle.alone.specs.Scan.{Passed}
-use Rattle.alone.proofs.AloneLaws.{passed-at, scanned, refused, granted, fewer}
+use Rattle.alone.proofs.AloneLaws.{passed-at, scanned, refused, granted, in-slices, fewer}
 use Rattle.alone.proofs.stretch_sound.Statement.{statement}
 use Rattle.alone.proofs.stretch_sound.Tie as tie
 
 abbrev Inv-loop : tie.InvT-loop
-Inv-loop image g n catalog classes filter₀ first block keys key₀ c₀ filter key c =
-    (c ≤ n) × (key ≡ (block + c) % g .keys) × Passed (placesIn image g) (g .keys) (ownEntry catalog) filter (16 * (block + c))
+Inv-loop image g n expected classes filter₀ first block keys key₀ c₀ filter key c =
+    (c ≤ n) × (key ≡ (block + c) % g .keys) × Passed (placesIn image g) (g .keys) (ownEntry expected) filter (16 * (block + c))
 
 abbrev μ-loop : tie.MeasureT-loop
-μ-loop image g n catalog classes filter₀ first block keys key₀ c₀ filter key c = n - c
+μ-loop image g n expected classes filter₀ first block keys key₀ c₀ filter key c = n - c
 
 rem-key : tie.Need-rem-key Inv-loop μ-loop
-rem-key c = omega (arith, c .before .pre .0 .sys .unit .limits .keys-low)
+rem-key c = omega (arith, c .before .pre .0 .catalog .sys .unit .limits .keys-low)
 
 loop-holds : tie.Need-loop-holds Inv-loop μ-loop
 loop-holds c =
@@ -33,7 +33,7 @@ add-t15 : tie.Need-add-t15 Inv-loop μ-loop
 add-t15 c = search needs
 
 add-t17 : tie.Need-add-t17 Inv-loop μ-loop
-add-t17 c = let l = c .before .before .before .pre .0 in omega (arith, l .room, sys-small (l .sys), l .sys .unit .limits .sectors)
+add-t17 c = let l = c .before .before .before .pre .0 in omega (arith, in-slices l, sys-small (l .catalog .sys), l .catalog .sys .unit .limits .sectors)
 
 sector-sound-requires : tie.Need-sector-sound-requires Inv-loop μ-loop
 sector-sound-requires c κs =
@@ -48,7 +48,7 @@ next-key-requires : tie.Need-next-key-requires Inv-loop μ-loop
 next-key-requires c κs =
     let at = c .before .before .before .before in
     let start = at .before .before in
-    omega (arith, at .loop .inv .1, mod-lt (start .args .b .0 + at .loop .c) {m = start .args .g .keys} (omega (arith, start .pre .0 .sys .unit .limits .keys-low)))
+    omega (arith, at .loop .inv .1, mod-lt (start .args .b .0 + at .loop .c) {m = start .args .g .keys} (omega (arith, start .pre .0 .catalog .sys .unit .limits .keys-low)))
 
 add-c : tie.Need-add-c Inv-loop μ-loop
 add-c c = search needs

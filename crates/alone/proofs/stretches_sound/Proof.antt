@@ -10,30 +10,30 @@ use Rattle.entries.specs.Legal.{ownEntry}
 use Rattle.entries.specs.Sys.{placesIn}
 use Rattle.entries.proofs.SysLaws.{Turn, turn, sys-small}
 use Rattle.alone.specs.Scan.{Passed}
-use Rattle.alone.proofs.AloneLaws.{passed-none, passed-at, scanned, refused, granted, fewer}
+use Rattle.alone.proofs.AloneLaws.{passed-none, passed-at, scanned, refused, granted, in-slices, fewer}
 use Rattle.alone.proofs.stretches_sound.Statement.{statement}
 use Rattle.alone.proofs.stretches_sound.Tie as tie
 
 abbrev Inv-loop : tie.InvT-loop
-Inv-loop image g catalog classes filter₀ size b₀ j₀ filter b j =
-    (j ≤ word image 6 0) × (b .0 ≤ catalog .size) × (b .0 < catalog .size → b .0 ≡ sectorsBefore image 6 j) × Passed (placesIn image g) (g .keys) (ownEntry catalog) filter (16 * b .0)
+Inv-loop image g expected classes filter₀ size b₀ j₀ filter b j =
+    (j ≤ word image 6 0) × (b .0 ≤ expected .size) × (b .0 < expected .size → b .0 ≡ sectorsBefore image 6 j) × Passed (placesIn image g) (g .keys) (ownEntry expected) filter (16 * b .0)
 
 abbrev μ-loop : tie.MeasureT-loop
-μ-loop image g catalog classes filter₀ size b₀ j₀ filter b j = word image 6 0 - j
+μ-loop image g expected classes filter₀ size b₀ j₀ filter b j = word image 6 0 - j
 
 -- the turn, known once its numbers are read
 turn-of : (c : tie.After-pair-start Inv-loop μ-loop) → let at = c .before .before .before .before .before .before in let a = at .before .before .args in
-    Turn (a .image .now) (a .g) (a .catalog .size) (at .loop .j) (at .loop .b .0) (c .before .lesser .result) (c .pair-start .result .0)
+    Turn (a .image .now) (a .g) (a .expected .size) (at .loop .j) (at .loop .b .0) (c .before .lesser .result) (c .pair-start .result .0)
 turn-of c =
     let at = c .before .before .before .before .before .before in
     let l = at .before .before .pre .0 in
-    turn (l .sys) (at .loop .j) (l .room) (at .loop .inv .0) (at .loop .inv .2) (c .before .before .before .before .if1 .taken) (c .before .before .before .pair-length .ensures) (c .before .lesser .ensures) (c .pair-start .ensures)
+    turn (l .catalog .sys) (at .loop .j) (in-slices l) (at .loop .inv .0) (at .loop .inv .2) (c .before .before .before .before .if1 .taken) (c .before .before .before .pair-length .ensures) (c .before .lesser .ensures) (c .pair-start .ensures)
 
 loop-holds : tie.Need-loop-holds Inv-loop μ-loop
 loop-holds c = (omega arith, omega arith, λ h. refl, passed-none _ (c .before .pre .2))
 
 pair-length-requires : tie.Need-pair-length-requires Inv-loop μ-loop
-pair-length-requires c κs = omega (arith, c .before .before .before .before .pre .0 .sys .index .few)
+pair-length-requires c κs = omega (arith, c .before .before .before .before .pre .0 .catalog .sys .index .few)
 
 sub-lesser : tie.Need-sub-lesser Inv-loop μ-loop
 sub-lesser c = search needs
@@ -42,7 +42,7 @@ lesser-requires : tie.Need-lesser-requires Inv-loop μ-loop
 lesser-requires c κs = search needs
 
 pair-start-requires : tie.Need-pair-start-requires Inv-loop μ-loop
-pair-start-requires c κs = omega (arith, c .before .before .before .before .before .before .before .pre .0 .sys .index .few)
+pair-start-requires c κs = omega (arith, c .before .before .before .before .before .before .before .pre .0 .catalog .sys .index .few)
 
 stretch-sound-requires : tie.Need-stretch-sound-requires Inv-loop μ-loop
 stretch-sound-requires c κs =
@@ -56,10 +56,10 @@ returns c =
     let t = turn-of (c .before .before .before) in
     refused (c .before .stretch-sound .ensures) (c .if2 .taken) (omega (arith, t .high))
 
-add-t13 : tie.Need-add-t13 Inv-loop μ-loop
-add-t13 c =
+add-t12 : tie.Need-add-t12 Inv-loop μ-loop
+add-t12 c =
     let l = c .before .before .before .before .before .before .before .before .before .before .before .before .pre .0 in
-    omega (arith, turn-of (c .before .before .before .before) .high, l .room, sys-small (l .sys), l .sys .unit .limits .sectors)
+    omega (arith, turn-of (c .before .before .before .before) .high, in-slices l, sys-small (l .catalog .sys), l .catalog .sys .unit .limits .sectors)
 
 add-j : tie.Need-add-j Inv-loop μ-loop
 add-j c = omega (arith, turn-of (c .before .before .before .before) .more)
@@ -88,7 +88,7 @@ stretches-sound-spec =
     pair-start-requires
     stretch-sound-requires
     returns
-    add-t13
+    add-t12
     add-j
     loop-less
     loop-again

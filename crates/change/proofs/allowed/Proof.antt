@@ -1,6 +1,7 @@
 -- `change::allowed` meets its contract. Assumes nothing.
 use borrow.Author.Needs.{needs}
-use Rattle.change.proofs.WantedLaws.{was-false, was-true, no-name, no-attributes, no-slices, not-permanent, renames, keeps}
+use Rattle.disc.proofs.DecideLaws.{was-false, was-true}
+use Rattle.change.proofs.WantedLaws.{no-name, no-attributes, no-slices, not-permanent, renames, keeps}
 use Rattle.change.proofs.allowed.Statement.{statement}
 use Rattle.change.proofs.allowed.Tie as tie
 

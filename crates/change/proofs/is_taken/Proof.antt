@@ -1,8 +1,8 @@
 -- `change::is_taken` meets its contract. Assumes nothing.
 use mathlib.Core.Path.{refl}
 use borrow.Author.Needs.{needs}
+use Rattle.disc.proofs.DecideLaws.{was-false, was-true}
 use Rattle.unit.proofs.OpenLaws.{searchable}
-use Rattle.change.proofs.WantedLaws.{was-false, was-true}
 use Rattle.change.proofs.LayerLaws.{taken-kept, taken-at, taken-not}
 use Rattle.change.proofs.is_taken.Statement.{statement}
 use Rattle.change.proofs.is_taken.Tie as tie

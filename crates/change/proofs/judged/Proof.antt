@@ -1,6 +1,6 @@
 -- `change::judged` meets its contract. Assumes nothing.
 use borrow.Author.Needs.{needs}
-use Rattle.change.proofs.WantedLaws.{was-false, was-true}
+use Rattle.disc.proofs.DecideLaws.{was-false, was-true}
 use Rattle.change.proofs.JudgeLaws.{asked-on, judge-illegal, judge-entered, judge-room, can-ask}
 use Rattle.change.proofs.judged.Statement.{statement}
 use Rattle.change.proofs.judged.Tie as tie

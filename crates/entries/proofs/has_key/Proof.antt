@@ -37,12 +37,12 @@ module _ (sum inverse keys : ℕ) (low : sum < 65536) (some : inverse < 42949672
   guessed : sum * inverse / 2147483648 * keys ≤ 131070 * 65535
   guessed = let l : sum * inverse / 2147483648 ≤ 131070 = omega (arith, product) in let m : keys ≤ 65535 = omega arith in mul-le-mul l m
 
-small : (c : tie.After-struct-known) → let a = c .before .before .before .args .catalog in let sum = c .before .wrapping-add-u162 .result in
-    (sum * a .inverse ≤ 65535 * 4294967295) × (sum * a .inverse / 2147483648 * a .keys ≤ 131070 * 65535)
+small : (c : tie.After-struct-known) → let a = c .before .before .before .args .expected in let sum = c .before .wrapping-add-u162 .result in
+    (sum * a .inverse ≤ 65535 * 4294967295) × (sum * a .inverse / 2147483648 * a .catalog .keys ≤ 131070 * 65535)
 small c =
-    let a = c .before .before .before .args .catalog in
+    let a = c .before .before .before .args .expected in
     let sum = c .before .wrapping-add-u162 .result in
-    (product sum (a .inverse) (a .keys) (omega arith) (omega arith) (omega arith), guessed sum (a .inverse) (a .keys) (omega arith) (omega arith) (omega arith))
+    (product sum (a .inverse) (a .catalog .keys) (omega arith) (omega arith) (omega arith), guessed sum (a .inverse) (a .catalog .keys) (omega arith) (omega arith) (omega arith))
 
 mul-quotient : tie.Need-mul-quotient
 mul-quotient c = record { fits = omega (arith, small c .0) }
@@ -69,7 +69,7 @@ returns : tie.Need-returns
 returns c =
     let a = c .before .before .before .before .args in
     let sum = c .before .before .wrapping-add-u162 .result in
-    holds (sym (key-is (a .name .0) (a .name .1) (a .name .2) (a .catalog .keys) (sum * a .catalog .inverse / 2147483648) (omega arith) (omega arith) {sum = sum} (omega arith) (c .if1 .taken) (omega arith)))
+    holds (sym (key-is (a .name .0) (a .name .1) (a .name .2) (a .expected .catalog .keys) (sum * a .expected .inverse / 2147483648) (omega arith) (omega arith) {sum = sum} (omega arith) (c .if1 .taken) (omega arith)))
 
 key-requires : tie.Need-key-requires
 key-requires c κs = search needs

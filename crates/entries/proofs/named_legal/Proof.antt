@@ -17,7 +17,7 @@ is-entry-requires c κs = search needs
 returns : tie.Need-returns
 returns c =
     let same = c .before .before in
-    judged-sys (same .before .before .before .pre .2) (same .same-name .ensures) (same .before .before .before .args .catalog) (same .before .sys-name .ensures) (c .before .if1 .taken) (c .is-entry .ensures)
+    judged-sys (same .before .before .before .pre .2) (same .same-name .ensures) (same .before .before .before .args .expected) (same .before .sys-name .ensures) (c .before .if1 .taken) (c .is-entry .ensures)
 
 map-name-requires : tie.Need-map-name-requires
 map-name-requires c κs = search needs

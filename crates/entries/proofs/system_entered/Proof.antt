@@ -1,17 +1,24 @@
 -- `entries::system_entered` meets its contract. Assumes nothing.
+use mathlib.Core.Path.{_≡_, ap}
+use Prim.Native.Nat.{ℕ, _*_}
 use lib.Dec.{lit<}
 use borrow.Author.Needs.{needs}
+use Rattle.disc.specs.Entries.{placeCount}
 use Rattle.disc.proofs.DecideLaws.{holds, fails}
-use Rattle.entries.proofs.FindLaws.{found-at, found-none}
+use Rattle.entries.proofs.FindLaws.{some-key}
 use Rattle.entries.proofs.NamesLaws.{met, not-met}
 use Rattle.entries.proofs.system_entered.Statement.{statement}
 use Rattle.entries.proofs.system_entered.Tie as tie
+
+-- the places of all layers
+all : (c : tie.Start) → 16 * c .args .expected .size ≡ placeCount (c .args .g .keys) (c .args .expected .catalog .layers)
+all c = ap (λ (n : ℕ). 16 * n) (c .pre .0 .whole)
 
 sys-name-requires : tie.Need-sys-name-requires
 sys-name-requires c κs = search needs
 
 find-requires : tie.Need-find-requires
-find-requires c κs = search needs
+find-requires c κs = some-key (c .before .before .before .pre .0 .catalog)
 
 enum-told : tie.Need-enum-told
 enum-told c = search needs
@@ -22,13 +29,14 @@ enum-told-2 c = search needs
 returns : tie.Need-returns
 returns c =
     let f = c .before .before in
-    fails (λ n. not-met (f .before .sys-name .ensures .packed) (lit< tt) (n .places) (found-none (c .enum-told2 .given .1) (f .find .ensures .place)) (n .sysMet))
+    let start = f .before .before .before .before in
+    fails (λ n. not-met (start .pre .0 .catalog) (all start) (f .before .sys-name .ensures .packed) (f .find .ensures) (lit< tt) (n .places) (c .enum-told2 .given .1) (n .sysMet))
 
 map-name-requires : tie.Need-map-name-requires
 map-name-requires c κs = search needs
 
 find-requires-2 : tie.Need-find-requires-2
-find-requires-2 c κs = search needs
+find-requires-2 c κs = some-key (c .before .before .before .before .before .before .before .pre .0 .catalog)
 
 enum-told-3 : tie.Need-enum-told-3
 enum-told-3 c = search needs
@@ -39,17 +47,19 @@ enum-told-4 c = search needs
 returns-2 : tie.Need-returns-2
 returns-2 c =
     let f = c .before .before in
-    fails (λ n. not-met (f .before .map-name .ensures .packed) (lit< tt) (n .places) (found-none (c .enum-told4 .given .1) (f .find2 .ensures .place)) (n .mapMet))
+    let start = f .before .before .before .before .before .before .before .before in
+    fails (λ n. not-met (start .pre .0 .catalog) (all start) (f .before .map-name .ensures .packed) (f .find2 .ensures) (lit< tt) (n .places) (c .enum-told4 .given .1) (n .mapMet))
 
 returns-3 : tie.Need-returns-3
 returns-3 c =
     let map = c .before .before in
     let told = map .before .before in
     let sys = told .before .before in
+    let start = sys .before .before .before .before in
     holds (record {
-      places = sys .before .before .before .pre .2;
-      sysMet = met (sys .before .sys-name .ensures .packed) (found-at (told .enum-told .given .1) (sys .find .ensures .place));
-      mapMet = met (map .before .map-name .ensures .packed) (found-at (c .enum-told3 .given .1) (map .find2 .ensures .place));
+      places = start .pre .1;
+      sysMet = met (start .pre .0 .catalog) (all start) (sys .before .sys-name .ensures .packed) (sys .find .ensures) (told .enum-told .given .1);
+      mapMet = met (start .pre .0 .catalog) (all start) (map .before .map-name .ensures .packed) (map .find2 .ensures) (c .enum-told3 .given .1);
     })
 
 pub system-entered-spec : {M : Type 1} → statement M

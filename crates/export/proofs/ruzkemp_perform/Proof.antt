@@ -1,7 +1,7 @@
--- `export::ruzkemp_perform` meets its contract: the mirror behind the reference is the step's.
--- The function takes a reference to a struct, so its MIR is walked by hand, statement by statement: the borrow of the state is opened, the
--- state is copied out and passed to `step` with the rest, the state that `step` returned is stored over the old one, and the borrow is
--- closed at it. The slices are passed on for good, each at its own lifetime, share and name. All that the proof knows of `step` is that it
+-- `export::ruzkemp_perform` meets its contract: what is behind the reference is the state that `step` returned. Made by tools/walks/make.
+-- The function takes a reference to a struct, so its MIR is walked statement by statement: the borrow of the state is opened, the state is
+-- copied out and passed to `step` with the rest, the state that `step` returned is stored over the old one, and the borrow is closed at
+-- it. The mutable slices are passed on for good, each at its own lifetime, share and name. All that the proof knows of `step` is that it
 -- meets its contract. Assumes nothing.
 use mathlib.Core.Path.{_≡_, refl, ap}
 use Prim.Native.Nat.{ℕ}
@@ -43,7 +43,7 @@ use denote.Triple.Table.{entered, cited}
 use denote.Triple.Walked.{says, Stays, stay-ref, stay-dropped, gave-slice, walkOf, AllGo, goes-dropped, goes-ref, goes-gave-slice, Walks, ends-at, walked, walk-meets}
 use denote.Exit.{yes}
 use Rattle.export.specs.Calls.{unitPerformed, UnitPerforms}
--- the types and their laws: T of UnitState, O of UnitOutcome, B of UnitAnswer, Q of UnitMessage
+-- the types and their laws: T of the state, O of what `step` returns, B of the result, Q0 and on of the values, but for numbers
 use Rattle.export.specs.declared.UnitState.{UnitState}
 use Rattle.export.proofs.UnitState as T
 use Rattle.export.proofs.UnitState.Laws as T′
@@ -53,8 +53,8 @@ use Rattle.export.proofs.UnitOutcome.Laws as O′
 use Rattle.export.proofs.UnitAnswer as B
 use Rattle.export.proofs.UnitAnswer.Laws as B′
 use Rattle.export.specs.declared.UnitMessage.{UnitMessage}
-use Rattle.export.proofs.UnitMessage as Q
-use Rattle.export.proofs.UnitMessage.Laws as Q′
+use Rattle.export.proofs.UnitMessage as Q0
+use Rattle.export.proofs.UnitMessage.Laws as Q0′
 use Rattle.export.proofs.step as step
 use Rattle.export.proofs.step.Symbol as step-def
 use Rattle.export.proofs.step.Symbol.{name as #step}
@@ -65,7 +65,7 @@ use Rattle.export.proofs.ruzkemp_perform.Statement as stated
 use Rattle.export.proofs.ruzkemp_perform.Code as code
 
 abbrev stayed : Stays (call.ended .signature .params) (call.ended .kept)
-stayed = (stay-ref (0 ∷ []) tt (plain (λ _. T.the-row)), (gave-slice (1 ∷ []) tt (plain (λ _. u16)), (gave-slice (2 ∷ []) tt (plain (λ _. u16)), (stay-dropped (plain (λ _. Q.the-row)) yes, tt))))
+stayed = (stay-ref (0 ∷ []) tt (plain (λ _. T.the-row)), (gave-slice (1 ∷ []) tt (plain (λ _. u16)), (gave-slice (2 ∷ []) tt (plain (λ _. u16)), (stay-dropped (plain (λ _. Q0.the-row)) yes, tt))))
 
 -- the contract that the proof cites
 abbrev Step : {M : Type 1} (𝓤 : URA M) (H : Heap 𝓤) (A : Atoms 𝓤) (mem : Memory → SProp 𝓤) (run : Routine → Fun 𝓤) → Contract 𝓤
@@ -92,33 +92,25 @@ result-is : (r : UnitOutcome) (v : Val) → Is O.the-row r (v ∷ []) → Is B.t
 result-is r v g = LL.owed O.the-type O′.the-laws r _ g .0
 
 module _ {M : Type 1} (𝓤 : URA M) (H : Heap 𝓤) (A : Atoms 𝓤) (W : Given 𝓤 H A) (at-mem : Memory → SProp 𝓤) (run : Routine → Fun 𝓤)
-    (κ0 κ1 κ2 : Lft) (q0 q1 q2 : Share) (b o : ℕ) (γ : GName) (h : UnitState)
+    (κ0 κ1 κ2 : Lft) (q0 q1 q2 : Share)
     (b0 o0 : ℕ) (γ0 : GName) (image : List ℕ) (room0 : Room u16 (length image))
     (b1 o1 : ℕ) (γ1 : GName) (lent : List ℕ) (room1 : Room u16 (length lent))
-    (message : UnitMessage) (message-is : Is Q.the-row message (LL.vals Q.the-type Q′.the-laws message)) where
-  abbrev x0 : RefT (List ℕ)
-  x0 = record { ptr = (b0, o0); name = γ0; now = image }
-
-  abbrev v0 : Val
-  v0 = sliceVal (b0, o0) (length image)
-
-  abbrev x1 : RefT (List ℕ)
-  x1 = record { ptr = (b1, o1); name = γ1; now = lent }
-
-  abbrev v1 : Val
-  v1 = sliceVal (b1, o1) (length lent)
-
+    (message : UnitMessage) (message-is : Is Q0.the-row message (LL.vals Q0.the-type Q0′.the-laws message))
+    (b o : ℕ) (γ : GName) (h : UnitState) where
   abbrev rest : Rest
-  rest = (x0, (x1, (message, tt)))
+  rest = (record { ptr = (b0, o0); name = γ0; now = image }, (record { ptr = (b1, o1); name = γ1; now = lent }, (message, tt)))
 
   abbrev rest-vals : RestVals
-  rest-vals = (v0 ∷ [], (v1 ∷ [], (LL.val Q.the-type Q′.the-laws message ∷ [], tt)))
+  rest-vals = (sliceVal (b0, o0) (length image) ∷ [], (sliceVal (b1, o1) (length lent) ∷ [], (LL.val Q0.the-type Q0′.the-laws message ∷ [], tt)))
 
   abbrev x : RefT UnitState × Rest
   x = (record { ptr = (b, o); name = γ; now = h }, rest)
 
   abbrev at : List Val × RestVals
   at = (vptr b o ∷ [], rest-vals)
+
+  abbrev arguments : List Val
+  arguments = vptr b o ∷ sliceVal (b0, o0) (length image) ∷ sliceVal (b1, o1) (length lent) ∷ LL.val Q0.the-type Q0′.the-laws message ∷ []
 
   abbrev Walked : Contract 𝓤
   Walked = walkOf 𝓤 H A call.ended stayed (call.clauses 𝓤 H A at-mem run)
@@ -139,34 +131,36 @@ module _ {M : Type 1} (𝓤 : URA M) (H : Heap 𝓤) (A : Atoms 𝓤) (W : Given
   abbrev held : UnitOutcome → List ℕ → List ℕ → List (Item 𝓤)
   held r z0 z1 = ‵ (fobs γ (T.the-row .coded .code (r .state))) ∷ ‵ (fbor κ0 (Body (mem T.the-row) b o γ)) ∷ ‵ (flft κ0 q0) ∷ tokens ∷ ‵ (finally u16 γ1 z1) ∷ ‵ (finally u16 γ0 z0) ∷ []
 
-  exits : (r : UnitOutcome) (z0 : List ℕ) (z1 : List ℕ) → Stepped r z0 z1 → length z0 ≡ length image → length z1 ≡ length lent → Is B.the-row (r .answer) (LL.vals B.the-type B′.the-laws (r .answer)) → ent 𝓤 (⋆ 𝓤 H A (held r z0 z1)) (Walked .post entry (LL.val B.the-type B′.the-laws (r .answer)))
-  exits r z0 z1 e l0 l1 result-is =
+  exits : (r : UnitOutcome) (z0 : List ℕ) (z1 : List ℕ) → Stepped r z0 z1 → length z0 ≡ length image → length z1 ≡ length lent → Is B.the-row (r .answer) (LL.vals B.the-type B′.the-laws (r .answer))
+      → ent 𝓤 (⋆ 𝓤 H A (held r z0 z1)) (Walked .post entry (LL.val B.the-type B′.the-laws (r .answer)))
+  exits r z0 z1 e l0 l1 is =
       qed W (held r z0 z1) ∵
       suffices ! _ (ends-at 𝓤 H A call.ended stayed (call.clauses 𝓤 H A at-mem run) W entry (LL.val B.the-type B′.the-laws (r .answer)) (r .answer) (r .state, (z0, (z1, (tt, tt)))) (tt, (l0, (l1, (tt, tt))))) $
       says ! e $ move ! (2 ∷ 3 ∷ []) $ join ! $ frame ! $
       feqI ! (List Val) (vptr b o ∷ []) (vptr b o ∷ []) refl $ fjoin3 ! $ nothing ! $
-      nothing ! $ fjoin ! $
-      move ! (2 ∷ 0 ∷ []) $ fjoin ! $ move ! (2 ∷ 0 ∷ []) $ fjoin ! $ move ! (1 ∷ 0 ∷ []) $ fjoin ! $ frame ! $
-      owned ! B.the-row (Is B.the-row) (LL.makes B.the-type B′.the-plain 𝓤 H A) (r .answer) _ result-is $ done !
+      nothing ! $ fjoin ! $ move ! (2 ∷ 0 ∷ []) $ fjoin ! $ move ! (2 ∷ 0 ∷ []) $ fjoin ! $ move ! (1 ∷ 0 ∷ []) $ fjoin ! $ frame ! $
+      owned ! B.the-row (Is B.the-row) (LL.makes B.the-type B′.the-plain 𝓤 H A) (r .answer) _ is $ done !
 
   abbrev to-step : Step 𝓤 H A at-mem run .Ghost
   to-step = (((κ1, (κ2, tt)), (q1, (q2, tt)), tt, (h, rest), (vals h, rest-vals)), tt)
 
   -- what `step` asks: the state is plain data and is made of its facts, and the rest is passed on as it came
-  goes-step : Is T.the-row h (vals h) → ent 𝓤 (sep 𝓤 (sep 𝓤 (A .lft κ1 q1) (sep 𝓤 (A .lft κ2 q2) (sem 𝓤 H A ftrue))) (sem 𝓤 H A (owns (MutSlice (named 1) κ1 u16 ∷ MutSlice (named 2) κ2 u16 ∷ Q.the-row ∷ []) rest rest-vals))) (Step 𝓤 H A at-mem run .pre to-step)
+  goes-step : Is T.the-row h (vals h)
+      → ent 𝓤 (sep 𝓤 (sep 𝓤 (A .lft κ1 q1) (sep 𝓤 (A .lft κ2 q2) (sem 𝓤 H A ftrue))) (sem 𝓤 H A (owns (MutSlice (named 1) κ1 u16 ∷ MutSlice (named 2) κ2 u16 ∷ Q0.the-row ∷ []) rest rest-vals))) (Step 𝓤 H A at-mem run .pre to-step)
   goes-step was =
-      qed W (tokens ∷ ‵ (owns (MutSlice (named 1) κ1 u16 ∷ MutSlice (named 2) κ2 u16 ∷ Q.the-row ∷ []) rest rest-vals) ∷ []) ∵
+      qed W (tokens ∷ ‵ (owns (MutSlice (named 1) κ1 u16 ∷ MutSlice (named 2) κ2 u16 ∷ Q0.the-row ∷ []) rest rest-vals) ∷ []) ∵
       owned ! T.the-row (Is T.the-row) (LL.makes T.the-type T′.the-plain 𝓤 H A) h _ was $ move ! (0 ∷ 2 ∷ []) $ fjoin ! $ move ! (1 ∷ 0 ∷ []) $ join ! $ frame ! $ done !
 
   module _ (C : Calls 𝓤 H) (Λ : Loops 𝓤 H) (fm : FmC 𝓤 H (W .laws) C) (known : Triple 𝓤 (C #step) (Step 𝓤 H A at-mem run)) where
-    walk : ent 𝓤 (onEntry 𝓤 H A call.signature (κ0, (κ1, (κ2, tt))) (q0, (q1, (q2, tt))) x at) (WpFn 𝓤 H C Λ code.function (vptr b o ∷ v0 ∷ v1 ∷ LL.val Q.the-type Q′.the-laws message ∷ []) (Walked .post entry))
+    walk : ent 𝓤 (onEntry 𝓤 H A call.signature (κ0, (κ1, (κ2, tt))) (q0, (q1, (q2, tt))) x at) (WpFn 𝓤 H C Λ code.function arguments (Walked .post entry))
     walk =
-        qed W ((‵ (flft κ0 q0) ⊛ (‵ (flft κ1 q1) ⊛ (‵ (flft κ2 q2) ⊛ ‵ ftrue))) ∷ ‵ (owns (MutRef (named 0) κ0 T.the-row ∷ MutSlice (named 1) κ1 u16 ∷ MutSlice (named 2) κ2 u16 ∷ Q.the-row ∷ []) x at) ∷ []) ∵ enter ! C Λ code.function (vptr b o ∷ v0 ∷ v1 ∷ LL.val Q.the-type Q′.the-laws message ∷ []) _ $
+        qed W ((‵ (flft κ0 q0) ⊛ (‵ (flft κ1 q1) ⊛ (‵ (flft κ2 q2) ⊛ ‵ ftrue))) ∷ ‵ (owns (MutRef (named 0) κ0 T.the-row ∷ MutSlice (named 1) κ1 u16 ∷ MutSlice (named 2) κ2 u16 ∷ Q0.the-row ∷ []) x at) ∷ []) ∵ enter ! C Λ code.function arguments _ $
         alloc1 ! (λ l0. alloc1 ! (λ l1. alloc1 ! (λ l2. alloc1 ! (λ l3. alloc1 ! (λ l4. alloc1 ! (λ l5. alloc1 ! (λ l6. alloc1 ! (λ l7. alloc1 ! (λ l8. alloc1 ! (λ l9. alloc1 ! (λ l10. alloc0 ! $ params1 ! $
         pass1 ! (init ! 18 refl (tt, tt)) $
         pass1 ! (init ! 16 refl (tt, (tt, (record { fits = room0 .0 }, tt)))) $
         pass1 ! (init ! 14 refl (tt, (tt, (record { fits = room1 .0 }, tt)))) $
-        pass1 ! (init ! 12 refl (LL.lawful Q.the-type Q′.the-laws 𝓤 H A W .typed message _ message-is .0)) $ pass0 ! $
+        pass1 ! (init ! 12 refl (LL.lawful Q0.the-type Q0′.the-laws 𝓤 H A W .typed message _ message-is .0)) $
+        pass0 ! $
         -- the borrow is opened
         move ! (23 ∷ []) $ fsplit ! $ fsplit3 ! $ drop ! $ move ! (25 ∷ []) $ split ! $ move ! (2 ∷ 3 ∷ 0 ∷ []) $
         opens ! tt T.the-row {h = h} b o (λ vs. spelt ! T.the-row (Is T.the-row) (shows 𝓤 H A T.the-row) vals (LL.tells T.the-type T′.the-laws) fullShare h vs b o $
@@ -187,13 +181,14 @@ module _ {M : Type 1} (𝓤 : URA M) (H : Heap 𝓤) (A : Atoms 𝓤) (W : Given
         move ! (3 ∷ []) $ split ! $ move ! (1 ∷ []) $ peeks ! O.the-row (Is O.the-row) (shows 𝓤 H A O.the-row) r (v ∷ []) (λ is.
         land ! (from ! (stop !)) (init ! 18 refl (LL.lawful O.the-type O′.the-laws 𝓤 H A W .typed r _ is .0)) $
         rewrite ! 18 (λ (u : Val). ‵ (fat fullShare O′.mir l6 0 u)) (ap only (LL.tells O.the-type O′.the-laws r _ is)) refl $
-        -- [0 what the UnitOutcome owns; 1 the tokens; 2 …; 3 to 4 the slices' last lists; 5 the state's cell; 6 what the old UnitState owns; 7 the open borrow; 8 obs; 9 auth; 10 _10; …]
+        -- [0 what the UnitOutcome owns; 1 the tokens; 2 …; from 3 the slices' last lists; 5 the state's cell; then what the old UnitState owns, the open borrow, obs and auth; then _10; …]
         assigns ! (of-opd ! (load ! (from ! (fld ! refl (stop !))) (look-in ! 18 (sub ! 1 refl (whole !))))) (from ! (hop ! (look ! 28 refl) (stop !))) (store-raw ! 5 refl (LL.lawful T.the-type T′.the-laws 𝓤 H A W .typed (r .state) _ (state-is r v is) .0)) $
         assigns ! (of-opd ! (load ! (from ! (fld ! refl (stop !))) (look-in ! 18 (sub ! 0 refl (whole !))))) (from ! (stop !)) (init ! 30 refl (LL.lawful B.the-type B′.the-laws 𝓤 H A W .typed (r .answer) _ (result-is r v is) .0)) $
         -- the borrow is closed at the new state
         move ! (5 ∷ 7 ∷ 8 ∷ 9 ∷ []) $ owned ! T.the-row (Is T.the-row) (LL.makes T.the-type T′.the-plain 𝓤 H A) (r .state) _ (state-is r v is) $ move ! (1 ∷ 0 ∷ []) $ closes ! tt T.the-row (r .state) (vals (r .state)) b o $
-        -- [0 obs; 1 the borrow; 2 its token; 3 what the UnitOutcome owns; 4 the other tokens; 5 …; 6 to 7 the slices' last lists; 8 what the old UnitState owns; 9 _10; …]
-        returns ! (look ! 29 refl) $ forget ! 9 refl $ forget ! 11 refl $ forget ! 13 refl $ forget ! 15 refl $ forget ! 17 refl $ forget ! 19 refl $ forget ! 21 refl $ forget ! 23 refl $
+        -- [0 obs; 1 the borrow; 2 its token; 3 what the UnitOutcome owns; 4 the other tokens; 5 …; from 6 the slices' last lists; then what the old UnitState owns; then _10; …]
+        returns ! (look ! 29 refl) $
+        forget ! 9 refl $ forget ! 11 refl $ forget ! 13 refl $ forget ! 15 refl $ forget ! 17 refl $ forget ! 19 refl $ forget ! 21 refl $ forget ! 23 refl $
         forget ! 25 refl $ forget ! 27 refl $ forget ! 29 refl $
         move ! (29 ∷ 30 ∷ []) $ free1 ! $ move ! (27 ∷ 28 ∷ []) $ free1 ! $ move ! (25 ∷ 26 ∷ []) $ free1 ! $ move ! (23 ∷ 24 ∷ []) $ free1 ! $
         move ! (21 ∷ 22 ∷ []) $ free1 ! $ move ! (19 ∷ 20 ∷ []) $ free1 ! $ move ! (17 ∷ 18 ∷ []) $ free1 ! $ move ! (15 ∷ 16 ∷ []) $ free1 ! $
@@ -204,12 +199,12 @@ module _ {M : Type 1} (𝓤 : URA M) (H : Heap 𝓤) (A : Atoms 𝓤) (W : Given
   walks : (C : Calls 𝓤 H) (Λ : Loops 𝓤 H) → FmC 𝓤 H (W .laws) C → Triple 𝓤 (C #step) (Step 𝓤 H A mem run)
       → Walks 𝓤 H A call.ended stayed (WpFn 𝓤 H C Λ code.function) (call.clauses 𝓤 H A mem run)
   walks C Λ fm known = walked 𝓤 H A call.ended stayed (call.clauses 𝓤 H A mem run) (WpFn 𝓤 H C Λ code.function)
-      (λ κs. (ptr-vals, (slice-vals, (slice-vals, (LL.vals Q.the-type Q′.the-laws, tt)))))
-      (λ κs. (mut-tells (named 0) (κs .0) T.the-row, (mut-slice-tells (named 1) (κs .1 .0) u16, (mut-slice-tells (named 2) (κs .1 .1 .0) u16, (LL.tells Q.the-type Q′.the-laws, tt)))))
-      (λ κs qs bounds a g are. via 𝓤 _ (fst∗ 𝓤 _ (emp 𝓤)) (walk 𝓤 H A W mem run (κs .0) (κs .1 .0) (κs .1 .1 .0) (qs .0) (qs .1 .0) (qs .1 .1 .0) (a .0 .ptr .0) (a .0 .ptr .1) (a .0 .name) (a .0 .now) (a .1 .0 .ptr .0) (a .1 .0 .ptr .1) (a .1 .0 .name) (a .1 .0 .now) (are .1 .0 .0 .1) (a .1 .1 .0 .ptr .0) (a .1 .1 .0 .ptr .1) (a .1 .1 .0 .name) (a .1 .1 .0 .now) (are .1 .1 .0 .0 .1) (a .1 .1 .1 .0) (are .1 .1 .1 .0) C Λ fm known))
+      (λ κs. (ptr-vals, (slice-vals, (slice-vals, (LL.vals Q0.the-type Q0′.the-laws, tt)))))
+      (λ κs. (mut-tells (named 0) (κs .0) T.the-row, (mut-slice-tells (named 1) (κs .1 .0) u16, (mut-slice-tells (named 2) (κs .1 .1 .0) u16, (LL.tells Q0.the-type Q0′.the-laws, tt)))))
+      (λ κs qs bounds a g are. via 𝓤 _ (fst∗ 𝓤 _ (emp 𝓤)) (walk 𝓤 H A W mem run (κs .0) (κs .1 .0) (κs .1 .1 .0) (qs .0) (qs .1 .0) (qs .1 .1 .0) (a .1 .0 .ptr .0) (a .1 .0 .ptr .1) (a .1 .0 .name) (a .1 .0 .now) (are .1 .0 .0 .1) (a .1 .1 .0 .ptr .0) (a .1 .1 .0 .ptr .1) (a .1 .1 .0 .name) (a .1 .1 .0 .now) (are .1 .1 .0 .0 .1) (a .1 .1 .1 .0) (are .1 .1 .1 .0) (a .0 .ptr .0) (a .0 .ptr .1) (a .0 .name) (a .0 .now) C Λ fm known))
 
   goes : AllGo 𝓤 H A W 3 (call.signature .params) (call.ended .kept) stayed
-  goes = (goes-ref 𝓤 H A W 3 0 tt (plain (λ _. T.the-row)), (goes-gave-slice 𝓤 H A W 3 1 tt (plain (λ _. u16)), (goes-gave-slice 𝓤 H A W 3 2 tt (plain (λ _. u16)), (goes-dropped 𝓤 H A W 3 (plain (λ _. Q.the-row)) yes (λ κs x f. refl), tt))))
+  goes = (goes-ref 𝓤 H A W 3 0 tt (plain (λ _. T.the-row)), (goes-gave-slice 𝓤 H A W 3 1 tt (plain (λ _. u16)), (goes-gave-slice 𝓤 H A W 3 2 tt (plain (λ _. u16)), (goes-dropped 𝓤 H A W 3 (plain (λ _. Q0.the-row)) yes (λ κs x f. refl), tt))))
 
 call-meets : {M : Type 1} (𝓤 : URA M) (H : Heap 𝓤) (A : Atoms 𝓤) → Given 𝓤 H A → (mem : Memory → SProp 𝓤) (run : Routine → Fun 𝓤) (𝓣 : Tables 𝓤 H)
     → Triple 𝓤 (𝓣 .C #step) (Step 𝓤 H A mem run) → Meets 𝓤 H A call.signature (WpFn 𝓤 H (𝓣 .C) (𝓣 .Λ) code.function) (call.spec 𝓤 H A mem run)

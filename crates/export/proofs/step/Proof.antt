@@ -27,8 +27,8 @@ returns c =
 state-of-requires : tie.Need-state-of-requires
 state-of-requires c κs = search needs
 
-drive-requires : tie.Need-drive-requires
-drive-requires c κs = search needs
+perform-requires : tie.Need-perform-requires
+perform-requires c κs = search needs
 
 mirror-of-answer-requires : tie.Need-mirror-of-answer-requires
 mirror-of-answer-requires c κs = search needs
@@ -44,7 +44,7 @@ same-length-2 c = search needs
 
 returns-2 : tie.Need-returns-2
 returns-2 c =
-    let o = c .before .before .before .before .before .before .before .before .drive in
+    let o = c .before .before .before .before .before .before .before .before .perform in
     let asked = c .before .before .before .before .before .before .before .before .before .before .before .before .before .asked .given in
     let start = c .before .before .before .before .before .before .before .before .before .before .before .before .before .before .before .before .before .before in
     call (asked .0 .0) (sym (c .before .before .before .before .before .before .before .before .before .before .before .before .before .before .before .asked-of .ensures) ∙ asked .1)
@@ -60,7 +60,7 @@ step-spec =
     enum-told
     returns
     state-of-requires
-    drive-requires
+    perform-requires
     mirror-of-answer-requires
     remirror-requires
     same-length

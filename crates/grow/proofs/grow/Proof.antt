@@ -39,23 +39,23 @@ sys-slices-for-requires c κs = search needs
 
 cast-reserved : tie.Need-cast-reserved
 cast-reserved c =
-    let start = c .before .before .before .before .before .before .before .before .before .before .before .before .before .before in
+    let start = c .before .before .before .before .before .before .before .before .before .before .before .before .before in
     omega (arith, c .sys-slices-for .ensures, slices-small (start .pre .can))
 
 mul-reserved : tie.Need-mul-reserved
 mul-reserved c =
-    let start = c .before .before .before .before .before .before .before .before .before .before .before .before .before .before .before in
+    let start = c .before .before .before .before .before .before .before .before .before .before .before .before .before .before in
     omega (arith, ap (λ (n : ℕ). start .args .o .slice * n) (c .before .sys-slices-for .ensures), reserved-small (start .pre .can))
 
 mul-enter-sys : tie.Need-mul-enter-sys
 mul-enter-sys c =
-    let start = c .before .before .before .before .before .before .before .before .before .before .before .before .before .before .before .before .before in
+    let start = c .before .before .before .before .before .before .before .before .before .before .before .before .before .before .before .before in
     omega (arith, blocks-small (start .pre .can))
 
 enter-sys-requires : tie.Need-enter-sys-requires
 enter-sys-requires c κs =
     let added = c .before .before .before .before .before .before in
-    let place = added .before .before .before .before .before in
+    let place = added .before .before .before .before in
     let f = place .before .before in
     place-inside (f .before .before .before .before .pre .can) (f .before .sys-name .ensures .packed) (f .find-name .ensures) (place .place .given .1) (added .add-layer .ensures)
 
@@ -64,7 +64,7 @@ count-free-requires c κs =
     let entered = c .before .before .before in
     let counted = entered .before .before .before .before in
     let added = counted .before .before .before in
-    let place = added .before .before .before .before .before in
+    let place = added .before .before .before .before in
     let f = place .before .before in
     let start = f .before .before .before .before in
     can-count (start .pre .can) (f .before .sys-name .ensures .packed) (f .find-name .ensures) (place .place .given .1) (added .add-layer .ensures) (entered .enter-sys .ensures) refl
@@ -73,19 +73,23 @@ count-free-requires c κs =
 same-length-2 : tie.Need-same-length-2
 same-length-2 c = search needs
 
+with-layers-requires : tie.Need-with-layers-requires
+with-layers-requires c κs = search needs
+
 returns-2 : tie.Need-returns-2
 returns-2 c =
-    let entered = c .before .before .before .before .before .before in
+    let free = c .before .before .before in
+    let entered = free .before .before .before .before in
     let counted = entered .before .before .before .before in
     let added = counted .before .before .before in
-    let place = added .before .before .before .before .before in
+    let place = added .before .before .before .before in
     let f = place .before .before in
     let start = f .before .before .before .before in
     record {
       all = λ p can. (
         grown-from can (f .before .sys-name .ensures .packed) (f .find-name .ensures) (place .place .given .1) (added .add-layer .ensures) (entered .enter-sys .ensures) refl
-            (ap (λ (n : ℕ). start .args .o .slice * n) (counted .sys-slices-for .ensures)) (c .before .before .count-free .ensures),
-        grown-numbers can _ refl refl refl refl refl,
+            (ap (λ (n : ℕ). start .args .o .slice * n) (counted .sys-slices-for .ensures)) (free .count-free .ensures),
+        grown-numbers can _ (c .with-layers .ensures),
       );
     }
 
@@ -107,5 +111,6 @@ grow-spec =
     mul-enter-sys
     enter-sys-requires
     count-free-requires
+    with-layers-requires
     same-length-2
     returns-2)

@@ -13,7 +13,7 @@ mul-ceil-div : tie.Need-mul-ceil-div
 mul-ceil-div c =
     let a = c .before .args in
     let h : a .layers ≤ 65535 = omega arith in
-    omega (arith, mul-le-mul-left (a .o .keys) h)
+    omega (arith, mul-le-mul-left (a .o .catalog .keys) h)
 
 cast-ceil-div-2 : tie.Need-cast-ceil-div-2
 cast-ceil-div-2 c = search needs

@@ -1,78 +1,74 @@
 -- `index::append_slice` meets its contract: the slice joins the last pair or makes one more. Assumes nothing.
+use mathlib.Core.Path.{ap, _∙_}
 use Prim.Native.Nat.{_-_}
 use native.Mathlib.Omega.{arith}
-use Rattle.index.specs.Block.{pairCount}
+use lib.ListN.{length, length-set}
+use Rattle.index.specs.Block.{pairCount, extended}
 use Rattle.index.proofs.CaseLaws.{joins-pair, with-apart, pair-le, appended-joined, appended-apart}
 use borrow.Author.Needs.{needs}
 use Rattle.index.proofs.append_slice.Statement.{statement}
 use Rattle.index.proofs.append_slice.Tie as tie
 
-pair-count-requires : tie.Need-pair-count-requires
-pair-count-requires c κs = search needs
-
-joins-at-requires : tie.Need-joins-at-requires
-joins-at-requires c κs = search needs
-
-cast-lengthen : tie.Need-cast-lengthen
-cast-lengthen c = search needs
-
-sub-lengthen : tie.Need-sub-lengthen
-sub-lengthen c =
-    let a = c .before .before .before .before .before .before .before .before .before .args in
-    joins-pair (a .first .0) (a .s) (a .t1 .words) 0 _ (c .before .before .before .before .before .pair-count .ensures) (a .k .0) _ (c .before .joins-at .ensures) (c .if1 .taken)
-
 lengthen-requires : tie.Need-lengthen-requires
 lengthen-requires c κs =
-    let a = c .before .before .before .before .before .before .before .before .before .args in
-    let n = c .before .before .before .before .before .pair-count in
-    let some = sub-lengthen c in
-    (omega (arith, n .ensures), omega (arith, n .ensures, pair-le (a .t1 .words) 0 (pairCount (a .t1 .words) 0) 0 (n .result - 1) (omega arith) (omega arith), c .before .before .before .before .before .before .before .before .before .pre .sectors))
+    let joins = c .before .before in
+    let n = joins .before .before .pair-count in
+    let s = joins .before .before .before .before .before in
+    let a = s .args in
+    let w = a .words .now in
+    let some = joins-pair (a .first .0) (a .s) w 0 _ (n .ensures) (a .k .0) _ (joins .joins-at .ensures) (c .before .if1 .taken) in (
+      some,
+      omega (arith, n .ensures),
+      s .pre .0,
+      omega (arith, n .ensures, pair-le w 0 (pairCount w 0) 0 (n .result - 1) (omega arith) (omega arith), s .pre .1 .sectors),
+    )
 
 returns : tie.Need-returns
 returns c =
-    let a = c .before .before .before .before .before .before .before .before .before .before .args in
-    let n = c .before .before .before .before .before .before .pair-count in
-    appended-joined (a .first .0) (a .s) (a .k .0) (a .t1 .words) (n .result) (n .ensures) _ (c .before .before .joins-at .ensures) (c .lengthen .result .words)
-    (c .before .if1 .taken) (c .lengthen .ensures)
-
-slice-start-requires : tie.Need-slice-start-requires
-slice-start-requires c κs = search needs
-
-add-set-count : tie.Need-add-set-count
-add-set-count c = search needs
-
-set-count-requires : tie.Need-set-count-requires
-set-count-requires c κs = search needs
-
-cast-set-pair : tie.Need-cast-set-pair
-cast-set-pair c = search needs
+    let joins = c .before .before .before .before .before in
+    let n = joins .before .before .pair-count in
+    let a = joins .before .before .before .before .before .args in
+    appended-joined (a .first .0) (a .s) (a .k .0) (a .words .now) (n .result) (n .ensures) _ (joins .joins-at .ensures) _
+    (c .before .before .before .before .if1 .taken) (c .before .before .lengthen .ensures)
 
 set-pair-requires : tie.Need-set-pair-requires
 set-pair-requires c κs =
-    let a = c .before .before .before .before .before .before .before .before .before .before .before .args in
-    let n = c .before .before .before .before .before .before .before .pair-count in
-    omega (arith, c .before .before .before .before .before .before .before .before .before .before .before .pre .room, with-apart (a .first .0) (a .s) (a .t1 .words) 0 (n .result) (n .ensures) (a .k .0) _ (c .before .before .before .joins-at .ensures) (c .before .before .if1 .left))
+    let joins = c .before .before .before in
+    let n = joins .before .before .pair-count in
+    let s = joins .before .before .before .before .before in
+    let a = s .args in (
+      omega (arith, s .pre .1 .room, with-apart (a .first .0) (a .s) (a .words .now) 0 (n .result) (n .ensures) (a .k .0) _ (joins .joins-at .ensures) (c .before .before .if1 .left)),
+      simp length-set (omega arith),
+    )
+
+same-length-2 : tie.Need-same-length-2
+same-length-2 c = ap length (c .before .before .set-pair .ensures) ∙ simp length-set
 
 returns-2 : tie.Need-returns-2
+unfolding extended
 returns-2 c =
-    let a = c .before .before .before .before .before .before .before .before .before .before .before .before .args in
-    let n = c .before .before .before .before .before .before .before .before .pair-count in
-    appended-apart (a .first .0) (a .s) (a .k .0) (a .t1 .words) (n .result) (n .ensures) _ (c .before .before .before .before .joins-at .ensures) (c .set-pair .result .words)
-    _ _ (c .before .before .before .if1 .left) (c .before .before .slice-start .ensures) (c .before .set-count .ensures) (c .set-pair .ensures)
+    let stored = c .before .before in
+    let start = stored .before .before in
+    let joins = start .before .before in
+    let n = joins .before .before .pair-count in
+    let a = joins .before .before .before .before .before .args in
+    appended-apart (a .first .0) (a .s) (a .k .0) (a .words .now) (n .result) (n .ensures) _ (joins .joins-at .ensures) _ _
+    (start .before .if1 .left) (start .slice-start .ensures) (stored .set-pair .ensures)
 
 pub append-slice-spec : {M : Type 1} → statement M
 append-slice-spec =
     tie.close
     (tie.spec
-    pair-count-requires
-    joins-at-requires
-    cast-lengthen
-    sub-lengthen
+    (λ c κs. search needs)
+    (λ c κs. search needs)
+    (λ c. search needs)
     lengthen-requires
+    (λ c. search needs)
     returns
-    slice-start-requires
-    add-set-count
-    set-count-requires
-    cast-set-pair
+    (λ c κs. search needs)
+    (λ c. search needs)
+    (λ c. search needs)
+    (λ c. search needs)
     set-pair-requires
+    same-length-2
     returns-2)

@@ -15,85 +15,56 @@ use Rattle.index.proofs.cut_block.Statement.{statement}
 use Rattle.index.proofs.cut_block.Tie as tie
 
 abbrev Inv-loop : tie.InvT-loop
-Inv-loop s n block count cut₀ rest₀ j₀ cut rest j =
-    (rest < 0x100000000) × Filling 0 (cutPairs (block .words) count 0 (s * n)) (cut .words) j (cutPairs (block .words) (count - j) j rest)
+Inv-loop s n block count words₀ rest₀ j₀ words rest j =
+    (rest < 0x100000000) × Filling 0 (cutPairs (block .words) count 0 (s * n)) words j (cutPairs (block .words) (count - j) j rest)
 
 abbrev μ-loop : tie.MeasureT-loop
-μ-loop s n block count cut₀ rest₀ j₀ cut rest j = count - j
-
-pair-count-requires : tie.Need-pair-count-requires Inv-loop μ-loop
-pair-count-requires c κs = search needs
-
-empty-block-requires : tie.Need-empty-block-requires Inv-loop μ-loop
-empty-block-requires c κs = search needs
+μ-loop s n block count words₀ rest₀ j₀ words rest j = count - j
 
 mul-rest : tie.Need-mul-rest Inv-loop μ-loop
 mul-rest c =
-    let a = c .before .before .before .before .before .args in
+    let a = c .before .before .before .before .before .before .args in
     let h : a .n ≤ 65535 = omega arith in
     omega (arith, mul-le-mul-left (a .s) h)
 
 loop-holds : tie.Need-loop-holds Inv-loop μ-loop
 loop-holds c =
-    let a = c .before .before .before .before .before .args in
+    let a = c .before .before .before .before .before .before .args in
     let h : a .n ≤ 65535 = omega arith in
-    (omega (arith, mul-le-mul-left (a .s) h), rw sub-zero (fill-start 0 _ _ (c .empty-block .ensures ∙ whole-none)))
-
-cast-kept-sectors : tie.Need-cast-kept-sectors Inv-loop μ-loop
-cast-kept-sectors c = search needs
-
-kept-sectors-requires : tie.Need-kept-sectors-requires Inv-loop μ-loop
-kept-sectors-requires c κs = search needs
-
-cast-copy-pair : tie.Need-cast-copy-pair Inv-loop μ-loop
-cast-copy-pair c = search needs
-
-copy-pair-requires : tie.Need-copy-pair-requires Inv-loop μ-loop
-copy-pair-requires c κs = search needs
-
-cast-rest : tie.Need-cast-rest Inv-loop μ-loop
-cast-rest c = search needs
-
-sub-rest : tie.Need-sub-rest Inv-loop μ-loop
-sub-rest c = search needs
-
-add-j : tie.Need-add-j Inv-loop μ-loop
-add-j c = search needs
-
-loop-less : tie.Need-loop-less Inv-loop μ-loop
-loop-less c = search needs
+    (omega (arith, mul-le-mul-left (a .s) h), rw sub-zero (fill-start 0 _ _ (c .before .empty-block .ensures ∙ whole-none)))
 
 loop-again : tie.Need-loop-again Inv-loop μ-loop
 loop-again c =
-    let l = c .before .before .before .before in
-    let w = c .before .before .before .before .before .before .before .before .before .before .args .t1 .words in
-    let n = c .before .before .before .before .before .before .pair-count .result in
-    let j = l .loop .j in
-    let rest = l .loop .rest in
-    let kept = c .before .kept-sectors .ensures in
-    let less : rest - c .before .kept-sectors .result ≡ rest - pairLength w 0 j = omega arith in
-    let f = rw (cut-more w n j rest (c .before .before .before .loop-test .taken) (omega (arith, c .before .before .if1 .left))) at (l .loop .inv .1) in
-    (omega (arith, l .loop .inv .0), rw (less, c .copy-pair .ensures, kept) (fill-more 0 _ (l .loop .cut .words) j _ _ _ (omega arith) f))
-
-set-count-requires : tie.Need-set-count-requires Inv-loop μ-loop
-set-count-requires c κs = search needs
+    let start = c .before .before .before in
+    let kept = start .before .before .before .before in
+    let k = kept .before .before .before in
+    let counted = k .before .before .before in
+    let w = counted .before .before .before .before .args .t1 .words in
+    let n = counted .pair-count .result in
+    let j = k .loop .j in
+    let rest = k .loop .rest in
+    let less : rest - kept .kept-sectors .result ≡ rest - pairLength w 0 j = omega (arith, kept .kept-sectors .ensures) in
+    let f = rw (cut-more w n j rest (kept .before .before .loop-test .taken) (omega (arith, kept .before .if1 .left))) at (k .loop .inv .1) in
+    (omega (arith, k .loop .inv .0), rw (less, c .before .set-pair .ensures, kept .kept-sectors .ensures, start .pair-start .ensures) (fill-more 0 _ (k .loop .words) j _ _ _ (omega arith) f))
 
 -- nothing is left: all pairs are passed, or all sectors
-finished : (c : tie.Left-loop Inv-loop μ-loop) → let a = c .before .before .before .before .before .before .before .args in
-    Filling 0 (cutPairs (a .t1 .words) (c .before .before .before .pair-count .result) 0 (a .s * a .n)) (c .before .loop .cut .words) (c .before .loop .j) []
+finished : (c : tie.Left-loop Inv-loop μ-loop) → let counted = c .before .before .before .before in let a = counted .before .before .before .before .args in
+    Filling 0 (cutPairs (a .t1 .words) (counted .pair-count .result) 0 (a .s * a .n)) (c .before .loop .words) (c .before .loop .j) []
 finished c =
-    let w = c .before .before .before .before .before .before .before .args .t1 .words in
-    let n = c .before .before .before .pair-count .result in
-    let l = c .before in
-    ⊎-elim (λ x. rw (cut-none w n (l .loop .j) (l .loop .rest) (x .left)) at (l .loop .inv .1))
-    (λ x. let f = rw (x .1 .taken) at (l .loop .inv .1) in rw (cut-end w n (l .loop .j)) at f) (c .loop-test .came)
+    let k = c .before in
+    let counted = k .before .before .before in
+    let w = counted .before .before .before .before .args .t1 .words in
+    let n = counted .pair-count .result in
+    ⊎-elim (λ x. rw (cut-none w n (k .loop .j) (k .loop .rest) (x .left)) at (k .loop .inv .1))
+    (λ x. let f = rw (x .1 .taken) at (k .loop .inv .1) in rw (cut-end w n (k .loop .j)) at f) (c .loop-test .came)
 
 returns : tie.Need-returns Inv-loop μ-loop
 unfolding cutTo
 returns c =
-    let a = c .before .before .before .before .before .before .before .before .args in
-    c .set-count .ensures ∙ fill-count 0 _ _ _ (finished (c .before))
-    ∙ ap (λ (n : ℕ). let pairs = cutPairs (a .t1 .words) n 0 (a .s * a .n) in whole (length pairs / 2 ∷ pairs)) (c .before .before .before .before .pair-count .ensures)
+    let counted = c .before .before .before .before in
+    let a = counted .before .before .before .before .args in
+    fill-count 0 _ _ _ (finished c)
+    ∙ ap (λ (n : ℕ). let pairs = cutPairs (a .t1 .words) n 0 (a .s * a .n) in whole (length pairs / 2 ∷ pairs)) (counted .pair-count .ensures)
 
 pub cut-block-spec : {M : Type 1} → statement M
 cut-block-spec =
@@ -101,18 +72,21 @@ cut-block-spec =
     (tie.spec
     Inv-loop
     μ-loop
-    pair-count-requires
-    empty-block-requires
+    (λ c κs. search needs)
+    (λ c κs. search needs)
     mul-rest
     loop-holds
-    cast-kept-sectors
-    kept-sectors-requires
-    cast-copy-pair
-    copy-pair-requires
-    cast-rest
-    sub-rest
-    add-j
-    loop-less
+    (λ c. search needs)
+    (λ c κs. search needs)
+    (λ c. search needs)
+    (λ c κs. search needs)
+    (λ c. search needs)
+    (λ c. search needs)
+    (λ c κs. search needs)
+    (λ c. search needs)
+    (λ c. search needs)
+    (λ c. search needs)
+    (λ c. search needs)
     loop-again
-    set-count-requires
+    (λ c. search needs)
     returns)

@@ -4,7 +4,8 @@ use mathlib.Core.Bool.{Bool}
 use Prim.Native.Nat.{ℕ}
 use borrow.Author.Needs.{needs}
 use Rattle.disc.specs.Names.{pack, legalName}
-use Rattle.names.proofs.LegalLaws.{rest1, rest2, rest3, rest4, begins, begins-not, goes-1, goes-2, goes-3, goes-4, stops-1, stops-2, stops-3, stops-4, tested, tested-not}
+use Rattle.disc.proofs.DecideLaws.{was-true, was-false}
+use Rattle.names.proofs.LegalLaws.{rest1, rest2, rest3, rest4, begins, begins-not, goes-1, goes-2, goes-3, goes-4, stops-1, stops-2, stops-3, stops-4}
 use Rattle.names.proofs.legal.Statement.{statement}
 use Rattle.names.proofs.legal.Tie as tie
 
@@ -36,16 +37,16 @@ whole4 c = whole3 (c .before .before)
 -- what decides there
 left1 : (c : tie.Else1) → whole1 c ≡ rest1 (number1 c)
 left1 c =
-    ap legalName (sym (c .before .before .packed .ensures)) ∙ begins (number1 c) (tested (c .before .is-letter .ensures) (c .if1 .left))
+    ap legalName (sym (c .before .before .packed .ensures)) ∙ begins (number1 c) (was-true (c .before .is-letter .ensures) (c .if1 .left))
 
 left2 : (c : tie.Else2) → whole2 c ≡ rest2 (number2 c)
-left2 c = left1 (c .before .before) ∙ goes-1 (number2 c) (tested (c .before .is-letter-or-digit .ensures) (c .if2 .left))
+left2 c = left1 (c .before .before) ∙ goes-1 (number2 c) (was-true (c .before .is-letter-or-digit .ensures) (c .if2 .left))
 
 left3 : (c : tie.Else3) → whole3 c ≡ rest3 (number3 c)
-left3 c = left2 (c .before .before) ∙ goes-2 (number3 c) (tested (c .before .is-letter-or-digit2 .ensures) (c .if3 .left))
+left3 c = left2 (c .before .before) ∙ goes-2 (number3 c) (was-true (c .before .is-letter-or-digit2 .ensures) (c .if3 .left))
 
 left4 : (c : tie.Else4) → whole4 c ≡ rest4 (number4 c)
-left4 c = left3 (c .before .before) ∙ goes-3 (number4 c) (tested (c .before .is-letter-or-digit3 .ensures) (c .if4 .left))
+left4 c = left3 (c .before .before) ∙ goes-3 (number4 c) (was-true (c .before .is-letter-or-digit3 .ensures) (c .if4 .left))
 
 packed-requires : tie.Need-packed-requires
 packed-requires c κs = search needs
@@ -59,7 +60,7 @@ is-letter-requires c κs = search needs
 returns : tie.Need-returns
 returns c =
     let n = c .before .before .packed in
-    sym (begins-not (n .result) (tested-not (c .before .is-letter .ensures) (c .if1 .taken))) ∙ ap legalName (n .ensures)
+    sym (begins-not (n .result) (was-false (c .before .is-letter .ensures) (c .if1 .taken))) ∙ ap legalName (n .ensures)
 
 cast-is-letter-or-digit : tie.Need-cast-is-letter-or-digit
 cast-is-letter-or-digit c = search needs
@@ -70,7 +71,7 @@ is-letter-or-digit-requires c κs = search needs
 returns-2 : tie.Need-returns-2
 returns-2 c =
     let b = c .before .before in
-    sym (left1 b ∙ stops-1 (number1 b) (tested-not (c .before .is-letter-or-digit .ensures) (c .if2 .taken)))
+    sym (left1 b ∙ stops-1 (number1 b) (was-false (c .before .is-letter-or-digit .ensures) (c .if2 .taken)))
 
 cast-is-letter-or-digit-2 : tie.Need-cast-is-letter-or-digit-2
 cast-is-letter-or-digit-2 c = search needs
@@ -81,7 +82,7 @@ is-letter-or-digit-requires-2 c κs = search needs
 returns-3 : tie.Need-returns-3
 returns-3 c =
     let b = c .before .before in
-    sym (left2 b ∙ stops-2 (number2 b) (tested-not (c .before .is-letter-or-digit2 .ensures) (c .if3 .taken)))
+    sym (left2 b ∙ stops-2 (number2 b) (was-false (c .before .is-letter-or-digit2 .ensures) (c .if3 .taken)))
 
 cast-is-letter-or-digit-3 : tie.Need-cast-is-letter-or-digit-3
 cast-is-letter-or-digit-3 c = search needs
@@ -92,7 +93,7 @@ is-letter-or-digit-requires-3 c κs = search needs
 returns-4 : tie.Need-returns-4
 returns-4 c =
     let b = c .before .before in
-    sym (left3 b ∙ stops-3 (number3 b) (tested-not (c .before .is-letter-or-digit3 .ensures) (c .if4 .taken)))
+    sym (left3 b ∙ stops-3 (number3 b) (was-false (c .before .is-letter-or-digit3 .ensures) (c .if4 .taken)))
 
 cast-is-letter-or-digit-4 : tie.Need-cast-is-letter-or-digit-4
 cast-is-letter-or-digit-4 c = search needs
@@ -103,12 +104,12 @@ is-letter-or-digit-requires-4 c κs = search needs
 returns-5 : tie.Need-returns-5
 returns-5 c =
     let b = c .before .before in
-    sym (left4 b ∙ stops-4 (number4 b) (tested-not (c .before .is-letter-or-digit4 .ensures) (c .if5 .taken)))
+    sym (left4 b ∙ stops-4 (number4 b) (was-false (c .before .is-letter-or-digit4 .ensures) (c .if5 .taken)))
 
 returns-6 : tie.Need-returns-6
 returns-6 c =
     let b = c .before .before in
-    sym (left4 b ∙ goes-4 (number4 b) (tested (c .before .is-letter-or-digit4 .ensures) (c .if5 .left)))
+    sym (left4 b ∙ goes-4 (number4 b) (was-true (c .before .is-letter-or-digit4 .ensures) (c .if5 .left)))
 
 pub legal-spec : {M : Type 1} → statement M
 legal-spec =

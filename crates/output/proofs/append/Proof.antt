@@ -11,7 +11,7 @@ use Rattle.disc.specs.Words.{Words}
 use Rattle.disc.specs.Attributes.{extendable}
 use Rattle.state.specs.Areas.{setArea, withLive}
 use Rattle.sharing.specs.Sharing.{areaReply}
-use Rattle.sharing.specs.Leaves.{areaUsers}
+use Rattle.sharing.specs.Seat.{areaUsers}
 use Rattle.sharing.proofs.ShareLaws.{seat-low}
 use Rattle.output.proofs.OutputLaws.{searches, room-asks, more-asks, position-asks, outputs-fixed, outputs-room, can-append, outputs-appended}
 use Rattle.output.proofs.append.Statement.{statement}

@@ -18,8 +18,8 @@ slice-total-requires c κs =
 clear-place-requires : tie.Need-clear-place-requires
 clear-place-requires c κs = drop-room (c .before .before .before .before .before .before .before .pre .can)
 
-give-back-requires : tie.Need-give-back-requires
-give-back-requires c κs =
+free-slices-requires : tie.Need-free-slices-requires
+free-slices-requires c κs =
     let cleared = c .before .before .before in
     let counted = cleared .before .before in
     let block = counted .before in
@@ -33,7 +33,7 @@ count-free-requires c κs =
     let counted = cleared .before .before in
     let block = counted .before in
     let read = block .before .before in
-    can-count (read .before .before .before .pre .can) (read .entry-word .ensures) (block .file-block .ensures .1) (cleared .clear-place .ensures) (counted .slice-total .ensures) (given .give-back .ensures)
+    can-count (read .before .before .before .pre .can) (read .entry-word .ensures) (block .file-block .ensures .1) (cleared .clear-place .ensures) (counted .slice-total .ensures) (given .free-slices .ensures)
 
 same-length : tie.Need-same-length
 same-length c = search needs
@@ -48,7 +48,7 @@ returns c =
     let read = block .before .before in
     record {
       all = λ p n f can.
-          dropped can (read .entry-word .ensures) (block .file-block .ensures .1) (cleared .clear-place .ensures) (counted .slice-total .ensures) (given .give-back .ensures) (free .count-free .ensures);
+          dropped can (read .entry-word .ensures) (block .file-block .ensures .1) (cleared .clear-place .ensures) (counted .slice-total .ensures) (given .free-slices .ensures) (free .count-free .ensures);
     }
 
 pub drop-file-spec : {M : Type 1} → statement M
@@ -59,7 +59,7 @@ drop-file-spec =
     file-block-requires
     slice-total-requires
     clear-place-requires
-    give-back-requires
+    free-slices-requires
     count-free-requires
     same-length
     returns)

@@ -2,12 +2,13 @@
 -- nothing.
 use mathlib.Core.Path.{sym, _∙_}
 use mathlib.Core.Logic.{⊎-elim}
-use Prim.Native.Nat.{ℕ, _+_, _*_, _-_, _≤_, _<_}
+use Prim.Native.Nat.{ℕ, _-_, _≤_, _<_}
 use native.Mathlib.Omega.{arith}
 use borrow.Author.Count.{below-more}
 use borrow.Author.Needs.{needs}
 use Rattle.types.specs.State.{areaAt}
 use Rattle.sound.specs.State.{areaName, IsOpen}
+use Rattle.disc.specs.Entries.{placeCount}
 use Rattle.disc.proofs.DecideLaws.{holds, fails, refutes, grants, true≢false}
 use Rattle.entries.specs.Sys.{placesIn}
 use Rattle.soundness.specs.Areas.{OrdinaryEntered}
@@ -15,10 +16,10 @@ use Rattle.soundness.proofs.areas_entered.Statement.{statement}
 use Rattle.soundness.proofs.areas_entered.Tie as tie
 
 abbrev Inv-loop : tie.InvT-loop
-Inv-loop image g blocks state j₀ j = (j ≤ 8) × ((k : ℕ) → k < j → IsOpen state k → OrdinaryEntered (placesIn image g) (16 * blocks) (areaName (areaAt state k)))
+Inv-loop image g sys state j₀ j = (j ≤ 8) × ((k : ℕ) → k < j → IsOpen state k → OrdinaryEntered (placesIn image g) (placeCount (g .keys) (sys .layers)) (areaName (areaAt state k)))
 
 abbrev μ-loop : tie.MeasureT-loop
-μ-loop image g blocks state j₀ j = 8 - j
+μ-loop image g sys state j₀ j = 8 - j
 
 loop-holds : tie.Need-loop-holds Inv-loop μ-loop
 loop-holds c = (omega arith, λ k h. absurd (omega arith))
@@ -50,7 +51,7 @@ loop-again c =
     let a = turn .before .before .args in (
       omega arith,
       below-more
-          (λ k. IsOpen (a .t3) k → OrdinaryEntered (placesIn (a .image .now) (a .g)) (16 * a .blocks) (areaName (areaAt (a .t3) k)))
+          (λ k. IsOpen (a .t4) k → OrdinaryEntered (placesIn (a .image .now) (a .g)) (placeCount (a .g .keys) (a .sys .layers)) (areaName (areaAt (a .t4) k)))
           (turn .loop .j)
           (turn .loop .inv .1)
           (⊎-elim (λ w o. grants _ (w .1 .ensures) (w .2 .left)) (λ w o. absurd (true≢false (sym o ∙ w .left))) (c .if1 .came)),

@@ -1,38 +1,35 @@
 -- `soundness::layers_sound` meets its contract. Assumes nothing.
-use native.Mathlib.Omega.{arith}
-use borrow.Author.Needs.{needs}
 use borrow.Author.Tests.{not-false}
 use Rattle.disc.proofs.DecideLaws.{fails, refutes, grants}
-use Rattle.entries.proofs.SysLaws.{sys-small}
+use Rattle.entries.specs.Sys.{SysIn}
 use Rattle.files.proofs.SysLaws.{known-sys}
-use Rattle.soundness.proofs.LayerLaws.{names-legal, names-known, files-refused, map-decides}
+use Rattle.soundness.proofs.LayerLaws.{names-known, files-refused, map-decides}
 use Rattle.soundness.proofs.layers_sound.Statement.{statement}
 use Rattle.soundness.proofs.layers_sound.Tie as tie
 
+-- SYS as a catalog
+sys : (c : tie.Start) → SysIn (c .args .image .now) (c .args .g) (c .args .sys)
+sys c = record { sys = known-sys (c .pre .0); is = c .pre .1; room = c .pre .0 .room }
+
 names-sound-requires : tie.Need-names-sound-requires
-names-sound-requires c κs = search needs
+names-sound-requires c κs = sys (c .before)
 
 returns : tie.Need-returns
 returns c = fails (λ s. refutes _ (c .before .names-sound .ensures) (c .if1 .taken) (s .names))
 
-mul-areas-entered : tie.Need-mul-areas-entered
-mul-areas-entered c =
-    let known = c .before .before .before .before .pre in
-    omega (arith, known .room, sys-small (known-sys known), known .unit .limits .sectors)
-
 areas-entered-requires : tie.Need-areas-entered-requires
 areas-entered-requires c κs =
-    let names = c .before .before in
-    names-legal (names .before .before .pre) (grants _ (names .names-sound .ensures) (c .before .if1 .left))
+    let names = c .before in
+    record { catalog = sys (names .before .before); legal = grants _ (names .names-sound .ensures) (c .if1 .left) .legal }
 
 returns-2 : tie.Need-returns-2
 returns-2 c = fails (λ s. refutes _ (c .before .areas-entered .ensures) (c .if2 .taken) (s .areas))
 
 files-sound-requires : tie.Need-files-sound-requires
 files-sound-requires c κs =
-    let else1 = c .before .before .before .before in
+    let else1 = c .before .before .before in
     let names = else1 .before in
-    let known = names .before .before .pre in
+    let known = names .before .before .pre .0 in
     (known, names-known known (grants _ (names .names-sound .ensures) (else1 .if1 .left)))
 
 returns-3 : tie.Need-returns-3
@@ -42,7 +39,7 @@ map-agrees-requires : tie.Need-map-agrees-requires
 map-agrees-requires c κs =
     let files = c .before .before in
     let y = files .files-sound .ensures .1 .yes (not-false _ (c .before .if3 .left)) in
-    (files .before .before .before .before .before .before .before .before .pre .unit, record { slices = _; marked = record { is = y .2; once = y .1 } })
+    (files .before .before .before .before .before .before .before .pre .0 .unit, record { slices = _; marked = record { is = y .2; once = y .1 } })
 
 returns-4 : tie.Need-returns-4
 returns-4 c =
@@ -50,7 +47,7 @@ returns-4 c =
     let files = else3 .before in
     let else2 = files .before .before in
     let areas = else2 .before in
-    let else1 = areas .before .before in
+    let else1 = areas .before in
     map-decides (files .files-sound .ensures .1) (else3 .if3 .left) (grants _ (else1 .before .names-sound .ensures) (else1 .if1 .left))
     (grants _ (areas .areas-entered .ensures) (else2 .if2 .left)) (c .map-agrees .ensures)
 
@@ -60,7 +57,6 @@ layers-sound-spec =
     (tie.spec
     names-sound-requires
     returns
-    mul-areas-entered
     areas-entered-requires
     returns-2
     files-sound-requires

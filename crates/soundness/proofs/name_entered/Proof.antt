@@ -4,7 +4,7 @@ use native.Mathlib.Omega.{arith}
 use borrow.Author.Needs.{needs}
 use Rattle.disc.proofs.DecideLaws.{holds, fails}
 use Rattle.entries.proofs.PlaceLaws.{T-of, T-not}
-use Rattle.entries.proofs.FindLaws.{found-at, found-none}
+use Rattle.entries.proofs.FindLaws.{some-key}
 use Rattle.soundness.proofs.AreaLaws.{entered-first, entered-found, found-entered}
 use Rattle.soundness.proofs.name_entered.Statement.{statement}
 use Rattle.soundness.proofs.name_entered.Tie as tie
@@ -22,7 +22,7 @@ returns-2 : tie.Need-returns-2
 returns-2 c = fails (λ e. e .ordinary (T-of (sym (c .before .is-system .ensures) ∙ c .if2 .taken)))
 
 find-requires : tie.Need-find-requires
-find-requires c κs = search needs
+find-requires c κs = some-key (c .before .before .before .before .before .pre .catalog)
 
 enum-told : tie.Need-enum-told
 enum-told c = search needs
@@ -34,14 +34,14 @@ returns-3 : tie.Need-returns-3
 returns-3 c =
     let f = c .before .before in
     let start = f .before .before .before .before .before .before in
-    fails (entered-found (start .pre) _ (found-none (c .enum-told2 .given .1) (f .find .ensures .place)))
+    fails (entered-found (start .pre) (f .find .ensures) (c .enum-told2 .given .1))
 
 returns-4 : tie.Need-returns-4
 returns-4 c =
     let f = c .before .before in
     let tests = f .before in
     let start = tests .before .before .before .before .before in
-    holds (found-entered (start .pre) _ _ (omega (arith, tests .before .before .if1 .left)) (T-not (sym (tests .before .is-system .ensures) ∙ tests .if2 .left)) (found-at (c .enum-told .given .1) (f .find .ensures .place)))
+    holds (found-entered (start .pre) (f .find .ensures) (omega (arith, tests .before .before .if1 .left)) (T-not (sym (tests .before .is-system .ensures) ∙ tests .if2 .left)) (c .enum-told .given .1))
 
 pub name-entered-spec : {M : Type 1} → statement M
 name-entered-spec =

@@ -36,16 +36,21 @@ returns-3 c =
     let found = c .before in
     fails (λ u. omega (arith, c .if3 .taken, unit-layers (found .before .before .geometry-of .ensures) (found .mark-sys .ensures) u .0 .some))
 
+sys-requires : tie.Need-sys-requires
+sys-requires c κs = search needs
+
 layers-sound-requires : tie.Need-layers-sound-requires
 layers-sound-requires c κs =
-    let found = c .before .before in
+    let sys = c .before in
+    let found = sys .before .before in
     let geometry = found .before .before in
-    let sys = found .mark-sys .ensures .known (c .before .if3 .left) in
-    sys-known (geometry .geometry-of .ensures) (kit geometry) (sys .0) (sys .1)
+    let known = found .mark-sys .ensures .known (sys .before .if3 .left) in
+    rw (sys .sys .ensures) (sys-known (geometry .geometry-of .ensures) (kit geometry) (known .0) (known .1), refl)
 
 returns-4 : tie.Need-returns-4
 returns-4 c =
-    let found = c .before .before .before in
+    let sys = c .before .before in
+    let found = sys .before .before in
     let geometry = found .before .before in
     let users = geometry .before .before .before in
     decides-unit
@@ -56,8 +61,8 @@ returns-4 c =
     (grants _ (users .before .users-sound .ensures .0) (users .if1 .left))
     (kit geometry)
     (found .mark-sys .ensures)
-    (found .mark-sys .ensures .known (c .before .before .if3 .left) .0)
-    (c .layers-sound .ensures)
+    (found .mark-sys .ensures .known (sys .before .if3 .left) .0)
+    (rw (sys .sys .ensures) at (c .layers-sound .ensures))
 
 pub sound-spec : {M : Type 1} → statement M
 sound-spec =
@@ -70,5 +75,6 @@ sound-spec =
     geometry-of-requires
     mark-sys-requires
     returns-3
+    sys-requires
     layers-sound-requires
     returns-4)

@@ -1,10 +1,14 @@
 -- `unit::find_name` meets its contract. Assumes nothing.
-use mathlib.Core.Path.{_≡_, refl, sym, _∙_}
+use mathlib.Core.Path.{_≡_, refl, sym, ap, _∙_}
+use mathlib.Core.Logic.{_≢_}
 use borrow.Author.Needs.{needs}
 use Rattle.catalog.specs.Catalog.{placeNamed}
+use Rattle.catalog.specs.declared.Catalog.{Catalog}
+use Rattle.catalog.proofs.ValueLaws.{is-value}
+use Rattle.plain.specs.Unit.{Plain}
+use Rattle.unit.specs.Opened.{NumbersOf}
 use Rattle.disc.specs.Names.{pack}
-use Rattle.unit.specs.Opened.{sysCatalog}
-use Rattle.unit.proofs.FindLaws.{some-key, name-found, zero-found}
+use Rattle.unit.proofs.FindLaws.{some-key, unitSys, name-found, zero-found}
 use Rattle.unit.proofs.find_name.Statement.{statement}
 use Rattle.unit.proofs.find_name.Tie as tie
 
@@ -12,21 +16,20 @@ packed-requires : tie.Need-packed-requires
 packed-requires c κs = search needs
 
 returns : tie.Need-returns
-returns c = record { all = λ p on num. zero-found on num _ (sym (c .before .packed .ensures) ∙ c .if1 .taken) refl }
-
-sys-catalog-requires : tie.Need-sys-catalog-requires
-sys-catalog-requires c κs = search needs
+returns c = record { all = λ p on num. zero-found on _ (sym (c .before .packed .ensures) ∙ c .if1 .taken) refl }
 
 find-requires : tie.Need-find-requires
-find-requires c κs = rw (c .sys-catalog .ensures) (some-key (c .before .before .before .before .pre))
+find-requires c κs = some-key (c .before .before .before .pre)
 
 returns-2 : tie.Need-returns-2
 returns-2 c =
-    let a = c .before .before .before .before .before .args in
+    let a = c .before .before .before .before .args in
     let n = pack (a .name .0) (a .name .1) (a .name .2) in
-    let e : c .find .result ≡ placeNamed (a .image .now) (sysCatalog (a .o)) n = rw (← c .before .sys-catalog .ensures) (c .find .ensures .place) in
-    record { all = λ p on num. name-found on num n (λ z. c .before .before .if1 .left (c .before .before .before .packed .ensures ∙ z)) e }
+    let nz : n ≢ 0 = λ z. c .before .if1 .left (c .before .before .packed .ensures ∙ z) in
+    let at : (p : Plain) → NumbersOf (a .o) p → c .find .result ≡ placeNamed (a .image .now) (unitSys p) n =
+    λ p num. c .find .ensures .place ∙ ap (λ (v : Catalog). placeNamed (a .image .now) v n) (is-value (num .catalog)) in
+    record { all = λ p on num. name-found on n nz (at p num) }
 
 pub find-name-spec : {M : Type 1} → statement M
 find-name-spec =
-    tie.close (tie.spec packed-requires returns sys-catalog-requires find-requires returns-2)
+    tie.close (tie.spec packed-requires returns find-requires returns-2)

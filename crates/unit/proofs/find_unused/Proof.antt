@@ -1,24 +1,28 @@
 -- `unit::find_unused` meets its contract. Assumes nothing.
-use mathlib.Core.Path.{_≡_}
+use mathlib.Core.Path.{_≡_, ap, _∙_}
+use native.Mathlib.Omega.{arith}
 use borrow.Author.Needs.{needs}
 use Rattle.catalog.specs.Catalog.{placeUnused}
-use Rattle.unit.specs.Opened.{sysCatalog}
+use Rattle.catalog.specs.declared.Catalog.{Catalog}
+use Rattle.catalog.proofs.ValueLaws.{is-value}
+use Rattle.plain.specs.Unit.{Plain}
+use Rattle.unit.specs.Opened.{NumbersOf}
+use Rattle.unit.proofs.FindLaws.{unitSys}
 use Rattle.unit.proofs.UnusedLaws.{unused-found}
 use Rattle.unit.proofs.find_unused.Statement.{statement}
 use Rattle.unit.proofs.find_unused.Tie as tie
-
-sys-catalog-requires : tie.Need-sys-catalog-requires
-sys-catalog-requires c κs = search needs
 
 first-unused-requires : tie.Need-first-unused-requires
 first-unused-requires c κs = search needs
 
 returns : tie.Need-returns
 returns c =
-    let start = c .before .before .before in
+    let start = c .before .before in
     let a = start .args in
-    let e : c .first-unused .result ≡ placeUnused (a .image .now) (sysCatalog (a .o)) (a .key) = rw (← c .before .sys-catalog .ensures) (c .first-unused .ensures .place) in
-    (e, record { all = λ p on num. unused-found on num (a .key) (start .pre .1) e })
+    let e = c .first-unused .ensures .place in
+    let at : (p : Plain) → NumbersOf (a .o) p → c .first-unused .result ≡ placeUnused (a .image .now) (unitSys p) (a .key) =
+    λ p num. e ∙ ap (λ (v : Catalog). placeUnused (a .image .now) v (a .key)) (is-value (num .catalog)) in
+    (e, record { all = λ p on num. unused-found on (a .key) (omega (arith, start .pre .1, num .catalog .keys)) (at p num) })
 
 pub find-unused-spec : {M : Type 1} → statement M
-find-unused-spec = tie.close (tie.spec sys-catalog-requires first-unused-requires returns)
+find-unused-spec = tie.close (tie.spec first-unused-requires returns)

@@ -13,7 +13,7 @@ find-layers-requires c κs = sys-of (c .before .before .pre .on) (c .geometry-of
 
 returns : tie.Need-returns
 returns c = record {
-  all = λ p on. numbers-of on (c .before .before .geometry-of .ensures) _ refl refl refl refl (c .before .find-layers .ensures);
+  all = λ p on. numbers-of on (c .before .before .geometry-of .ensures) _ refl refl refl refl refl refl (c .before .find-layers .ensures);
 }
 
 pub open-unit-spec : {M : Type 1} → statement M

@@ -1,0 +1,4 @@
+pub mod Cases
+pub mod Paper
+pub mod ExampleUnits
+pub mod Examples

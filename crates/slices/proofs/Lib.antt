@@ -1,0 +1,6 @@
+pub mod BlockLaws
+pub mod ZeroLaws
+pub mod TakeLaws
+pub mod StoreLaws
+pub mod FitLaws
+pub mod GiveLaws

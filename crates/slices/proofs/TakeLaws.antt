@@ -1,0 +1,266 @@
+-- Taking slices: which one is next, what one step takes, and that the rest of the taking goes on as it would have.
+use mathlib.Core.Path.{_≡_, refl, sym, ap, _∙_}
+use mathlib.Core.Bool.{Bool, true, false, cond, _||_}
+use mathlib.Core.List.{List, [], _∷_, _++_, append-assoc, append-nil}
+use Prim.Native.Nat.{ℕ, suc, _+_, _≤_, _<_}
+use native.Mathlib.Omega.{arith}
+use native.Mathlib.Nat.{mul-le-mul-left}
+use lib.Dec.{leb, eqb, leb→le}
+use lib.ListN.{length, length-append}
+use lib.Seq.{take-append-seam}
+use borrow.Author.Tests.{le-leb, lt-leb}
+use Rattle.types.specs.declared.Slice.{Slice}
+use Rattle.disc.specs.Slices.{occurrences, InRangeOnce, freeCount, choose, taken, lastOf}
+use Rattle.disc.specs.Stretches.{stretchCount}
+use Rattle.disc.specs.Map.{mapBit}
+use Rattle.disc.proofs.Compare.{same-or}
+use Rattle.disc.proofs.DecideLaws.{holds}
+use Rattle.disc.proofs.SliceLaws.{choose-law, inUnit-out, occurrences-append, sum-law, taken-law, length-taken}
+use Rattle.disc.proofs.CutLaws.{count-take}
+use Rattle.map.specs.declared.Choice.{Choice}
+use Rattle.map.specs.declared.Choice.the-variants.{Free, None}
+use Rattle.map.specs.Marks.{allMarked, allUsed, markedUsed}
+use Rattle.map.specs.Choice.{chosen, choiceOf}
+use Rattle.map.proofs.MarkLaws.{all-marked-one, map-taken, length-all-marked}
+use Rattle.map.proofs.ChoiceLaws.{chosen-choose, choice-full, choice-free, choice-none}
+use Rattle.index.specs.Block.{wholeIndex, lastSlice, stretchesWith, appended, Appendable}
+use Rattle.index.proofs.ChangeLaws.{append-whole, append-ready}
+use Rattle.plain.specs.Unit.{Plain, M, held, freeSlices}
+use Rattle.refine.specs.OnDisc.{OnDisc}
+use Rattle.slices.specs.declared.Next.{Next}
+use Rattle.slices.specs.declared.Next.the-variants.{At, NoneFree, Crowded}
+use Rattle.slices.specs.FileBlock.{SliceBlock, FileBlock}
+use Rattle.slices.specs.Take.{CanTakeFrom, CanTake, nextOf, nextWord, TakenFrom, Taken}
+use Rattle.slices.proofs.BlockLaws.{slice-in, start-small, block-last, block-with}
+
+-- the last of a longer list
+last-snoc : (l : List ℕ) (k : ℕ) → lastOf (l ++ (k ∷ [])) ≡ k
+last-snoc [] k = refl
+last-snoc (x ∷ []) k = refl
+last-snoc (x ∷ y ∷ l) k = last-snoc (y ∷ l) k
+
+-- a longer list has no fewer stretches
+count-prefix : (l m : List ℕ) → stretchCount l ≤ stretchCount (l ++ m)
+count-prefix l m = rw (take-append-seam l m) at (count-take (length l) (l ++ m))
+
+module _ {image block : List ℕ} {F s m n : ℕ} {held slices : List ℕ} (can : CanTakeFrom image block F s m n held slices) where
+  -- fewer can be taken too
+  pub can-fewer : {k : ℕ} → k ≤ n → CanTakeFrom image block F s m k held slices
+  can-fewer x = record {
+    own = can .own;
+    long = can .long;
+    map = can .map;
+    once = can .once;
+    enough = omega (arith, can .enough);
+    part = can .part;
+  }
+
+  -- all slices of the longer file are the unit's, and none stands in it twice
+  pub longer-once : InRangeOnce m (slices ++ taken m held (lastOf slices) n)
+  longer-once k =
+      let new : List ℕ = taken m held (lastOf slices) n in
+      omega (arith, occurrences-append k slices new, occurrences-append k new held, taken-law m held (lastOf slices) n (can .once) (can .enough) k, can .part k)
+
+  -- the block of the longer file
+  pub longer-own : {longer : List ℕ} → stretchCount (slices ++ taken m held (lastOf slices) n) ≤ 127 → longer ≡ wholeIndex F s (slices ++ taken m held (lastOf slices) n)
+      → SliceBlock longer F s m (slices ++ taken m held (lastOf slices) n)
+  longer-own few words = record {
+    size = can .own .size;
+    most = can .own .most;
+    top = can .own .top;
+    words = words;
+    few = few;
+    once = longer-once;
+  }
+
+-- once n of n + r slices are taken, the map is that of a file whose slices are among those held then
+pub can-after : {image block : List ℕ} {F s m : ℕ} (n r : ℕ) {held slices : List ℕ} → CanTakeFrom image block F s m (n + r) held slices → {other l : List ℕ} → SliceBlock other F s m l
+    → ((k : ℕ) → occurrences k l ≤ occurrences k (taken m held (lastOf slices) n ++ held))
+    → CanTakeFrom (allUsed image (taken m held (lastOf slices) n)) other F s m r (taken m held (lastOf slices) n ++ held) l
+can-after {image} {m = m} n r {held} {slices} can own part =
+    let new : List ℕ = taken m held (lastOf slices) n in
+    let once : InRangeOnce m (new ++ held) = taken-law m held (lastOf slices) n (can .once) (omega (arith, can .enough)) in
+    record {
+      own = own;
+      long = omega (arith, can .long, length-all-marked 0 new image);
+      map = map-taken m new held image (own .most) (can .long) (can .map) once;
+      once = once;
+      enough = omega (arith, can .enough, sum-law m held (can .once), sum-law m (new ++ held) once, length-append new held, length-taken m held (lastOf slices) n);
+      part = part;
+    }
+
+-- slices of a file of a unit on the image
+pub unit-take : {image block : List ℕ} {p : Plain} {n : ℕ} {slices : List ℕ} → OnDisc image p → FileBlock image block (p .F) (p .s) (M p) slices → n ≤ freeSlices p
+    → ((k : ℕ) → occurrences k slices ≤ occurrences k (held p)) → CanTakeFrom image block (p .F) (p .s) (M p) n (held p) slices
+unit-take on file enough part =
+    record { own = file .own; long = file .long; map = on .layout .map; once = on .good .once; enough = enough; part = part }
+
+-- ---- the next slice
+
+module _ {image block : List ℕ} {F s m : ℕ} {held slices : List ℕ} (can : CanTakeFrom image block F s m 0 held slices) where
+  module _ {last : ℕ} {r : Choice} (l : last ≡ lastSlice F s block 0) (q : r ≡ choiceOf (chosen (mapBit image) m last)) where
+    choice : choiceOf (chosen (mapBit image) m (lastOf slices)) ≡ r
+    choice = ap (λ (x : ℕ). choiceOf (chosen (mapBit image) m x)) (sym (l ∙ block-last (can .own))) ∙ sym q
+
+    picked : chosen (mapBit image) m (lastOf slices) ≡ choose m held (lastOf slices)
+    picked = chosen-choose m held image (can .own .most) (can .map) (lastOf slices)
+
+    pub next-none : r ≡ None → NoneFree ≡ nextOf m held slices
+    unfolding nextOf
+    next-none z = same-or (freeCount m held) 0
+        (λ full. rw (lt-leb 1 (freeCount m held) (omega arith)) refl)
+        (λ d.
+        let inside = inUnit-out m (choose m held (lastOf slices)) (omega (arith, choose-law m (lastOf slices) held (omega arith) .1)) .0 in
+        absurd (omega (arith, choice-none (chosen (mapBit image) m (lastOf slices)) (choice ∙ z), picked, inside)))
+
+    module _ {k : Slice} (at : r ≡ Free k) where
+      is : (chosen (mapBit image) m (lastOf slices) ≡ k .0) × (1 ≤ k .0)
+      is = choice-free (chosen (mapBit image) m (lastOf slices)) k (choice ∙ at)
+
+      some : 1 ≤ freeCount m held
+      some = same-or (freeCount m held) 0
+          (λ full.
+          let none = choice-none (chosen (mapBit image) m (lastOf slices)) (choice-full m held image (can .own .most) (can .map) (lastOf slices) full) in
+          absurd (omega (arith, none, is)))
+          (λ d. omega arith)
+
+      stretches-is : stretchesWith F s (k .0) block 0 ≡ stretchCount (slices ++ (choose m held (lastOf slices) ∷ []))
+      stretches-is = block-with (can .own) (k .0) (is .1) ∙ ap (λ (x : ℕ). stretchCount (slices ++ (x ∷ []))) (sym (is .0) ∙ picked)
+
+      pub next-crowded : 127 < stretchesWith F s (k .0) block 0 → Crowded ≡ nextOf m held slices
+      unfolding nextOf
+      next-crowded x =
+          let many : 127 < stretchCount (slices ++ (choose m held (lastOf slices) ∷ [])) = omega (arith, stretches-is) in
+          rw (le-leb 1 (freeCount m held) some, lt-leb (stretchCount (slices ++ (choose m held (lastOf slices) ∷ []))) 127 many) refl
+
+      pub next-at : stretchesWith F s (k .0) block 0 ≤ 127 → At k ≡ nextOf m held slices
+      unfolding nextOf
+      next-at x =
+          let few : stretchCount (slices ++ (choose m held (lastOf slices) ∷ [])) ≤ 127 = omega (arith, stretches-is) in
+          let e : k .0 ≡ choose m held (lastOf slices) = sym (is .0) ∙ picked in
+          rw (le-leb 1 (freeCount m held) some, le-leb (stretchCount (slices ++ (choose m held (lastOf slices) ∷ []))) 127 few) (ap (λ (x : ℕ). At (record { 0 = x })) e)
+
+-- ---- one slice
+
+module _ {image block : List ℕ} {F s m n : ℕ} {held slices : List ℕ} (can : CanTakeFrom image block F s m (suc n) held slices) where
+  -- the slice that is taken
+  abbrev pub next : ℕ
+  next = choose m held (lastOf slices)
+
+  pub next-inside : (1 ≤ next) × (next ≤ m)
+  next-inside = inUnit-out m next (omega (arith, choose-law m (lastOf slices) held (omega (arith, can .enough)) .1))
+
+  -- the answer, as one is free
+  answer : nextOf m held slices ≡ cond (leb (stretchCount (slices ++ (next ∷ []))) 127) (At (record { 0 = next })) Crowded
+  unfolding nextOf
+  answer = rw (le-leb 1 (freeCount m held) (omega (arith, can .enough))) refl
+
+  pub one-at : {k : Slice} → At k ≡ nextOf m held slices → (k .0 ≡ next) × (stretchCount (slices ++ (next ∷ [])) ≤ 127)
+  one-at {k} e = go (leb (stretchCount (slices ++ (next ∷ []))) 127) refl (e ∙ answer)
+    where
+      go : (b : Bool) → leb (stretchCount (slices ++ (next ∷ []))) 127 ≡ b → At k ≡ cond b (At (record { 0 = next })) Crowded
+          → (k .0 ≡ next) × (stretchCount (slices ++ (next ∷ [])) ≤ 127)
+      go true f g = (ap sliceOf g, leb→le _ _ (rw f tt))
+        where
+          sliceOf : Next → ℕ
+          sliceOf (At k) = k .0
+          sliceOf NoneFree = 0
+          sliceOf Crowded = 0
+      go false f g = let z : _≡_ {A = ℕ} 0 1 = cc in absurd (omega arith)
+
+  module _ (few : stretchCount (slices ++ (next ∷ [])) ≤ 127) where
+    pub one-few : nextOf m held slices ≡ At (record { 0 = next })
+    one-few = answer ∙ rw (le-leb (stretchCount (slices ++ (next ∷ []))) 127 few) refl
+
+    pub ready : Appendable F s next block
+    ready =
+        let own = can .own in
+        let all : suc (length slices) ≤ m =
+        omega (arith, sum-law m (slices ++ (next ∷ [])) (longer-once (can-fewer can {k = 1} (omega arith))), length-append slices (next ∷ [])) in
+        rw (own .words)
+        (append-ready F s slices next (omega (arith, own .size)) (λ j x. slice-in own j x .0) (next-inside .0) few (start-small own next (next-inside .1))
+        (omega (arith, mul-le-mul-left s all, own .top)))
+
+    pub appended-is : appended F s next block ≡ wholeIndex F s (slices ++ (next ∷ []))
+    appended-is =
+        ap (appended F s next) (can .own .words)
+        ∙ append-whole F s slices next (omega (arith, can .own .size)) (λ j x. slice-in (can .own) j x .0) (next-inside .0) few
+
+pub took-one : {image block : List ℕ} {F s m : ℕ} {held slices : List ℕ} (can : CanTakeFrom image block F s m 1 held slices) {k : Slice} {after new : List ℕ}
+    → At k ≡ nextOf m held slices → after ≡ markedUsed image (k .0) → new ≡ appended F s (k .0) block → TakenFrom image F s m 1 held slices after new true
+took-one {image} {block} {F} {s} can {k} e a b =
+    let is = one-at {n = 0} can e in
+    record {
+      fits = holds (is .1);
+      marked = λ _. a ∙ ap (markedUsed image) (is .0) ∙ sym (all-marked-one 0 image (next {n = 0} can));
+      words = λ _. b ∙ ap (λ (x : ℕ). appended F s x block) (is .0) ∙ appended-is {n = 0} can (is .1);
+    }
+
+-- ---- several slices: what is left to take gives what was to be taken
+
+pub record Left (image₀ image block : List ℕ) (F s m n r : ℕ) (held slices : List ℕ) : Type 0 where
+  pub now-held : List ℕ
+  pub now-slices : List ℕ
+  pub can : CanTakeFrom image block F s m r now-held now-slices
+  pub same-image : allUsed image (taken m now-held (lastOf now-slices) r) ≡ allUsed image₀ (taken m held (lastOf slices) n)
+  pub same-slices : now-slices ++ taken m now-held (lastOf now-slices) r ≡ slices ++ taken m held (lastOf slices) n
+
+pub left-start : {image block : List ℕ} {F s m n : ℕ} {held slices : List ℕ} → CanTakeFrom image block F s m n held slices → Left image image block F s m n n held slices
+left-start {held = held} {slices = slices} can = record { now-held = held; now-slices = slices; can = can; same-image = refl; same-slices = refl }
+
+module _ {image₀ image block : List ℕ} {F s m n r : ℕ} {held slices : List ℕ} (left : Left image₀ image block F s m n (suc r) held slices) where
+  abbrev k : ℕ
+  k = choose m (left .now-held) (lastOf (left .now-slices))
+
+  abbrev rest : List ℕ
+  rest = taken m (k ∷ left .now-held) k r
+
+  one : CanTakeFrom image block F s m 1 (left .now-held) (left .now-slices)
+  one = can-fewer (left .can) (omega arith)
+
+  pub left-one : CanTake image block F s m 1
+  left-one = record { held = left .now-held; slices = left .now-slices; can = one }
+
+  module _ {after new : List ℕ} {b : Bool} (took : Taken image block F s m 1 after new b) where
+    pub left-next : b ≡ true → Left image₀ after new F s m n r held slices
+    unfolding allMarked
+    left-next e =
+        let t = took .all (left .now-held) (left .now-slices) one in
+        let own = longer-own one (t .fits .yes e) refl in
+        rw (t .marked e, t .words e) (record {
+          now-held = k ∷ left .now-held;
+          now-slices = left .now-slices ++ (k ∷ []);
+          can = can-after 1 r (can-fewer (left .can) (omega arith)) own (λ j. omega (arith, occurrences-append j (left .now-slices) (k ∷ []), left .can .part j));
+          same-image = rw (last-snoc (left .now-slices) k) (left .same-image);
+          same-slices = rw (last-snoc (left .now-slices) k, append-assoc (left .now-slices) (k ∷ []) rest) (left .same-slices);
+        })
+
+    -- one slice has no room: then all have none
+    pub left-full : b ≡ false → stretchCount (slices ++ taken m held (lastOf slices) n) ≤ 127 → ⊥
+    left-full e few =
+        let t = took .all (left .now-held) (left .now-slices) one in
+        let longer : List ℕ = left .now-slices ++ (k ∷ []) in
+        t .fits .not e (omega (arith, count-prefix longer rest, ap stretchCount (append-assoc (left .now-slices) (k ∷ []) rest ∙ left .same-slices)))
+
+pub left-done : {image₀ image block : List ℕ} {F s m n : ℕ} {held slices : List ℕ} → Left image₀ image block F s m n 0 held slices
+    → TakenFrom image₀ F s m n held slices image block true
+unfolding allMarked
+left-done {F = F} {s = s} left =
+    let e = sym (append-nil (left .now-slices)) ∙ left .same-slices in
+    record {
+      fits = holds (rw e at (left .can .own .few));
+      marked = λ _. left .same-image;
+      words = λ _. left .can .own .words ∙ ap (wholeIndex F s) e;
+    }
+
+-- ---- the questions of an append, for one slice
+
+pub next-word : (m : ℕ) (held slices : List ℕ) (n : ℕ) → n ≡ 1
+    → nextWord (nextOf m held slices) ≡ cond (leb n (freeCount m held)) (cond (eqb n 0 || leb (stretchCount (slices ++ taken m held (lastOf slices) n)) 127) 0 0x0808) 0x0900
+unfolding nextOf
+next-word m held slices n e = rw e (go (leb 1 (freeCount m held)) (leb (stretchCount (slices ++ (choose m held (lastOf slices) ∷ []))) 127))
+  where
+    go : (a b : Bool) → nextWord (cond a (cond b (At (record { 0 = choose m held (lastOf slices) })) Crowded) NoneFree) ≡ cond a (cond b 0 0x0808) 0x0900
+    go true true = refl
+    go true false = refl
+    go false b = refl

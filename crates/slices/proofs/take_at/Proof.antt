@@ -1,0 +1,29 @@
+-- `slices::take_at` meets its contract.
+use borrow.Author.Needs.{needs}
+use native.Mathlib.Omega.{arith}
+use Rattle.slices.proofs.StoreLaws.{can-take-more, took-none, took-some, longer-words}
+use Rattle.slices.proofs.take_at.Statement.{statement}
+use Rattle.slices.proofs.take_at.Tie as tie
+
+returns : tie.Need-returns
+returns c = record { all = λ held slices can. took-none can (c .before .before .args .q .0) (c .if1 .taken) }
+
+take-slices-requires : tie.Need-take-slices-requires
+take-slices-requires c κs = can-take-more (c .before .before .before .before .before .pre .1 .can)
+
+returns-2 : tie.Need-returns-2
+returns-2 c =
+    let stored = c .before .before in
+    let took = stored .before .before .before .before .before in
+    let q = took .before .before .before .before .before .before .args .q .0 in
+    record {
+      all = λ held slices can. (
+        took-some can (took .take-slices .ensures) (omega arith) q (stored .store-block .ensures),
+        longer-words can (took .take-slices .ensures),
+      );
+    }
+
+pub take-at-spec : {M : Type 1} → statement M
+take-at-spec =
+    tie.close
+    (tie.spec returns (λ c. search needs) take-slices-requires (λ c κs. search needs) (λ c. search needs) returns-2)

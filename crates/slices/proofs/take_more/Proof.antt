@@ -1,0 +1,47 @@
+-- `slices::take_more` meets its contract: the block goes into the first sector of the longer file.
+use borrow.Author.Needs.{needs}
+use mathlib.Core.Path.{ap, _∙_}
+use Prim.Native.Nat.{ℕ}
+use native.Mathlib.Omega.{arith}
+use Rattle.refine.specs.Writes.{takenImage}
+use Rattle.slices.proofs.StoreLaws.{new, can-take-more, took-none, took-some, took-first, took-room, longer-words}
+use Rattle.slices.proofs.take_more.Statement.{statement}
+use Rattle.slices.proofs.take_more.Tie as tie
+
+returns : tie.Need-returns
+returns c = record { all = λ held slices can. took-none can _ (c .if1 .taken) }
+
+take-slices-requires : tie.Need-take-slices-requires
+take-slices-requires c κs = can-take-more (c .before .before .before .before .before .pre .can)
+
+store-block-requires : tie.Need-store-block-requires
+store-block-requires c κs =
+    let told = c .before in
+    let took = told .before .before .before .before in
+    took-room (took .before .before .before .before .before .before .pre .can) (took .take-slices .ensures) (omega arith) _ (told .block-sector .ensures)
+
+returns-2 : tie.Need-returns-2
+returns-2 c =
+    let stored = c .before .before in
+    let told = stored .before .before in
+    let took = told .before .before .before .before in
+    let a = took .before .before .before .before .before .before .args in
+    record {
+      all = λ held slices can. (
+        took-some can (took .take-slices .ensures) (omega arith) (told .block-sector .result .0) (stored .store-block .ensures)
+            ∙ ap (λ (k : ℕ). takenImage (a .image .now) k (a .first .0) (a .s) slices (new can)) (told .block-sector .ensures ∙ took-first can (took .take-slices .ensures) (omega arith)),
+        longer-words can (took .take-slices .ensures),
+      );
+    }
+
+pub take-more-spec : {M : Type 1} → statement M
+take-more-spec =
+    tie.close
+    (tie.spec
+    returns
+    (λ c. search needs)
+    take-slices-requires
+    (λ c κs. search needs)
+    store-block-requires
+    (λ c. search needs)
+    returns-2)

@@ -1,0 +1,84 @@
+-- `slices::zero_sectors` meets its contract. The loop's invariant: j sectors are zeroed, for every slice list that fits. The
+-- measure is the number of sectors left.
+use borrow.Author.Needs.{needs}
+use mathlib.Core.Path.{_≡_, refl, ap, _∙_}
+use mathlib.Core.List.{List}
+use Prim.Native.Nat.{ℕ, _-_, _≤_, _<_}
+use native.Mathlib.Omega.{arith}
+use lib.ListN.{length}
+use Rattle.words.proofs.StoreLaws.{length-store}
+use Rattle.refine.specs.Writes.{zeroedSectors}
+use Rattle.slices.specs.Zero.{CanZeroFrom, CanZero}
+use Rattle.slices.proofs.ZeroLaws.{zero-none, zero-next, zero-inside}
+use Rattle.slices.proofs.zero_sectors.Statement.{statement}
+use Rattle.slices.proofs.zero_sectors.Tie as tie
+
+abbrev Inv-loop : tie.InvT-loop
+Inv-loop image₀ from n block j₀ image j =
+    (j ≤ n) × (length image ≡ length image₀) × CanZero image₀ (block .words) from n
+    × ((F s m : ℕ) (slices : List ℕ) → CanZeroFrom image₀ (block .words) from n F s m slices → image ≡ zeroedSectors image₀ F s slices from j)
+
+abbrev μ-loop : tie.MeasureT-loop
+μ-loop image₀ from n block j₀ image j = n - j
+
+loop-holds : tie.Need-loop-holds Inv-loop μ-loop
+loop-holds c = (omega arith, refl, c .before .pre, λ F s m slices can. zero-none _ F s slices _)
+
+cast-sector-at : tie.Need-cast-sector-at Inv-loop μ-loop
+cast-sector-at c = search needs
+
+add-sector-at : tie.Need-add-sector-at Inv-loop μ-loop
+add-sector-at c = search needs
+
+sector-at-requires : tie.Need-sector-at-requires Inv-loop μ-loop
+sector-at-requires c κs = search needs
+
+clear-sector-requires : tie.Need-clear-sector-requires Inv-loop μ-loop
+clear-sector-requires c κs =
+    let at-loop = c .before .before .before .before .before .before in
+    zero-inside (at-loop .loop .inv .2 .can) (at-loop .loop .image) (at-loop .loop .j) (c .before .sector-at .result .0) (omega arith) (c .before .sector-at .ensures) (at-loop .loop .inv .1)
+
+add-j : tie.Need-add-j Inv-loop μ-loop
+add-j c = search needs
+
+loop-less : tie.Need-loop-less Inv-loop μ-loop
+loop-less c = omega arith
+
+loop-again : tie.Need-loop-again Inv-loop μ-loop
+loop-again c =
+    let cleared = c .before .before in
+    let told = cleared .before .before in
+    let at-loop = told .before .before .before .before .before in
+    let lt : at-loop .loop .j < at-loop .before .before .args .n = omega arith in (
+      omega arith,
+      ap length (cleared .clear-sector .ensures) ∙ length-store (at-loop .loop .image) _ _ ∙ at-loop .loop .inv .1,
+      at-loop .loop .inv .2,
+      λ F s m slices can.
+          zero-next can (at-loop .loop .image) (at-loop .loop .j) (told .sector-at .result .0) lt (told .sector-at .ensures) (at-loop .loop .inv .3 F s m slices can) (cleared .clear-sector .ensures),
+    )
+
+same-length : tie.Need-same-length Inv-loop μ-loop
+same-length c = c .before .loop .inv .1
+
+returns : tie.Need-returns Inv-loop μ-loop
+returns c =
+    let a = c .before .before .before .args in
+    let e : c .before .loop .j ≡ a .n = omega arith in
+    record { all = λ F s m slices can. c .before .loop .inv .3 F s m slices can ∙ ap (zeroedSectors (a .image .now) F s slices (a .from)) e }
+
+pub zero-sectors-spec : {M : Type 1} → statement M
+zero-sectors-spec =
+    tie.close
+    (tie.spec
+    Inv-loop
+    μ-loop
+    loop-holds
+    cast-sector-at
+    add-sector-at
+    sector-at-requires
+    clear-sector-requires
+    add-j
+    loop-less
+    loop-again
+    same-length
+    returns)

@@ -1,0 +1,29 @@
+-- "Gives back from the end": slices marked free, and the index block of those that are kept.
+use mathlib.Core.Path.{_≡_}
+use mathlib.Core.List.{List}
+use Prim.Native.Nat.{ℕ}
+use lib.ListN.{length, take, drop}
+use Rattle.disc.specs.Stretches.{sectorIn}
+use Rattle.map.specs.Marks.{allFree}
+use Rattle.index.specs.Block.{wholeIndex}
+use Rattle.refine.specs.Writes.{cutImage}
+use Rattle.slices.specs.FileBlock.{FileBlock}
+
+-- A file with this number of slices.
+pub record CanCutFrom (image block : List ℕ) (F s m total : ℕ) (slices : List ℕ) : Type 0 where
+  pub file : FileBlock image block F s m slices
+  pub count : length slices ≡ total
+
+pub record CanCut (image block : List ℕ) (F s total : ℕ) : Type 0 where
+  pub m : ℕ
+  pub slices : List ℕ
+  pub can : CanCutFrom image block F s m total slices
+
+-- The slices past the first `keep` are marked free.
+pub record Freed (image block : List ℕ) (F s keep total : ℕ) (after : List ℕ) : Type 0 where
+  pub all : (m : ℕ) (slices : List ℕ) → CanCutFrom image block F s m total slices → after ≡ allFree image (drop keep slices)
+
+-- Of an ordinary file `keep` slices are left, if it has more.
+pub record Cut (image block : List ℕ) (F s keep total : ℕ) (after new : List ℕ) : Type 0 where
+  pub all : (m : ℕ) (slices : List ℕ) → CanCutFrom image block F s m total slices
+      → (after ≡ cutImage image (sectorIn F s (take keep slices) 0) F s slices keep) × (new ≡ wholeIndex F s (take keep slices))

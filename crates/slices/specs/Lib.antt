@@ -1,0 +1,5 @@
+pub mod FileBlock
+pub mod Take
+pub mod Fit
+pub mod Give
+pub mod Zero

@@ -1,2 +1,0 @@
-pub mod TakeLaws
-pub mod GiveLaws
