@@ -1,38 +1,26 @@
 -- An image with sectors 0 to 5 of another: every write of the layout passes by those sectors, and so does every read.
-use mathlib.Core.Path.{_≡_, refl, sym, ap, ap₂, _∙_}
+use mathlib.Core.Path.{_≡_, refl, sym, ap, _∙_}
 use mathlib.Core.Bool.{Bool, true, false, cond}
 use mathlib.Core.List.{List, [], _∷_}
 use Prim.Native.Nat.{ℕ, zero, suc, _+_, _-_, _*_, _/_, _%_, _≤_, _<_}
 use native.Mathlib.Nat.{zero-add}
 use native.Mathlib.Omega.{arith}
-use lib.Count.{ones}
 use lib.Dec.{leb}
-use lib.ListN.{length, getD, set, take, drop, length-take, List·getD-eq-default}
-use lib.Seq.{sets, set-comm, getD-take, ext-getD}
+use lib.ListN.{length, getD, take, drop, length-take, List·getD-eq-default}
+use lib.Seq.{getD-take, ext-getD}
 use Rattle.disc.specs.Words.{word, Words}
 use Rattle.disc.specs.Stretches.{sectorIn}
 use Rattle.disc.specs.Kit.{mapSector}
-use Rattle.disc.specs.Map.{onesBelow, onesInMap}
+use Rattle.disc.specs.Map.{onesInMap}
 use Rattle.disc.proofs.Compare.{below-or}
 use Rattle.disc.proofs.WordLaws.{words-take}
 use Rattle.words.specs.Store.{store, zeroWords}
-use Rattle.words.proofs.StoreLaws.{length-store, store-one, store-in, store-above, words-store}
+use Rattle.words.proofs.StoreLaws.{length-store, store-one, store-in, store-above, store-store, words-store}
 use Rattle.map.specs.Marks.{withBit, marked, allMarked}
 use Rattle.map.proofs.MarkLaws.{length-marked}
 use Rattle.refine.specs.Writes.{countedFree, zeroedSectors, takenImage, cutBlock, cutImage}
+use Rattle.refine.proofs.Sectors.{ones-kept}
 use Rattle.demands.specs.Reserved.{reservedWords, SameReserved, SameOthers}
-
--- ---- two stores, the second behind the first, in either order
-
-set-store : (l : List ℕ) (i u j : ℕ) (vs : List ℕ) → i < j → store (set l i u) j vs ≡ set (store l j vs) i u
-unfolding store
-set-store l i u j [] h = refl
-set-store l i u j (v ∷ vs) h = ap (λ (m : List ℕ). sets m (suc j) vs) (set-comm l i j u v (omega arith)) ∙ set-store (set l j v) i u (suc j) vs (omega arith)
-
-store-store : (l : List ℕ) (i : ℕ) (us : List ℕ) (j : ℕ) (vs : List ℕ) → i + length us ≤ j → store (store l i us) j vs ≡ store (store l j vs) i us
-unfolding store
-store-store l i [] j vs h = refl
-store-store l i (u ∷ us) j vs h = store-store (set l i u) (suc i) us j vs (omega arith) ∙ ap (λ (m : List ℕ). sets m (suc i) us) (set-store l i u j vs (omega arith))
 
 -- ---- the image i with sectors 0 to 5 of x
 
@@ -134,13 +122,11 @@ unfolding allMarked
 beyond-all-marked v [] = beyond-none
 beyond-all-marked v (k ∷ l) = beyond-then (beyond-all-marked v l) (beyond-marked v k)
 
-ones-overlaid : (x i : List ℕ) (n : ℕ) → onesBelow (overlaid x i) n ≡ onesBelow i n
-ones-overlaid x i zero = refl
-ones-overlaid x i (suc n) = ap₂ (λ (a b : ℕ). a + ones b) (ones-overlaid x i n) (word-overlaid x i mapSector n (omega arith))
-
 pub beyond-counted : (s : ℕ) → Beyond (λ i. countedFree i s)
-unfolding countedFree onesInMap
-beyond-counted s = beyond-store-of _ (λ i. s * onesInMap i ∷ []) (omega arith) (λ x i. ap (λ (n : ℕ). s * n ∷ []) (ones-overlaid x i 256))
+unfolding countedFree
+beyond-counted s =
+    beyond-store-of _ (λ i. s * onesInMap i ∷ []) (omega arith)
+    (λ x i. ap (λ (n : ℕ). s * n ∷ []) (ones-kept {i = i} {j = overlaid x i} (record { at = λ b h. word-overlaid x i mapSector b (omega arith) })))
 
 -- ---- data sectors and index blocks
 

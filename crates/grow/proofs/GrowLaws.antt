@@ -95,21 +95,25 @@ module _ {image : List ℕ} {o : Opened} {p : Plain} (can : CanGrowFrom image o 
 
   -- ---- SYS's slices
 
-  had : {block : List ℕ} → block ≡ blockAt image 6 → sliceTotal (o .slice) block 0 ≡ length (p .sys)
-  had {block} e = ap (λ (s : ℕ). sliceTotal s block 0) (num .slice) ∙ block-total (sys-file (can .on) e .own)
+  -- SYS's index block is that of the catalog
+  own-block : {block : List ℕ} → block ≡ blockAt image (o .catalog .index .0) → block ≡ blockAt image 6
+  own-block e = e ∙ ap (blockAt image) (num .catalog .index)
 
-  pub had-small : {block : List ℕ} → block ≡ blockAt image 6 → sliceTotal (o .slice) block 0 < 65536
+  had : {block : List ℕ} → block ≡ blockAt image (o .catalog .index .0) → sliceTotal (o .slice) block 0 ≡ length (p .sys)
+  had {block} e = ap (λ (s : ℕ). sliceTotal s block 0) (num .slice) ∙ block-total (sys-file (can .on) (own-block e) .own)
+
+  pub had-small : {block : List ℕ} → block ≡ blockAt image (o .catalog .index .0) → sliceTotal (o .slice) block 0 < 65536
   had-small e = omega (arith, had e, part-sectors p gr (p .sys) (sys-ground gr .part), mul-le-mul-right (length (p .sys)) (can .on .good .limits .slice-low))
 
-  pub more-is : {block : List ℕ} {n : ℕ} → block ≡ blockAt image 6 → n ≡ ceilDiv (o .catalog .keys * (o .catalog .layers + 1)) (o .slice) - sliceTotal (o .slice) block 0 → n ≡ more
+  pub more-is : {block : List ℕ} {n : ℕ} → block ≡ blockAt image (o .catalog .index .0) → n ≡ ceilDiv (o .catalog .keys * (o .catalog .layers + 1)) (o .slice) - sliceTotal (o .slice) block 0 → n ≡ more
   more-is e q = q ∙ ap₂ (λ (a b : ℕ). a - b) (slices-is ∙ layer-count) (had e)
 
   pub more-small : more < 65536
   more-small = omega (arith, can .room, sum-law (M p) (held p) (can .on .good .once), can .on .good .limits .slices-high)
 
-  can-own : {block : List ℕ} → block ≡ blockAt image 6 → CanLengthenFrom image block (p .F) (p .s) (M p) more (held p) (p .sys)
+  can-own : {block : List ℕ} → block ≡ blockAt image (o .catalog .index .0) → CanLengthenFrom image block (p .F) (p .s) (M p) more (held p) (p .sys)
   can-own e = record {
-    file = sys-file (can .on) e;
+    file = sys-file (can .on) (own-block e);
     map = can .on .layout .map;
     once = can .on .good .once;
     enough = can .room;
@@ -117,21 +121,21 @@ module _ {image : List ℕ} {o : Opened} {p : Plain} (can : CanGrowFrom image o 
     few = can .few;
   }
 
-  pub can-lengthen : {block : List ℕ} {n : ℕ} → block ≡ blockAt image 6 → n ≡ more → CanLengthen image block (o .first .0) (o .slice) (o .slices) n
+  pub can-lengthen : {block : List ℕ} {n : ℕ} → block ≡ blockAt image (o .catalog .index .0) → n ≡ more → CanLengthen image block (o .first .0) (o .slice) (o .slices) n
   can-lengthen {block} {n} e q = record {
     held = held p;
     slices = p .sys;
     can = rw (num .first, num .slice, num .slices, q) (can-own e);
   }
 
-  pub six-inside : 6 * 256 + 256 ≤ length image
-  six-inside = omega (arith, sys-file (can .on) refl .long)
+  pub index-inside : o .catalog .index .0 * 256 + 256 ≤ length image
+  index-inside = omega (arith, num .catalog .index, sys-file (can .on) refl .long)
 
-  module _ {block taken longer : List ℕ} {n : ℕ} (e : block ≡ blockAt image 6) (q : n ≡ more)
-      (took : LengthenedAt image block 6 (o .first .0) (o .slice) (o .slices) n taken longer) where
+  module _ {block taken longer : List ℕ} {n : ℕ} (e : block ≡ blockAt image (o .catalog .index .0)) (q : n ≡ more)
+      (took : LengthenedAt image block (o .catalog .index .0) (o .first .0) (o .slice) (o .slices) n taken longer) where
     took-is : (taken ≡ takenImage image 6 (p .F) (p .s) (p .sys) (layerSlices p)) × (longer ≡ wholeIndex (p .F) (p .s) (p .sys ++ layerSlices p))
     took-is =
-        let own : LengthenedAt image block 6 (p .F) (p .s) (M p) more taken longer = rw (num .first, num .slice, num .slices, q) at took in
+        let own : LengthenedAt image block 6 (p .F) (p .s) (M p) more taken longer = rw (num .catalog .index, num .first, num .slice, num .slices, q) at took in
         own .all (held p) (p .sys) (can-own e)
 
     same : length taken ≡ length image

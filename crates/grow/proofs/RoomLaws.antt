@@ -109,7 +109,10 @@ module _ {image : List ℕ} {o : Opened} {block : List ℕ} {p : Plain} {slices 
   pub free-small : freeSlices p ≤ 4096
   free-small = omega (arith, sum-law (M p) (held p) (asked .on .good .once), asked .on .good .limits .slices-high)
 
-  module _ {six : List ℕ} (read : six ≡ blockAt image 6) where
+  module _ {six : List ℕ} (at-index : six ≡ blockAt image (o .catalog .index .0)) where
+    read : six ≡ blockAt image 6
+    read = at-index ∙ ap (blockAt image) (num .catalog .index)
+
     had : sliceTotal (o .slice) six 0 ≡ length (p .sys)
     had = ap (λ (s : ℕ). sliceTotal s six 0) (num .slice) ∙ block-total (sys-file (asked .on) read .own)
 

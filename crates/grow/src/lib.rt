@@ -16,7 +16,6 @@ use catalog::Found;
 use catalog::Place;
 use index::IndexBlock;
 use slices::Growth;
-use types::Sector;
 use unit::Opened;
 
 // The slices of SYS with so many layers: H times L / s rounded up.
@@ -46,7 +45,7 @@ pub fn room(image: &[u16], o: Opened, layers: u16, file: IndexBlock, more: u16) 
     requires { ⌜ CanAsk (now image) o (file .words) ⌝ }
     ensures { λ r. ⌜ RoomFor (now (image .entry)) o layers (file .words) more r ⌝ }
 {
-    let sys = index::read_block(image, Sector(6));
+    let sys = index::read_block(image, o.catalog.index);
     let for_sys = sys_more(o, layers, sys);
     let free = map::count_free(image) as u32;
     if free < for_sys + more as u32 {
@@ -71,9 +70,17 @@ fn add_layer(image: &mut [u16], o: Opened)
     requires { ⌜ CanGrow (now image) o ⌝ }
     ensures { λ _. ⌜ LayerAdded (now (image .entry)) o (now (image .exit)) ⌝ }
 {
-    let block = index::read_block(image, Sector(6));
+    let block = index::read_block(image, o.catalog.index);
     let more = sys_more(o, o.catalog.layers + 1, block) as u16;
-    let longer = slices::take_at(image, Sector(6), block, o.first, o.slice, o.slices, more);
+    let longer = slices::take_at(
+        image,
+        o.catalog.index,
+        block,
+        o.first,
+        o.slice,
+        o.slices,
+        more,
+    );
     slices::zero_sectors(
         image,
         longer,

@@ -1,65 +1,31 @@
--- What the image says of a file: its attributes, the sector of a block, its index block's slices and stretches.
+-- What the image says of a file by its index block: its slices and stretches, and whether one more can be taken.
 use mathlib.Core.Path.{_≡_, refl, sym, ap, ap₂, _∙_}
 use mathlib.Core.Bool.{Bool, true, false}
 use mathlib.Core.List.{List}
 use mathlib.Core.Logic.{_≢_}
 use mathlib.Core.Option.{some}
-use Prim.Native.Nat.{ℕ, suc, _+_, _*_, _<_}
+use Prim.Native.Nat.{ℕ, suc, _+_, _<_}
 use native.Mathlib.Omega.{arith}
-use native.Mathlib.Nat.{mul-comm}
 use native.Mathlib.Numerals.{add-one}
 use lib.Dec.{ltb}
 use lib.ListN.{length}
 use borrow.Author.Tests.{le-leb}
 use Rattle.disc.specs.Numbers.{need}
 use Rattle.disc.specs.Slices.{InRangeOnce}
-use Rattle.disc.specs.Stretches.{blockSector, fileFrom}
-use Rattle.disc.specs.Entries.{indexSector}
 use Rattle.disc.proofs.SliceLaws.{sum-law}
-use Rattle.disc.proofs.Geometry.{need-cover}
-use Rattle.disc.proofs.EntryLaws.{entry-attributes}
-use Rattle.index.specs.Block.{wholeIndex, jointSector, sliceTotal}
-use Rattle.catalog.specs.declared.Place.{Place}
-use Rattle.catalog.specs.declared.Found.{Found}
-use Rattle.catalog.specs.declared.Found.the-variants.{At, Nothing}
-use Rattle.catalog.specs.Catalog.{entryWord}
+use Rattle.index.specs.Block.{wholeIndex, sliceTotal}
 use Rattle.plain.specs.Table.{tableFind}
 use Rattle.plain.specs.Unit.{Plain, File, M, held, freeSlices}
 use Rattle.plain.specs.Transput.{oneIf, slicesToTake}
 use Rattle.refine.specs.OnDisc.{OnDisc}
 use Rattle.refine.proofs.Ground.{ground, part-file}
-use Rattle.steps.proofs.WriteLaws.{entry-of}
 use Rattle.unit.specs.declared.Opened.{Opened}
-use Rattle.unit.specs.Opened.{NumbersOf}
-use Rattle.unit.specs.Find.{FindsName}
-use Rattle.unit.specs.Files.{BlockOf}
-use Rattle.unit.proofs.OpenLaws.{on-catalog}
 use Rattle.slices.specs.declared.Next.{Next}
 use Rattle.slices.specs.FileBlock.{FileBlock}
-use Rattle.slices.specs.Take.{CanTakeFrom, nextOf, nextWord, Chosen}
-use Rattle.slices.proofs.BlockLaws.{block-total, sector-told, unit-file}
-use Rattle.slices.proofs.TakeLaws.{unit-take, next-word}
-use Rattle.output.specs.Output.{entryAttributes, AttributesOf, BlockSectorOf, roomWord, RoomFor}
-
--- ---- attributes
-
-module _ {image : List ℕ} {o : Opened} {n : ℕ} {found : Found} (finds : FindsName image o n found) where
-  pub attributes-none : found ≡ Nothing → AttributesOf image o n 0
-  attributes-none e = record { all = λ p on num. sym (ap entryAttributes (finds .all p on num .nothing e)) }
-
-  pub attributes-some : {place : Place} {r : ℕ} → found ≡ At place → r ≡ entryWord image place 6 → AttributesOf image o n r
-  attributes-some {place} e w = record {
-    all = λ p on num.
-        let a = finds .all p on num .at place e in
-        w ∙ a .holds 6 (omega arith) ∙ sym (ap entryAttributes (a .entered));
-  }
-
--- those of a file
-pub file-attributes : {image : List ℕ} {o : Opened} {n r : ℕ} {p : Plain} {f : File} → AttributesOf image o n r → OnDisc image p → NumbersOf o p → tableFind n (p .files) ≡ some f → r ≡ f .attributes
-file-attributes {n = n} {p = p} {f = f} h on num file =
-    let good = on .good .files n f file in
-    h .all p (on-catalog on) num ∙ ap entryAttributes (entry-of p n f (good .ordinary) file)
-    ∙ entry-attributes n (f .optional) (f .attributes) (f .booked) (indexSector (p .F) (p .s) (f .bookedSlices) (f .slices)) (p .s * f .bookedSlices) (f .tail) (good .optional .count)
+use Rattle.slices.specs.Take.{CanTakeFrom, nextWord, nextAsked, Chosen}
+use Rattle.slices.proofs.BlockLaws.{block-total, unit-file}
+use Rattle.slices.proofs.TakeLaws.{unit-take}
+use Rattle.output.specs.Output.{roomWord, RoomFor}
 
 -- ---- the block of a file on the image
 
@@ -69,12 +35,6 @@ module _ {image : List ℕ} {p : Plain} (on : OnDisc image p) (n : ℕ) {f : Fil
 
   pub file-block : {words : List ℕ} → words ≡ wholeIndex (p .F) (p .s) (f .slices) → FileBlock image words (p .F) (p .s) (M p) (f .slices)
   file-block {words} e = unit-file image words (f .slices) (on .good .limits) (on .layout .size) e (on .good .files n f file .few) once
-
-  pub sector-is : {words : List ℕ} → words ≡ wholeIndex (p .F) (p .s) (f .slices) → (k : ℕ) → k < length (f .sectors)
-      → jointSector words 0 (k + 1) ≡ blockSector (p .F) (p .s) (f .slices) fileFrom k
-  sector-is e k x =
-      sector-told (file-block e .own) (k + 1)
-      (omega (arith, need-cover (p .s) (length (f .sectors)) (length (f .slices)) (omega (arith, on .good .limits .slice-low)) (on .good .files n f file .covered) k x, mul-comm (p .s) (length (f .slices))))
 
   -- ---- the slices of its block
 
@@ -99,19 +59,12 @@ module _ {image : List ℕ} {p : Plain} (on : OnDisc image p) (n : ℕ) {f : Fil
     unfolding roomWord
     room-none z = rw (z, le-leb 0 (freeSlices p) (omega arith)) refl
 
-    room-some : slicesToTake (p .s) f ≢ 0 → nextWord (nextOf (M p) (held p) (f .slices)) ≡ roomWord p f
-    unfolding roomWord
-    room-some d =
-        next-word (M p) (held p) (f .slices) (slicesToTake (p .s) f) (one-most (ltb (length (f .slices)) (need (p .s) (suc (length (f .sectors))))) d)
+    room-some : slicesToTake (p .s) f ≢ 0 → nextAsked (M p) (held p) (f .slices) ≡ roomWord p f
+    unfolding roomWord nextAsked
+    room-some d = rw (one-most (ltb (length (f .slices)) (need (p .s) (suc (length (f .sectors))))) d) refl
 
     can-take : CanTakeFrom image words (p .F) (p .s) (M p) 0 (held p) (f .slices)
     can-take = unit-take on (file-block e) (omega arith) (part-file p (ground p (on .good)) n f file)
-
--- ---- the sector of a block by the index sector
-
-pub block-sector-of : {image : List ℕ} {index k r : ℕ} {words : List ℕ} → BlockOf image index words → r ≡ jointSector words 0 (k + 1) → BlockSectorOf image index k r
-block-sector-of {k = k} b e =
-    record { all = λ p n f from. e ∙ sector-is (from .on) n (from .file) (b .all p (from .on) n f (from .file) (from .first)) k (from .below) }
 
 -- ---- the room for an append, by what the code finds
 
@@ -123,5 +76,5 @@ module _ {image : List ℕ} {o : Opened} {words : List ℕ} {more : ℕ} where
   room-by d {r} c e = record {
     all = λ p on num n f file w m.
         let own : Chosen image words (p .F) (p .s) (M p) r = rw (num .first, num .slice, num .slices) at c in
-        e ∙ ap nextWord (own .all (held p) (f .slices) (can-take on n file w)) ∙ room-some on n file w (λ y. d (m ∙ y));
+        e ∙ own .all (held p) (f .slices) (can-take on n file w) .word ∙ room-some on n file w (λ y. d (m ∙ y));
   }

@@ -1,14 +1,15 @@
 -- Output by what the code finds: each answer is the plain unit's, and image and state are those of its unit.
-use mathlib.Core.Path.{_≡_, refl, sym, ap, ap₂, _∙_, subst}
+use mathlib.Core.Path.{_≡_, refl, sym, ap, _∙_, subst}
 use mathlib.Core.Bool.{Bool, true, false, cond, _||_}
 use mathlib.Core.List.{List, [], _∷_, _++_}
 use mathlib.Core.Logic.{_≢_}
 use mathlib.Core.Option.{some}
-use Prim.Native.Nat.{ℕ, suc, _+_, _*_, _≤_, _<_}
+use Prim.Native.Nat.{ℕ, suc, _+_, _≤_, _<_}
 use native.Mathlib.Omega.{arith}
 use native.Mathlib.Numerals.{add-one}
 use lib.Dec.{leb, ltb, eqb}
-use lib.ListN.{length, take, set, length-set, length-append}
+use lib.ListN.{length, take, length-set, length-append}
+use lib.Seq.{length-take-le}
 use borrow.Author.Tests.{lt-ltb, le-ltb, ne-eqb}
 use Rattle.types.specs.declared.Sector.{Sector}
 use Rattle.types.specs.declared.Area.{Area}
@@ -19,160 +20,227 @@ use Rattle.disc.specs.Words.{Words}
 use Rattle.disc.specs.Attributes.{extendable}
 use Rattle.disc.specs.Stretches.{stretchCount}
 use Rattle.disc.specs.Entries.{indexSector}
-use Rattle.words.specs.Store.{store}
+use Rattle.disc.proofs.Compare.{same-or, below-or}
 use Rattle.index.specs.Block.{wholeIndex, sliceTotal}
 use Rattle.state.specs.Areas.{setArea, packed, moved, withLive}
 use Rattle.plain.specs.Table.{tableFind}
 use Rattle.plain.specs.Unit.{Plain, File, freeSlices}
 use Rattle.plain.specs.Areas as plain
-use Rattle.plain.specs.Transput.{oneIf, slicesToTake, refusedAt, output}
+use Rattle.plain.specs.Transput.{oneIf, slicesToTake, refusedAt, output, rewritten, withFile}
+use Rattle.plain.proofs.TableLaws.{find-put}
 use Rattle.plain.proofs.QuestionLaws.{either-yes}
 use Rattle.refine.specs.Represents.{SameAreas}
 use Rattle.refine.specs.OnDisc.{OnDisc}
-use Rattle.refine.specs.Writes.{replacedImage, appendedImage}
+use Rattle.refine.specs.Writes.{replacedImage, appendedImage, extendedImage}
 use Rattle.refine.proofs.LeavesLaws.{leaves}
 use Rattle.refine.proofs.StateLaws.{named-name, same-index}
 use Rattle.steps.proofs.Whole.{on-disc, represents}
 use Rattle.steps.proofs.WriteLaws.{length-small}
-use Rattle.steps.proofs.AreaMessages.{area-found, sender-found, output-areas, replace-areas}
-use Rattle.steps.proofs.OutputUnit.{transputAt, replace-done, append-fixed, append-full, append-many, append-done}
-use Rattle.steps.proofs.OutputMessage.{block-inside, replaced-on, appended-on}
+use Rattle.steps.proofs.AreaMessages.{area-found, sender-found, output-areas, replace-areas, area-set}
+use Rattle.steps.proofs.OutputStep.{wordsThere, extended-on, appended-stored}
+use Rattle.steps.proofs.OutputUnit.{transputAt, replace-done, append-fixed, append-full, append-many, append-done, Appends}
+use Rattle.steps.proofs.OutputMessage.{replaced-on, appended-on, appends-extends, appends-room, appends-few}
 use Rattle.unit.specs.declared.Opened.{Opened}
 use Rattle.unit.specs.Opened.{Searchable}
 use Rattle.unit.specs.Files.{BlockOf}
 use Rattle.unit.proofs.OpenLaws.{searchable}
 use Rattle.sharing.specs.declared.AreaReply.{AreaReply}
 use Rattle.sharing.specs.Sharing.{areaReply, atPosition}
+use Rattle.refine.specs.Leaves.{Leaves}
 use Rattle.sharing.specs.Seat.{areaUsers, areaUser}
-use Rattle.sharing.proofs.ShareLaws.{seat-size}
+use Rattle.sharing.proofs.ShareLaws.{seat-size, seat-low}
+use Rattle.blocks.specs.Blocks.{AttributesOf, BlockFrom, SomeBlock, BlockReplaced}
+use Rattle.blocks.proofs.BlockLaws.{file-attributes}
 use Rattle.steps.specs.Units.{appendSlices}
-use Rattle.output.specs.Output.{AttributesOf, BlockFrom, SomeBlock, BlockSectorOf, roomWord, RoomFor, CanAppendFrom, AppendedBy, Placed, SomePlaced, outputImage, outputState, OutputLeaves, Outputs}
-use Rattle.output.proofs.FileLaws.{file-attributes, total-small, more-is}
+use Rattle.output.specs.Output.{roomWord, RoomFor, CanExtendFrom, ExtendedBy, Placed, SomePlaced, outputWord, outputImage, outputState, preparedImage, outputReply, Prepares, OutputLeaves, Outputs}
+use Rattle.output.proofs.FileLaws.{total-small, more-is}
 use Rattle.output.proofs.AppendLaws.{appends}
 
--- ---- image and state by the result word
+-- ---- the three ways of Output
 
 module _ (p : Plain) (f : File) (k : ℕ) where
   pub image-refused : (image lent : List ℕ) (word : ℕ) → word ≢ 0 → image ≡ outputImage p image f word k lent
   unfolding outputImage
   image-refused image lent word d = rw (ne-eqb word 0 d) refl
 
-  image-replaced : (image lent : List ℕ) → k < length (f .sectors) → replacedImage p image f k (take 256 lent) ≡ outputImage p image f 0 k lent
-  unfolding outputImage
-  image-replaced image lent x = rw (lt-ltb k (length (f .sectors)) x) refl
-
-  image-appended : (image lent : List ℕ) → length (f .sectors) ≤ k → appendedImage p image f (appendSlices p f) (take 256 lent) ≡ outputImage p image f 0 k lent
-  unfolding outputImage
-  image-appended image lent x = rw (le-ltb k (length (f .sectors)) x) refl
-
   pub state-refused : (state : State) (j u word : ℕ) → word ≢ 0 → atPosition state j u k ≡ outputState p f state j u word k
   unfolding outputState
   state-refused state j u word d = rw (ne-eqb word 0 d) refl
 
-  state-replaced : (state : State) (j u : ℕ) → k < length (f .sectors) → atPosition state j u (suc k) ≡ outputState p f state j u 0 k
-  unfolding outputState
-  state-replaced state j u x = rw (lt-ltb k (length (f .sectors)) x) refl
+  word-end : length (f .sectors) ≤ k → outputWord p f k ≡ cond (extendable (f .attributes)) (roomWord p f) 0x0A00
+  unfolding outputWord
+  word-end x = rw (le-ltb k (length (f .sectors)) x) refl
 
-  state-appended : (state : State) (j u : ℕ) → length (f .sectors) ≤ k
-      → setArea state j (withLive (moved (areaAt state j) u (record { 0 = suc k })) (record { 0 = indexSector (p .F) (p .s) (length (f .slices ++ appendSlices p f)) (f .slices ++ appendSlices p f) }) (suc (length (f .sectors))))
-      ≡ outputState p f state j u 0 k
-  unfolding outputState
-  state-appended state j u x = rw (le-ltb k (length (f .sectors)) x) refl
+  module _ (image lent : List ℕ) (state : State) (j u : ℕ) where
+    -- Where the word is `word`: the image before the block is stored and after it, and the reply.
+    record Way (word : ℕ) (before after : List ℕ) (next : State) : Type 0 where
+      before-is : preparedImage p image f k ≡ before
+      after-is : outputImage p image f (outputWord p f k) k lent ≡ after
+      reply-is : outputReply p f state j u k ≡ areaReply next word (cond (eqb word 0) 512 0) k
+
+    way-refused : outputWord p f k ≢ 0 → Way (outputWord p f k) image image (atPosition state j u k)
+    unfolding preparedImage outputImage outputState
+    way-refused d = let e = ne-eqb (outputWord p f k) 0 d in record { before-is = rw e refl; after-is = rw e refl; reply-is = rw e refl }
+
+    refuses : {word : ℕ} {reply : AreaReply} → word ≢ 0 → word ≡ outputWord p f k → reply ≡ areaReply (atPosition state j u k) word 0 k
+        → (reply ≡ outputReply p f state j u k) × (image ≡ preparedImage p image f k)
+    refuses d is e =
+        let no : outputWord p f k ≢ 0 = λ z. d (is ∙ z) in
+        let w = way-refused no in
+        (e ∙ rw (is, w .reply-is, ne-eqb (outputWord p f k) 0 no) refl, sym (w .before-is))
+
+    way-below : k < length (f .sectors) → Way 0 image (replacedImage p image f k (take 256 lent)) (atPosition state j u (suc k))
+    unfolding outputWord preparedImage outputImage outputState
+    way-below x = let e = lt-ltb k (length (f .sectors)) x in record { before-is = rw e refl; after-is = rw e refl; reply-is = rw e refl }
+
+    way-end : length (f .sectors) ≤ k → outputWord p f k ≡ 0
+        → let slices : List ℕ = f .slices ++ appendSlices p f in
+        Way 0 (extendedImage p image f (appendSlices p f)) (appendedImage p image f (appendSlices p f) (take 256 lent))
+        (setArea state j (withLive (moved (areaAt state j) u (record { 0 = suc k })) (record { 0 = indexSector (p .F) (p .s) (length slices) slices }) (suc (length (f .sectors)))))
+    unfolding preparedImage outputImage outputState
+    way-end x z = let e = le-ltb k (length (f .sectors)) x in record { before-is = rw (z, e) refl; after-is = rw (z, e) refl; reply-is = rw (z, e) refl }
+
+-- In the image and the state that are left before the block is stored, block k is a file's; with the lent words it gives Output's image.
+record Ready (image : List ℕ) (p : Plain) (f : File) (k j : ℕ) (before : List ℕ) (reply : AreaReply) : Type 0 where
+  block : SomeBlock before (areaAt (reply .state) j .index .0) k
+  stored : (lent : List ℕ) → 256 ≤ length lent → replacedImage (block .p) before (block .f) k (take 256 lent) ≡ outputImage p image f (outputWord p f k) k lent
 
 -- ---- one unit
 
 module _ {image : List ℕ} {state : State} {o : Opened} {p q : Plain} {n j sender u : ℕ} {f : File} {k : ℕ} (at : Placed image state o p q n j sender u f k) where
-  pub placed-on : OnDisc image p
+  placed-on : OnDisc image p
   placed-on = on-disc (at .seat .good) (at .seat .represents)
 
   same : SameAreas state p
   same = at .seat .represents .areas
 
-  pub placed-live : tableFind n (p .areas) ≡ some (areaUsers state j)
+  placed-live : tableFind n (p .areas) ≡ some (areaUsers state j)
   placed-live = area-found same n j (at .seat .named)
 
-  pub placed-user : tableFind sender (areaUsers state j) ≡ some (areaUser state j u)
+  placed-user : tableFind sender (areaUsers state j) ≡ some (areaUser state j u)
   placed-user = sender-found same n j (at .seat .named) sender (at .seat .nonzero) u (at .seat .entry)
 
-  pub placed-index : areaAt state j .index .0 ≡ indexSector (p .F) (p .s) (length (f .slices)) (f .slices)
+  placed-index : areaAt state j .index .0 ≡ indexSector (p .F) (p .s) (length (f .slices)) (f .slices)
   placed-index = same-index state p same n j f (at .seat .named) (at .seat .file)
 
-  pub placed-size : areaAt state j .length ≡ length (f .sectors)
+  placed-size : areaAt state j .length ≡ length (f .sectors)
   placed-size = seat-size (at .seat)
 
-  abbrev move : ℕ → Plain
-  move = plain.moved p n sender (areaUsers state j) (areaUser state j u)
+  -- ---- the outcome
 
-  -- Output is transput with operation 3
-  is-output : (lent : List ℕ) → output p q move n f k lent ≡ transputAt p n sender (areaUsers state j) (areaUser state j u) f 3 lent q k
-  is-output lent = sym (either-yes _ _ _ tt)
+  module _ (lent : List ℕ) where
+    abbrev move : ℕ → Plain
+    move = plain.moved p n sender (areaUsers state j) (areaUser state j u)
 
-  pub refused : (lent : List ℕ) (word : ℕ) → word ≢ 0 → output p q move n f k lent ≡ refusedAt q word k lent
-      → OutputLeaves image state p q n j sender u f k lent (areaReply (atPosition state j u k) word 0 k) image
-  refused lent word d e = record {
-    leaves = leaves e (at .good) (at .represents);
-    block = refl;
-    written = image-refused p f k image lent word d;
-    reached = state-refused p f k state j u word d;
+    -- Output is transput with operation 3
+    is-output : output p q move n f k lent ≡ transputAt p n sender (areaUsers state j) (areaUser state j u) f 3 lent q k
+    is-output = sym (either-yes _ _ _ tt)
+
+    word-refuses : length (f .sectors) ≤ k → outputWord p f k ≢ 0 → output p q move n f k lent ≡ refusedAt q (outputWord p f k) k lent
+    unfolding roomWord
+    word-refuses x d =
+        let w = word-end p f k x in
+        is-output ∙ go (extendable (f .attributes)) (leb (slicesToTake (p .s) f) (freeSlices p)) (eqb (slicesToTake (p .s) f) 0 || leb (stretchCount (f .slices ++ appendSlices p f)) 127) refl refl refl (λ z. d (w ∙ z))
+        ∙ ap (λ (y : ℕ). refusedAt q y k lent) (sym w)
+      where
+        past : ltb k (length (f .sectors)) ≡ false
+        past = le-ltb k (length (f .sectors)) x
+
+        go : (a b c : Bool) → extendable (f .attributes) ≡ a → leb (slicesToTake (p .s) f) (freeSlices p) ≡ b → (eqb (slicesToTake (p .s) f) 0 || leb (stretchCount (f .slices ++ appendSlices p f)) 127) ≡ c
+            → (_≡_ {A = ℕ} (cond a (cond b (cond c 0 0x0808) 0x0900) 0x0A00) 0 → ⊥)
+            → transputAt p n sender (areaUsers state j) (areaUser state j u) f 3 lent q k ≡ refusedAt q (cond a (cond b (cond c 0 0x0808) 0x0900) 0x0A00) k lent
+        go true true true e y z d = absurd (d refl)
+        go true true false e y z d = append-many p n sender (areaUsers state j) (areaUser state j u) f 3 lent q k refl past e y z
+        go true false c e y z d = append-full p n sender (areaUsers state j) (areaUser state j u) f 3 lent q k refl past e y
+        go false b c e y z d = append-fixed p n sender (areaUsers state j) (areaUser state j u) f 3 lent q k refl past e
+
+    -- answer and lent words are the outcome's, image and state those of its unit
+    Left : AreaReply → List ℕ → Type 0
+    Left r after = Leaves (output p q move n f k lent) (r .answer) lent after (r .state)
+
+    refused : length (f .sectors) ≤ k → outputWord p f k ≢ 0 → Left (areaReply (atPosition state j u k) (outputWord p f k) 0 k) image
+    unfolding Left
+    refused x d = leaves (word-refuses x d) (at .good) (at .represents)
+
+    module _ (long : 256 ≤ length lent) (words : Words lent) where
+      replaced : k < length (f .sectors) → Left (areaReply (atPosition state j u (suc k)) 0 512 k) (replacedImage p image f k (take 256 lent))
+      unfolding Left
+      replaced x =
+          let on = replaced-on placed-on n sender placed-live placed-user (at .seat .file) k lent long words x in
+          leaves (is-output ∙ replace-done p n sender (areaUsers state j) (areaUser state j u) f 3 lent q k refl (lt-ltb k (length (f .sectors)) x)) (on .good)
+          (represents on (replace-areas same n j (at .seat .named) sender (at .seat .nonzero) u (at .seat .entry) f (at .seat .file) _ (length-set (f .sectors) k (take 256 lent)) (record { 0 = suc k })))
+
+      appended : length (f .sectors) ≤ k → Appends p f
+          → let slices : List ℕ = f .slices ++ appendSlices p f in
+          Left (areaReply (setArea state j (withLive (moved (areaAt state j) u (record { 0 = suc k })) (record { 0 = indexSector (p .F) (p .s) (length slices) slices }) (suc (length (f .sectors))))) 0 512 k)
+          (appendedImage p image f (appendSlices p f) (take 256 lent))
+      unfolding Left
+      appended x a =
+          let sectors : List (List ℕ) = f .sectors ++ (take 256 lent ∷ []) in
+          let more : suc (length (f .sectors)) ≡ length sectors = omega (arith, length-append (f .sectors) (take 256 lent ∷ [])) in
+          let on = appended-on placed-on n sender placed-live placed-user (at .seat .file) k lent long words (at .low) a in
+          leaves (is-output ∙ append-done p n sender (areaUsers state j) (areaUser state j u) f 3 lent q k refl (le-ltb k (length (f .sectors)) x) a) (on .good)
+          (represents on (output-areas same n j (at .seat .named) sender (at .seat .nonzero) u (at .seat .entry) f (f .slices ++ appendSlices p f) sectors (record { 0 = suc k }) _ _ refl more))
+
+      outcome : Left (outputReply p f state j u k) (outputImage p image f (outputWord p f k) k lent)
+      outcome = below-or k (length (f .sectors))
+          (λ x. let w = way-below p f k image lent state j u x in rw (w .reply-is, w .after-is) (replaced x))
+          (λ x. same-or (outputWord p f k) 0
+          (λ z. let w = way-end p f k image lent state j u x z in rw (w .reply-is, w .after-is) (appended x (appends p f k x z)))
+          (λ d. let w = way-refused p f k image lent state j u d in rw (w .reply-is, w .after-is, ne-eqb (outputWord p f k) 0 d) (refused x d)))
+
+      pub output-leaves : OutputLeaves image state p q n j sender u f k lent (outputReply p f state j u k) (outputImage p image f (outputWord p f k) k lent)
+      unfolding Left
+      output-leaves = record { leaves = outcome; block = refl; written = refl; reached = refl }
+
+  -- ---- the block that is replaced
+
+  area-after : (new : Area) → areaAt (setArea state j new) j ≡ new
+  area-after new = area-set state j new (omega (arith, same .shaped .eight, seat-low (at .seat)))
+
+  ready-below : k < length (f .sectors) → Ready image p f k j image (areaReply (atPosition state j u (suc k)) 0 512 k)
+  ready-below x = record {
+    block = record { p = p; n = n; f = f; from = record { on = placed-on; file = at .seat .file; first = ap (λ (y : Area). y .index .0) (area-after _) ∙ placed-index; below = x } };
+    stored = λ lent long. sym (way-below p f k image lent state j u x .after-is);
   }
 
-  module _ (lent : List ℕ) (long : 256 ≤ length lent) (words : Words lent) where
-    pub replaced : k < length (f .sectors) → OutputLeaves image state p q n j sender u f k lent (areaReply (atPosition state j u (k + 1)) 0 512 k) (replacedImage p image f k (take 256 lent))
-    replaced x =
-        let sectors : List (List ℕ) = set (f .sectors) k (take 256 lent) in
-        let on = replaced-on placed-on n sender placed-live placed-user (at .seat .file) k lent long words x in
-        let areas = replace-areas same n j (at .seat .named) sender (at .seat .nonzero) u (at .seat .entry) f (at .seat .file) sectors (length-set (f .sectors) k (take 256 lent)) (record { 0 = suc k }) in
-        rw (add-one k) (record {
-          leaves = leaves (is-output lent ∙ replace-done p n sender (areaUsers state j) (areaUser state j u) f 3 lent q k refl (lt-ltb k (length (f .sectors)) x)) (on .good) (represents on areas);
-          block = refl;
-          written = image-replaced p f k image lent x;
-          reached = state-replaced p f k state j u x;
-        })
+  ready-end : length (f .sectors) ≤ k → outputWord p f k ≡ 0 → (area : Area) → indexSector (p .F) (p .s) (length (f .slices ++ appendSlices p f)) (f .slices ++ appendSlices p f) ≡ area .index .0
+      → Ready image p f k j (extendedImage p image f (appendSlices p f)) (areaReply (setArea state j area) 0 512 k)
+  unfolding replacedImage
+  ready-end x z area e =
+      let a = appends p f k x z in
+      let ext = appends-extends a in
+      let room = appends-room a in
+      let few = appends-few a in
+      let there : List ℕ = wordsThere placed-on n (at .seat .file) placed-live ext room few in
+      let more : File = rewritten f (f .slices ++ appendSlices p f) (f .sectors ++ (there ∷ [])) in
+      let end : length (f .sectors) ≡ k = omega (arith, at .low) in
+      record {
+        block = record {
+          p = withFile n more p;
+          n = n;
+          f = more;
+          from = record {
+            on = extended-on placed-on n (at .seat .file) placed-live ext room few;
+            file = find-put n more (p .files);
+            first = ap (λ (y : Area). y .index .0) (area-after area) ∙ sym e;
+            below = omega (arith, length-append (f .sectors) (there ∷ []));
+          };
+        };
+        stored = λ lent long.
+            ap (λ (b : ℕ). replacedImage p (extendedImage p image f (appendSlices p f)) more b (take 256 lent)) (sym end)
+            ∙ appended-stored placed-on n (at .seat .file) placed-live ext room few (take 256 lent) (length-take-le 256 lent long)
+            ∙ sym (way-end p f k image lent state j u x z .after-is);
+      }
 
-  -- ---- at the live length
-
-  module _ (lent : List ℕ) (end : length (f .sectors) ≤ k) where
-    past : ltb k (length (f .sectors)) ≡ false
-    past = le-ltb k (length (f .sectors)) end
-
-    pub fixed : extendable (f .attributes) ≡ false → output p q move n f k lent ≡ refusedAt q 0x0A00 k lent
-    fixed e = is-output lent ∙ append-fixed p n sender (areaUsers state j) (areaUser state j u) f 3 lent q k refl past e
-
-    pub no-room : extendable (f .attributes) ≡ true → roomWord p f ≢ 0 → output p q move n f k lent ≡ refusedAt q (roomWord p f) k lent
-    unfolding roomWord
-    no-room e d = go (leb (slicesToTake (p .s) f) (freeSlices p)) (eqb (slicesToTake (p .s) f) 0 || leb (stretchCount (f .slices ++ appendSlices p f)) 127) refl refl d
-      where
-        go : (a b : Bool) → leb (slicesToTake (p .s) f) (freeSlices p) ≡ a → (eqb (slicesToTake (p .s) f) 0 || leb (stretchCount (f .slices ++ appendSlices p f)) 127) ≡ b → (_≡_ {A = ℕ} (cond a (cond b 0 0x0808) 0x0900) 0 → ⊥)
-            → output p q move n f k lent ≡ refusedAt q (cond a (cond b 0 0x0808) 0x0900) k lent
-        go true true x y d = absurd (d refl)
-        go true false x y d = is-output lent ∙ append-many p n sender (areaUsers state j) (areaUser state j u) f 3 lent q k refl past e x y
-        go false b x y d = is-output lent ∙ append-full p n sender (areaUsers state j) (areaUser state j u) f 3 lent q k refl past e x
-
-    module _ (long : 256 ≤ length lent) (words : Words lent) {block : List ℕ} {count len : ℕ} (can : CanAppendFrom image o block count len lent p n (areaUsers state j) f) where
-      pub appended : {index : Sector} {len′ k′ : ℕ} → index .0 ≡ indexSector (p .F) (p .s) (length (f .slices ++ appendSlices p f)) (f .slices ++ appendSlices p f) → len′ ≡ suc (length (f .sectors)) → k′ ≡ suc k
-          → OutputLeaves image state p q n j sender u f k lent (areaReply (setArea state j (withLive (moved (areaAt state j) u (record { 0 = k′ })) index len′)) 0 512 k) (appendedImage p image f (appendSlices p f) (take 256 lent))
-      appended {index} {len′} {k′} i l z =
-          let slices : List ℕ = f .slices ++ appendSlices p f in
-          let sectors : List (List ℕ) = f .sectors ++ (take 256 lent ∷ []) in
-          let more : length sectors ≡ suc (length (f .sectors)) = length-append (f .sectors) (take 256 lent ∷ []) ∙ omega arith in
-          let a = appends can words in
-          let on = appended-on placed-on n sender placed-live placed-user (at .seat .file) k lent long words (at .low) a in
-          let areas = output-areas same n j (at .seat .named) sender (at .seat .nonzero) u (at .seat .entry) f slices sectors (record { 0 = suc k }) index len′ i (l ∙ sym more) in
-          rw z (record {
-            leaves = leaves (is-output lent ∙ append-done p n sender (areaUsers state j) (areaUser state j u) f 3 lent q k refl past a) (on .good) (represents on areas);
-            block = refl;
-            written = image-appended p f k image lent end;
-            reached =
-                ap₂ (λ (x : Sector) (y : ℕ). setArea state j (withLive (moved (areaAt state j) u (record { 0 = suc k })) x y)) (sector-same i) l
-                ∙ state-appended p f k state j u end;
-          })
-        where
-          sector-same : {y : ℕ} {s : Sector} → s .0 ≡ y → s ≡ record { 0 = y }
-          sector-same e = ap (λ (x : ℕ). record { 0 = x }) e
+  ready : outputWord p f k ≡ 0 → Ready image p f k j (preparedImage p image f k) (outputReply p f state j u k)
+  ready z = below-or k (length (f .sectors))
+      (λ x. let w = way-below p f k image [] state j u x in rw (w .before-is, w .reply-is) (ready-below x))
+      (λ x. let w = way-end p f k image [] state j u x z in rw (w .before-is, w .reply-is) (ready-end x z _ refl))
 
 -- ---- what the functions ask
 
-module _ {image : List ℕ} {state : State} {o : Opened} {j u k : ℕ} {lent : List ℕ} (some : SomePlaced image state o j u k lent) where
+module _ {image : List ℕ} {state : State} {o : Opened} {j u k : ℕ} (some : SomePlaced image state o j u k) where
   pub searches : Searchable image o
   searches = searchable (record { unit = some .p; on = placed-on (some .placed); numbers = some .placed .numbers })
 
@@ -182,6 +250,11 @@ module _ {image : List ℕ} {state : State} {o : Opened} {j u k : ℕ} {lent : L
       let on = placed-on at in
       let l = on .good .limits in
       (omega (arith, l .slice-low, at .numbers .slice), omega (arith, l .slices-high, at .numbers .slices), omega (arith, on .layout .size, l .first, l .some-data))
+
+  pub position-asks : (j < 8) × (k < 65535)
+  position-asks =
+      let at = some .placed in
+      (seat-low (at .seat), omega (arith, at .low, length-small (some .p) (placed-on at .good) (some .n) (some .f) (at .seat .file)))
 
 -- ---- every unit on the image, by what the code finds
 
@@ -208,7 +281,7 @@ module _ {image : List ℕ} {state : State} {o : Opened} {j u k : ℕ} {area : A
     own-more b e = more-is (placed-on at) n (at .seat .file) (own-block b) own-size (rw (at .numbers .slice) at e)
 
   -- what the functions ask
-  module _ {lent : List ℕ} (some : SomePlaced image state o j u k lent) where
+  module _ (some : SomePlaced image state o j u k) where
     pub more-asks : {words : List ℕ} → BlockOf image (area .index .0) words → (2 ≤ o .slice) × (sliceTotal (o .slice) words 0 < 65536) × (area .length < 65535)
     more-asks {words} b =
         let at = some .placed in
@@ -219,73 +292,85 @@ module _ {image : List ℕ} {state : State} {o : Opened} {j u k : ℕ} {area : A
     pub block-there : k < area .length → SomeBlock image (area .index .0) k
     block-there x = record { p = some .p; n = some .n; f = some .f; from = own-from (some .placed) x }
 
-    pub sector-asks : {r : ℕ} → BlockSectorOf image (area .index .0) k r → k < area .length → r * 256 + 256 ≤ length image
-    sector-asks h x =
-        let from = own-from (some .placed) x in
-        omega (arith, h .all (some .p) (some .n) (some .f) from, block-inside (from .on) (some .n) (from .file) k (from .below))
+  -- ---- the reply and the image before the block is stored
 
-    pub position-asks : k < 65535
-    position-asks =
-        let at = some .placed in
-        omega (arith, at .low, length-small (some .p) (placed-on at .good) (some .n) (some .f) (at .seat .file))
-
-  -- ---- below the live length
-
-  pub outputs-replaced : {lent : List ℕ} {r : ℕ} {reply : AreaReply} {after : List ℕ} → k < area .length → 256 ≤ length lent → Words lent → BlockSectorOf image (area .index .0) k r
-      → after ≡ store image (r * 256) (take 256 lent) → reply ≡ areaReply (atPosition state j u (k + 1)) 0 512 k → Outputs image state o j u k lent reply after
-  unfolding replacedImage
-  outputs-replaced {lent} {r} x long words h stored e = record {
+  pub prepares-below : {reply : AreaReply} → k < area .length → reply ≡ areaReply (atPosition state j u (k + 1)) 0 512 k → Prepares image state o j u k reply image
+  prepares-below x e = record {
     all = λ p q n sender f at.
-        let from = own-from at x in
-        let sector = h .all p n f from in
-        let written : store image (r * 256) (take 256 lent) ≡ replacedImage p image f k (take 256 lent) = ap (λ (y : ℕ). store image (y * 256) (take 256 lent)) sector in
-        rw (e, stored ∙ written) (replaced at lent long words (from .below));
+        let w = way-below p f k image [] state j u (omega (arith, own-size at)) in
+        (e ∙ rw add-one (sym (w .reply-is)), sym (w .before-is));
   }
-
-  -- ---- at the live length
 
   module _ (end : area .length ≤ k) {a : ℕ} (attributes : AttributesOf image o (packed (area .name)) a) where
     at-end : {p q : Plain} {n sender : ℕ} {f : File} → Placed image state o p q n j sender u f k → length (f .sectors) ≤ k
     at-end at = omega (arith, own-size at)
 
-    pub outputs-fixed : {lent : List ℕ} {reply : AreaReply} → extendable a ≡ false → reply ≡ areaReply (atPosition state j u k) 0x0A00 0 k → Outputs image state o j u k lent reply image
-    outputs-fixed {lent} not e = record {
-      all = λ p q n sender f at.
-          rw e (refused at lent 0x0A00 (λ z. omega arith) (fixed at lent (at-end at) (ap extendable (sym (own-attributes at attributes)) ∙ not)));
+    pub prepares-fixed : {reply : AreaReply} → extendable a ≡ false → reply ≡ areaReply (atPosition state j u k) 0x0A00 0 k → Prepares image state o j u k reply image
+    prepares-fixed not e = record {
+      all = λ p q n sender f at. refuses p f k image [] state j u (omega arith) (sym (word-end p f k (at-end at) ∙ rw (← own-attributes at attributes, not) refl)) e;
     }
 
     module _ (extends : extendable a ≡ true) {words : List ℕ} {more : ℕ} (block : BlockOf image (area .index .0) words)
         (m : more ≡ oneIf (ltb (sliceTotal (o .slice) words 0) (need (o .slice) (area .length + 1)))) {word : ℕ} (room : RoomFor image o words more word) where
-      own-room : {p q : Plain} {n sender : ℕ} {f : File} → Placed image state o p q n j sender u f k → word ≡ roomWord p f
-      own-room {p} {q} {n} {sender} {f} at = room .all p (placed-on at) (at .numbers) n f (at .seat .file) (own-block at block) (own-more at block m)
+      own-word : {p q : Plain} {n sender : ℕ} {f : File} → Placed image state o p q n j sender u f k → word ≡ outputWord p f k
+      own-word {p} {q} {n} {sender} {f} at =
+          room .all p (placed-on at) (at .numbers) n f (at .seat .file) (own-block at block) (own-more at block m)
+          ∙ sym (word-end p f k (at-end at) ∙ rw (← own-attributes at attributes, extends) refl)
 
-      pub outputs-room : {lent : List ℕ} {reply : AreaReply} → word ≢ 0 → reply ≡ areaReply (atPosition state j u k) word 0 k → Outputs image state o j u k lent reply image
-      outputs-room {lent} d e = record {
-        all = λ p q n sender f at.
-            let w = own-room at in
-            rw (e, w) (refused at lent (roomWord p f) (λ z. d (w ∙ z)) (no-room at lent (at-end at) (ap extendable (sym (own-attributes at attributes)) ∙ extends) (λ z. d (w ∙ z))));
-      }
+      pub prepares-full : {reply : AreaReply} → word ≢ 0 → reply ≡ areaReply (atPosition state j u k) word 0 k → Prepares image state o j u k reply image
+      prepares-full d e = record { all = λ p q n sender f at. refuses p f k image [] state j u d (own-word at) e }
 
-      module _ {lent : List ℕ} (long : 256 ≤ length lent) (yes : word ≡ 0) where
-        pub can-append : {p q : Plain} {n sender : ℕ} {f : File} → Placed image state o p q n j sender u f k → CanAppendFrom image o words more (area .length) lent p n (areaUsers state j) f
-        can-append at = record {
+      module _ (yes : word ≡ 0) where
+        pub can-extend : {p q : Plain} {n sender : ℕ} {f : File} → Placed image state o p q n j sender u f k → CanExtendFrom image o words more p n (areaUsers state j) f
+        can-extend {p} {f = f} at = record {
           on = placed-on at;
           numbers = at .numbers;
           file = at .seat .file;
           live = placed-live at;
           words = own-block at block;
           more = own-more at block m;
-          size = own-size at;
-          extends = ap extendable (sym (own-attributes at attributes)) ∙ extends;
-          room = sym (own-room at) ∙ yes;
-          long = long;
+          yes = ap (outputWord p f) (let end : length (f .sectors) ≡ k = omega (arith, at .low, at-end at) in end) ∙ sym (own-word at) ∙ yes;
         }
 
-        pub outputs-appended : {index : Sector} {reply : AreaReply} {after : List ℕ} → Words lent → AppendedBy image o words more (area .length) lent after (index .0)
-            → reply ≡ areaReply (setArea state j (withLive (moved area u (record { 0 = k + 1 })) index (area .length + 1))) 0 512 k → Outputs image state o j u k lent reply after
-        outputs-appended {index} lentWords written e = record {
-          all = λ p q n sender f at.
-              let can = can-append at in
-              let w = written .all p n (areaUsers state j) f can in
-              rw (e, w .0, own) (appended at lent (at-end at) long lentWords can (w .1) (add-one _ ∙ ap suc (placed-size at)) (add-one k));
+        pub prepares-extended : {index : Sector} {there next : Area} {state′ : State} {reply : AreaReply} {after : List ℕ} → ExtendedBy image o words more after (index .0)
+            → there ≡ moved area u (record { 0 = k + 1 }) → next ≡ withLive there index (area .length + 1) → state′ ≡ setArea state j next → reply ≡ areaReply state′ 0 512 k
+            → Prepares image state o j u k reply after
+        prepares-extended {index} written m n s e = record {
+          all = λ p q name sender f at.
+              let w = written .all p name (areaUsers state j) f (can-extend at) in
+              let first : index ≡ record { 0 = _ } = ap (λ (y : ℕ). record { 0 = y }) (w .1) in
+              let size : area .length + 1 ≡ suc (length (f .sectors)) = omega (arith, own-size at) in
+              let way = way-end p f k image [] state j u (at-end at) (sym (own-word at) ∙ yes) in
+              (rw (e, s, n, m, size, first, add-one k, own) (sym (way .reply-is)), w .0 ∙ sym (way .before-is));
         }
+
+-- ---- the block stored
+
+module _ {image : List ℕ} {state : State} {o : Opened} {j u k : ℕ} {reply : AreaReply} {before : List ℕ} (prepared : Prepares image state o j u k reply before) where
+  reply-word : {p q : Plain} {n sender : ℕ} {f : File} → Placed image state o p q n j sender u f k → reply .answer .result ≡ outputWord p f k
+  reply-word {p} {q} {n} {sender} {f} at = ap (λ (r : AreaReply). r .answer .result) (prepared .all p q n sender f at .0)
+
+  pub outputs-refused : {lent : List ℕ} → 256 ≤ length lent → Words lent → reply .answer .result ≢ 0 → Outputs image state o j u k lent reply before
+  outputs-refused {lent} long words d = record {
+    all = λ p q n sender f at.
+        let h = prepared .all p q n sender f at in
+        let w = way-refused p f k image lent state j u (λ z. d (reply-word at ∙ z)) in
+        rw (h .0, h .1 ∙ w .before-is ∙ sym (w .after-is)) (output-leaves at lent long words);
+  }
+
+  module _ (yes : reply .answer .result ≡ 0) {area : Area} (own : area ≡ areaAt (reply .state) j) where
+    placed-ready : {p q : Plain} {n sender : ℕ} {f : File} → Placed image state o p q n j sender u f k → Ready image p f k j before reply
+    placed-ready {p} {q} {n} {sender} {f} at =
+        let h = prepared .all p q n sender f at in
+        rw (h .0, h .1) (ready at (sym (reply-word at) ∙ yes))
+
+    pub block-ready : SomePlaced image state o j u k → SomeBlock before (area .index .0) k
+    block-ready h = rw own (placed-ready (h .placed) .block)
+
+    pub outputs-stored : {lent after : List ℕ} → 256 ≤ length lent → Words lent → BlockReplaced before (area .index .0) k lent after → Outputs image state o j u k lent reply after
+    outputs-stored {lent} long words h = record {
+      all = λ p q n sender f at.
+          let r = placed-ready at in
+          let b = r .block in
+          rw (prepared .all p q n sender f at .0, (rw own at h) .all (b .p) (b .n) (b .f) (b .from) ∙ r .stored lent long) (output-leaves at lent long words);
+    }

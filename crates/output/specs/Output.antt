@@ -1,61 +1,34 @@
--- Output at a position, said of the plain unit: what it finds, its answer, and the image and the state that it leaves.
+-- Output at a position, said of the plain unit: what it finds, its answer, and the image and the state that it leaves; first all but
+-- the words of its block.
 use mathlib.Core.Path.{_≡_}
-use mathlib.Core.Bool.{true, cond, _||_}
+use mathlib.Core.Bool.{cond, _||_}
 use mathlib.Core.List.{List, _++_}
-use mathlib.Core.Option.{Option, none, some}
-use Prim.Native.Nat.{ℕ, suc, _≤_, _<_}
+use mathlib.Core.Option.{some}
+use Prim.Native.Nat.{ℕ, suc, _≤_}
 use lib.Dec.{leb, ltb, eqb}
-use lib.ListN.{length, getD, take}
+use lib.ListN.{length, take}
 use Rattle.types.specs.declared.State.{State}
 use Rattle.types.specs.State.{areaAt}
 use Rattle.disc.specs.Attributes.{extendable}
-use Rattle.disc.specs.Stretches.{stretchCount, blockSector, fileFrom}
+use Rattle.disc.specs.Stretches.{stretchCount}
 use Rattle.disc.specs.Entries.{indexSector}
 use Rattle.index.specs.Block.{wholeIndex}
 use Rattle.state.specs.Areas.{setArea, moved, withLive}
 use Rattle.plain.specs.Table.{Table, tableFind}
-use Rattle.plain.specs.Unit.{Plain, File, AreaUser, freeSlices, entry}
+use Rattle.plain.specs.Unit.{Plain, File, AreaUser, freeSlices}
 use Rattle.plain.specs.Areas as plain
 use Rattle.plain.specs.Transput.{slicesToTake, output}
 use Rattle.plain.specs.Good.{Good}
 use Rattle.refine.specs.Represents.{Represents}
 use Rattle.refine.specs.OnDisc.{OnDisc}
-use Rattle.refine.specs.Writes.{replacedImage, appendedImage}
+use Rattle.refine.specs.Writes.{replacedImage, appendedImage, extendedImage}
 use Rattle.unit.specs.declared.Opened.{Opened}
-use Rattle.unit.specs.Opened.{NumbersOf, CatalogOn}
+use Rattle.unit.specs.Opened.{NumbersOf}
 use Rattle.sharing.specs.declared.AreaReply.{AreaReply}
-use Rattle.sharing.specs.Sharing.{atPosition}
+use Rattle.sharing.specs.Sharing.{atPosition, areaReply}
 use Rattle.refine.specs.Leaves.{Leaves}
 use Rattle.sharing.specs.Seat.{Seat, areaUsers, areaUser}
 use Rattle.steps.specs.Units.{appendSlices}
-
--- ---- what is read of a file
-
--- "6 attributes": the word of an entry, 0 if there is none.
-abbrev pub entryAttributes : Option (List ℕ) → ℕ
-entryAttributes none = 0
-entryAttributes (some words) = getD words 6 0
-
--- The attributes in the entry of name n, of every unit whose catalog is on the image.
-pub record AttributesOf (image : List ℕ) (o : Opened) (n r : ℕ) : Type 0 where
-  pub all : (p : Plain) → CatalogOn image p → NumbersOf o p → r ≡ entryAttributes (entry p n)
-
--- Block k of file f with this index sector, of a unit on the image.
-pub record BlockFrom (image : List ℕ) (index k : ℕ) (p : Plain) (n : ℕ) (f : File) : Type 0 where
-  pub on : OnDisc image p
-  pub file : tableFind n (p .files) ≡ some f
-  pub first : index ≡ indexSector (p .F) (p .s) (length (f .slices)) (f .slices)
-  pub below : k < length (f .sectors)
-
-pub record SomeBlock (image : List ℕ) (index k : ℕ) : Type 0 where
-  pub p : Plain
-  pub n : ℕ
-  pub f : File
-  pub from : BlockFrom image index k p n f
-
--- "Block b is sector b + 1 of the joined stretches": its sector.
-pub record BlockSectorOf (image : List ℕ) (index k r : ℕ) : Type 0 where
-  pub all : (p : Plain) (n : ℕ) (f : File) → BlockFrom image index k p n f → r ≡ blockSector (p .F) (p .s) (f .slices) fileFrom k
 
 -- ---- appending
 
@@ -70,32 +43,35 @@ pub record RoomFor (image : List ℕ) (o : Opened) (words : List ℕ) (more r : 
   pub all : (p : Plain) → OnDisc image p → NumbersOf o p → (n : ℕ) (f : File) → tableFind n (p .files) ≡ some f
       → words ≡ wholeIndex (p .F) (p .s) (f .slices) → more ≡ slicesToTake (p .s) f → r ≡ roomWord p f
 
--- An open file with this index block and live length, of which every question of an append is answered yes.
-pub record CanAppendFrom (image : List ℕ) (o : Opened) (block : List ℕ) (count len : ℕ) (lent : List ℕ) (p : Plain) (n : ℕ) (users : Table AreaUser) (f : File) : Type 0 where
+-- Output at position k, "Appending: extendable? 0A00h" before it: 0, or the word of the first no.
+unfoldable pub outputWord : Plain → File → ℕ → ℕ
+outputWord p f k = cond (ltb k (length (f .sectors))) 0 (cond (extendable (f .attributes)) (roomWord p f) 0x0A00)
+
+-- An open file with this index block, of which every question of an append is answered yes.
+pub record CanExtendFrom (image : List ℕ) (o : Opened) (block : List ℕ) (count : ℕ) (p : Plain) (n : ℕ) (users : Table AreaUser)
+    (f : File) : Type 0 where
   pub on : OnDisc image p
   pub numbers : NumbersOf o p
   pub file : tableFind n (p .files) ≡ some f
   pub live : tableFind n (p .areas) ≡ some users
   pub words : block ≡ wholeIndex (p .F) (p .s) (f .slices)
   pub more : count ≡ slicesToTake (p .s) f
-  pub size : len ≡ length (f .sectors)
-  pub extends : extendable (f .attributes) ≡ true
-  pub room : roomWord p f ≡ 0
-  pub long : 256 ≤ length lent
+  pub yes : outputWord p f (length (f .sectors)) ≡ 0
 
-pub record CanAppend (image : List ℕ) (o : Opened) (words : List ℕ) (more len : ℕ) (lent : List ℕ) : Type 0 where
+pub record CanExtend (image : List ℕ) (o : Opened) (words : List ℕ) (more : ℕ) : Type 0 where
   pub p : Plain
   pub n : ℕ
   pub users : Table AreaUser
   pub f : File
-  pub can : CanAppendFrom image o words more len lent p n users f
+  pub can : CanExtendFrom image o words more p n users f
 
--- The image with the block appended, and the file's index sector then.
-pub record AppendedBy (image : List ℕ) (o : Opened) (words : List ℕ) (more len : ℕ) (lent after : List ℕ) (index : ℕ) : Type 0 where
-  pub all : (p : Plain) (n : ℕ) (users : Table AreaUser) (f : File) → CanAppendFrom image o words more len lent p n users f
-      → (after ≡ appendedImage p image f (appendSlices p f) (take 256 lent)) × (index ≡ indexSector (p .F) (p .s) (length (f .slices ++ appendSlices p f)) (f .slices ++ appendSlices p f))
+-- The image with the slices taken, and the file's index sector then.
+pub record ExtendedBy (image : List ℕ) (o : Opened) (words : List ℕ) (more : ℕ) (after : List ℕ) (index : ℕ) : Type 0 where
+  pub all : (p : Plain) (n : ℕ) (users : Table AreaUser) (f : File) → CanExtendFrom image o words more p n users f
+      → let slices = f .slices ++ appendSlices p f in
+      (after ≡ extendedImage p image f (appendSlices p f)) × (index ≡ indexSector (p .F) (p .s) (length slices) slices)
 
--- ---- output
+-- ---- a user at a position
 
 -- The sender, a user of the area, at position k; q is the unit once its position is k.
 pub record Placed (image : List ℕ) (state : State) (o : Opened) (p q : Plain) (n j sender u : ℕ) (f : File) (k : ℕ) : Type 0 where
@@ -105,15 +81,14 @@ pub record Placed (image : List ℕ) (state : State) (o : Opened) (p q : Plain) 
   pub good : Good q
   pub represents : Represents image (atPosition state j u k) q
 
--- What Input and Output start from: "at least 256 words lent".
-pub record SomePlaced (image : List ℕ) (state : State) (o : Opened) (j u k : ℕ) (lent : List ℕ) : Type 0 where
+-- What Input and Output start from, beside "at least 256 words lent".
+pub record SomePlaced (image : List ℕ) (state : State) (o : Opened) (j u k : ℕ) : Type 0 where
   pub p : Plain
   pub q : Plain
   pub n : ℕ
   pub sender : ℕ
   pub f : File
   pub placed : Placed image state o p q n j sender u f k
-  pub long : 256 ≤ length lent
 
 -- "Output replaces it or, at the live length, appends": the image after a result word; where Output is refused nothing is written.
 unfoldable pub outputImage : Plain → List ℕ → File → ℕ → ℕ → List ℕ → List ℕ
@@ -130,6 +105,24 @@ outputState p f state j u result k =
     (cond (ltb k (length (f .sectors))) (atPosition state j u (suc k))
     (setArea state j (withLive (moved (areaAt state j) u (record { 0 = suc k })) (record { 0 = indexSector (p .F) (p .s) (length slices) slices }) (suc (length (f .sectors))))))
     (atPosition state j u k)
+
+-- ---- before the block is stored
+
+-- The image then: at the live length the slices are taken.
+unfoldable pub preparedImage : Plain → List ℕ → File → ℕ → List ℕ
+preparedImage p image f k =
+    cond (eqb (outputWord p f k) 0) (cond (ltb k (length (f .sectors))) image (extendedImage p image f (appendSlices p f))) image
+
+-- The reply is Output's already: "both hand back 512 bytes and that block".
+abbrev pub outputReply : Plain → File → State → ℕ → ℕ → ℕ → AreaReply
+outputReply p f state j u k =
+    areaReply (outputState p f state j u (outputWord p f k) k) (outputWord p f k) (cond (eqb (outputWord p f k) 0) 512 0) k
+
+pub record Prepares (image : List ℕ) (state : State) (o : Opened) (j u k : ℕ) (r : AreaReply) (after : List ℕ) : Type 0 where
+  pub all : (p q : Plain) (n sender : ℕ) (f : File) → Placed image state o p q n j sender u f k
+      → (r ≡ outputReply p f state j u k) × (after ≡ preparedImage p image f k)
+
+-- ---- output
 
 -- Answer and lent words are the plain unit's, the block is the position, image and state are those of its unit, and both are
 -- determined.

@@ -1,13 +1,14 @@
 -- The image by sectors: what two images share, and what a write leaves alone. The frame laws of all messages.
-use mathlib.Core.Path.{_≡_, refl, sym, ap, _∙_}
+use mathlib.Core.Path.{_≡_, refl, sym, ap, ap₂, _∙_}
 use mathlib.Core.List.{List, [], _∷_, _++_}
 use mathlib.Core.Logic.{_≢_}
-use Prim.Native.Nat.{ℕ, _+_, _-_, _*_, _/_, _≤_, _<_}
+use Prim.Native.Nat.{ℕ, zero, suc, _+_, _-_, _*_, _/_, _≤_, _<_}
 use native.Mathlib.Omega.{arith}
+use lib.Count.{ones}
 use lib.ListN.{length, getD}
 use Rattle.disc.specs.Words.{word, Holds}
 use Rattle.disc.specs.Kit.{mapSector}
-use Rattle.disc.specs.Map.{mapBit}
+use Rattle.disc.specs.Map.{mapBit, onesBelow, onesInMap}
 use Rattle.words.specs.Store.{store}
 use Rattle.words.proofs.StoreLaws.{length-store, word-store-other, word-sector-other}
 use Rattle.map.specs.Marks.{allMarked}
@@ -82,3 +83,11 @@ marked-outside-map v i l le inm long = record {
 pub bit-kept : {i j : List ℕ} (k : ℕ) → 1 ≤ k → k ≤ 4096 → Same i j mapSector → mapBit j k ≡ mapBit i k
 unfolding mapBit
 bit-kept {i} {j} k a b e = rw (e .at ((k - 1) / 16) (omega arith)) refl
+
+pub ones-kept : {i j : List ℕ} → Same i j mapSector → onesInMap j ≡ onesInMap i
+unfolding onesInMap
+ones-kept {i} {j} e = go 256 (omega arith)
+  where
+    go : (n : ℕ) → n ≤ 256 → onesBelow j n ≡ onesBelow i n
+    go zero h = refl
+    go (suc n) h = ap₂ (λ (a b : ℕ). a + ones b) (go n (omega arith)) (e .at n (omega arith))

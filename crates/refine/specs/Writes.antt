@@ -110,3 +110,9 @@ appendedImage p image f new words =
     let slices : List ℕ = f .slices ++ new in
     let longer : List ℕ = takenImage image (sectorIn (p .F) (p .s) slices 0) (p .F) (p .s) (f .slices) new in
     countedFree (store longer (blockSector (p .F) (p .s) slices fileFrom (length (f .sectors)) * 256) words) (p .s)
+
+-- The same before the block is stored: the slices `new` are taken.
+unfoldable pub extendedImage : Plain → List ℕ → File → List ℕ → List ℕ
+extendedImage p image f new =
+    let slices : List ℕ = f .slices ++ new in
+    countedFree (takenImage image (sectorIn (p .F) (p .s) slices 0) (p .F) (p .s) (f .slices) new) (p .s)

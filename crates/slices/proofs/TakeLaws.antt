@@ -1,11 +1,11 @@
 -- Taking slices: which one is next, what one step takes, and that the rest of the taking goes on as it would have.
 use mathlib.Core.Path.{_≡_, refl, sym, ap, _∙_}
-use mathlib.Core.Bool.{Bool, true, false, cond, _||_}
+use mathlib.Core.Bool.{Bool, true, false, cond}
 use mathlib.Core.List.{List, [], _∷_, _++_, append-assoc, append-nil}
 use Prim.Native.Nat.{ℕ, suc, _+_, _≤_, _<_}
 use native.Mathlib.Omega.{arith}
 use native.Mathlib.Nat.{mul-le-mul-left}
-use lib.Dec.{leb, eqb, leb→le}
+use lib.Dec.{leb, leb→le}
 use lib.ListN.{length, length-append}
 use lib.Seq.{take-append-seam}
 use borrow.Author.Tests.{le-leb, lt-leb}
@@ -30,7 +30,7 @@ use Rattle.refine.specs.OnDisc.{OnDisc}
 use Rattle.slices.specs.declared.Next.{Next}
 use Rattle.slices.specs.declared.Next.the-variants.{At, NoneFree, Crowded}
 use Rattle.slices.specs.FileBlock.{SliceBlock, FileBlock}
-use Rattle.slices.specs.Take.{CanTakeFrom, CanTake, nextOf, nextWord, TakenFrom, Taken}
+use Rattle.slices.specs.Take.{CanTakeFrom, CanTake, nextOf, nextWord, nextAsked, ChosenFrom, TakenFrom, Taken}
 use Rattle.slices.proofs.BlockLaws.{slice-in, start-small, block-last, block-with}
 
 -- the last of a longer list
@@ -97,6 +97,18 @@ unit-take on file enough part =
 
 -- ---- the next slice
 
+-- its word
+answered : {m : ℕ} {held slices : List ℕ} {r : Next} → r ≡ nextOf m held slices → ChosenFrom m held slices r
+unfolding nextOf nextAsked
+answered {m} {held} {slices} e =
+    let k : ℕ = choose m held (lastOf slices) in
+    record { next = e; word = ap nextWord e ∙ go (leb 1 (freeCount m held)) (leb (stretchCount (slices ++ (k ∷ []))) 127) k }
+  where
+    go : (a b : Bool) (k : ℕ) → nextWord (cond a (cond b (At (record { 0 = k })) Crowded) NoneFree) ≡ cond a (cond b 0 0x0808) 0x0900
+    go true true k = refl
+    go true false k = refl
+    go false b k = refl
+
 module _ {image block : List ℕ} {F s m : ℕ} {held slices : List ℕ} (can : CanTakeFrom image block F s m 0 held slices) where
   module _ {last : ℕ} {r : Choice} (l : last ≡ lastSlice F s block 0) (q : r ≡ choiceOf (chosen (mapBit image) m last)) where
     choice : choiceOf (chosen (mapBit image) m (lastOf slices)) ≡ r
@@ -105,10 +117,10 @@ module _ {image block : List ℕ} {F s m : ℕ} {held slices : List ℕ} (can : 
     picked : chosen (mapBit image) m (lastOf slices) ≡ choose m held (lastOf slices)
     picked = chosen-choose m held image (can .own .most) (can .map) (lastOf slices)
 
-    pub next-none : r ≡ None → NoneFree ≡ nextOf m held slices
+    pub next-none : r ≡ None → ChosenFrom m held slices NoneFree
     unfolding nextOf
     next-none z = same-or (freeCount m held) 0
-        (λ full. rw (lt-leb 1 (freeCount m held) (omega arith)) refl)
+        (λ full. answered (rw (lt-leb 1 (freeCount m held) (omega arith)) refl))
         (λ d.
         let inside = inUnit-out m (choose m held (lastOf slices)) (omega (arith, choose-law m (lastOf slices) held (omega arith) .1)) .0 in
         absurd (omega (arith, choice-none (chosen (mapBit image) m (lastOf slices)) (choice ∙ z), picked, inside)))
@@ -127,18 +139,18 @@ module _ {image block : List ℕ} {F s m : ℕ} {held slices : List ℕ} (can : 
       stretches-is : stretchesWith F s (k .0) block 0 ≡ stretchCount (slices ++ (choose m held (lastOf slices) ∷ []))
       stretches-is = block-with (can .own) (k .0) (is .1) ∙ ap (λ (x : ℕ). stretchCount (slices ++ (x ∷ []))) (sym (is .0) ∙ picked)
 
-      pub next-crowded : 127 < stretchesWith F s (k .0) block 0 → Crowded ≡ nextOf m held slices
+      pub next-crowded : 127 < stretchesWith F s (k .0) block 0 → ChosenFrom m held slices Crowded
       unfolding nextOf
       next-crowded x =
           let many : 127 < stretchCount (slices ++ (choose m held (lastOf slices) ∷ [])) = omega (arith, stretches-is) in
-          rw (le-leb 1 (freeCount m held) some, lt-leb (stretchCount (slices ++ (choose m held (lastOf slices) ∷ []))) 127 many) refl
+          answered (rw (le-leb 1 (freeCount m held) some, lt-leb (stretchCount (slices ++ (choose m held (lastOf slices) ∷ []))) 127 many) refl)
 
-      pub next-at : stretchesWith F s (k .0) block 0 ≤ 127 → At k ≡ nextOf m held slices
+      pub next-at : stretchesWith F s (k .0) block 0 ≤ 127 → ChosenFrom m held slices (At k)
       unfolding nextOf
       next-at x =
           let few : stretchCount (slices ++ (choose m held (lastOf slices) ∷ [])) ≤ 127 = omega (arith, stretches-is) in
           let e : k .0 ≡ choose m held (lastOf slices) = sym (is .0) ∙ picked in
-          rw (le-leb 1 (freeCount m held) some, le-leb (stretchCount (slices ++ (choose m held (lastOf slices) ∷ []))) 127 few) (ap (λ (x : ℕ). At (record { 0 = x })) e)
+          answered (rw (le-leb 1 (freeCount m held) some, le-leb (stretchCount (slices ++ (choose m held (lastOf slices) ∷ []))) 127 few) (ap (λ (x : ℕ). At (record { 0 = x })) e))
 
 -- ---- one slice
 
@@ -252,15 +264,3 @@ left-done {F = F} {s = s} left =
       marked = λ _. left .same-image;
       words = λ _. left .can .own .words ∙ ap (wholeIndex F s) e;
     }
-
--- ---- the questions of an append, for one slice
-
-pub next-word : (m : ℕ) (held slices : List ℕ) (n : ℕ) → n ≡ 1
-    → nextWord (nextOf m held slices) ≡ cond (leb n (freeCount m held)) (cond (eqb n 0 || leb (stretchCount (slices ++ taken m held (lastOf slices) n)) 127) 0 0x0808) 0x0900
-unfolding nextOf
-next-word m held slices n e = rw e (go (leb 1 (freeCount m held)) (leb (stretchCount (slices ++ (choose m held (lastOf slices) ∷ []))) 127))
-  where
-    go : (a b : Bool) → nextWord (cond a (cond b (At (record { 0 = choose m held (lastOf slices) })) Crowded) NoneFree) ≡ cond a (cond b 0 0x0808) 0x0900
-    go true true = refl
-    go true false = refl
-    go false b = refl

@@ -39,14 +39,23 @@ nextOf m held slices =
     let k : ℕ = choose m held (lastOf slices) in
     cond (leb 1 (freeCount m held)) (cond (leb (stretchCount (slices ++ (k ∷ []))) 127) (At (record { 0 = k })) Crowded) NoneFree
 
--- "Where a slice is needed: one free? 0900h; at most 127 stretches with it? 0808h", asked by an appending output: the word for each case.
+-- "Where a slice is needed: one free? 0900h; at most 127 stretches with it? 0808h", asked by an appending output: the word for each case of
+-- the answer, and what is asked of a file with these slices: 0, or the word of the first no.
 abbrev pub nextWord : Next → ℕ
 nextWord (At k) = 0
 nextWord NoneFree = 0x0900
 nextWord Crowded = 0x0808
 
+unfoldable pub nextAsked : ℕ → List ℕ → List ℕ → ℕ
+nextAsked m held slices =
+    cond (leb 1 (freeCount m held)) (cond (leb (stretchCount (slices ++ taken m held (lastOf slices) 1)) 127) 0 0x0808) 0x0900
+
+pub record ChosenFrom (m : ℕ) (held slices : List ℕ) (r : Next) : Type 0 where
+  pub next : r ≡ nextOf m held slices
+  pub word : nextWord r ≡ nextAsked m held slices
+
 pub record Chosen (image block : List ℕ) (F s m : ℕ) (r : Next) : Type 0 where
-  pub all : (held slices : List ℕ) → CanTakeFrom image block F s m 0 held slices → r ≡ nextOf m held slices
+  pub all : (held slices : List ℕ) → CanTakeFrom image block F s m 0 held slices → ChosenFrom m held slices r
 
 -- ---- n slices, one after the other
 

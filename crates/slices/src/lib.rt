@@ -93,13 +93,11 @@ pub fn fits(
 {
     let mut scratch = [0u16; 2560];
     words::copy_words(image, 2304, &mut scratch, 2304, 256);
-    let block = catalog.block;
-    let mut words = block.words;
+    let mut words = catalog.block.words;
     if !take_slices(&mut scratch, &mut words, first, s, slices, catalog.more) {
         return false;
     }
-    let other = file.block;
-    let mut others = other.words;
+    let mut others = file.block.words;
     take_slices(&mut scratch, &mut others, first, s, slices, file.more)
 }
 

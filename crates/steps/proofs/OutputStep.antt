@@ -19,10 +19,11 @@ use Rattle.disc.specs.Entries.{indexSector}
 use Rattle.disc.proofs.Compare.{same-or}
 use Rattle.disc.proofs.SliceLaws.{occurrences-append, sum-law, length-taken}
 use Rattle.disc.proofs.TakenLaws.{free-same}
-use Rattle.words.specs.Store.{store}
-use Rattle.words.proofs.StoreLaws.{length-store, words-store, holds-store}
+use Rattle.words.specs.Store.{store, sectorWords, zeroWords}
+use Rattle.words.proofs.StoreLaws.{length-store, words-store, holds-store, store-same, length-zeroWords, words-zeroWords, length-sectorWords, getD-sectorWords, words-sectorWords}
 use Rattle.map.specs.Marks.{allUsed}
 use Rattle.map.proofs.CountLaws.{ones-free}
+use Rattle.map.proofs.MarkLaws.{length-all-marked}
 use Rattle.plain.specs.Table.{Table, tableFind, tablePut}
 use Rattle.plain.specs.Unit.{Plain, File, AreaUser, M, held, freeSlices, freeSectors, fileEntry, entry}
 use Rattle.plain.specs.Transput.{rewritten, withFile, slicesToTake}
@@ -32,11 +33,11 @@ use Rattle.plain.proofs.KeepsAreas.{occurrences-put}
 use Rattle.plain.proofs.KeepsTransput.{replace-good, append-few, append-good}
 use Rattle.refine.specs.Represents.{FileOnImage, Layout}
 use Rattle.refine.specs.OnDisc.{OnDisc}
-use Rattle.refine.specs.Writes.{takenImage, replacedImage, appendedImage}
+use Rattle.refine.specs.Writes.{takenImage, replacedImage, appendedImage, extendedImage}
 use Rattle.refine.proofs.Sectors.{Same, same-refl, same-trans, holds-kept, sector-outside}
 use Rattle.refine.proofs.Ground.{Ground, ground, top, first-in, block-in, file-data, in-file, part-file}
 use Rattle.refine.proofs.Writers.{relabel, long, write-used, write-file}
-use Rattle.steps.proofs.WriteLaws.{counted-on, taken-size, taken-keep, taken-holds, taken-index, words-taken, words-index-part, words-marks, entry-beside, entry-of}
+use Rattle.steps.proofs.WriteLaws.{counted-on, taken-size, taken-keep, taken-holds, taken-index, words-taken, words-index-part, words-marks, entry-beside, entry-of, counted-store}
 use Rattle.steps.specs.Units.{appendSlices}
 
 -- ---- the unit
@@ -243,19 +244,20 @@ module _ {i : List ℕ} {p : Plain} (o : OnDisc i p) (n : ℕ) {f : File} (found
   part : (k : ℕ) → occurrences k new ≤ occurrences k (held after)
   part k = omega (arith, held-more k)
 
-  words₅ : Words i₅
-  words₅ =
+  pub append-words : Words (takenImage i (sectorIn (p .F) (p .s) (f .slices ++ appendSlices p f) 0) (p .F) (p .s) (f .slices) (appendSlices p f))
+  append-words =
       words-taken i q₀ (p .F) (p .s) (f .slices) new (words-marks after gr′ 0 (omega arith) new i part (long gr (o .layout)) (o .words))
       (words-index-part after gr′ slices (part-file after gr′ n more here₂))
 
-  -- the block's sector is in the image, before it is stored
-  pub append-inside : blockSector (p .F) (p .s) (f .slices ++ appendSlices p f) fileFrom (length (f .sectors)) * 256 + 256 ≤ length i
+  -- the block's sector is a data sector in the image
+  pub append-inside : (10 ≤ blockSector (p .F) (p .s) (f .slices ++ appendSlices p f) fileFrom (length (f .sectors)))
+      × (blockSector (p .F) (p .s) (f .slices ++ appendSlices p f) fileFrom (length (f .sectors)) * 256 + 256 ≤ length i)
   append-inside =
       let d = file-data after gr′ n more here₂ (length (f .sectors) + 1) (block-in after gr′ n more here₂ (length (f .sectors)) (omega (arith, one-more))) in
-      omega (arith, d .1, o .layout .size)
+      (d .0, omega (arith, d .1, o .layout .size))
 
   words₆ : Words (store i₅ (blockSector (p .F) (p .s) slices fileFrom (length (f .sectors)) * 256) words)
-  words₆ = words-store i₅ _ words words₅ w
+  words₆ = words-store i₅ _ words append-words w
 
   -- the free sectors that are counted are a word
   pub append-counts : p .s * onesInMap (store (takenImage i (sectorIn (p .F) (p .s) (f .slices ++ appendSlices p f) 0) (p .F) (p .s) (f .slices) (appendSlices p f))
@@ -268,3 +270,47 @@ module _ {i : List ℕ} {p : Plain} (o : OnDisc i p) (n : ℕ) {f : File} (found
       counted-on good₂ words₆
       (relabel r₆ refl (λ x. refl)
       (rewrite-entries (o .good) n found slices sectors₂ (index-append (p .F) (p .s) (f .bookedSlices) (f .slices) new (o .good .files n f found .bookedSlicesLow))))
+
+-- ---- an append in two parts: the slices are taken, then the block is stored
+
+module _ {i : List ℕ} {p : Plain} (o : OnDisc i p) (n : ℕ) {f : File} (found : tableFind n (p .files) ≡ some f) {users : Table AreaUser} (live : tableFind n (p .areas) ≡ some users)
+    (ext : T (extendable (f .attributes))) (room : slicesToTake (p .s) f ≤ freeSlices p)
+    (few : (slicesToTake (p .s) f ≡ 0) ⊎ (stretchCount (f .slices ++ appendSlices p f) ≤ 127)) where
+  -- the block's sector, the image with the slices taken, and the words that stand in the sector there
+  abbrev sector : ℕ
+  sector = blockSector (p .F) (p .s) (f .slices ++ appendSlices p f) fileFrom (length (f .sectors))
+
+  abbrev longer : List ℕ
+  longer = takenImage i (sectorIn (p .F) (p .s) (f .slices ++ appendSlices p f) 0) (p .F) (p .s) (f .slices) (appendSlices p f)
+
+  abbrev pub wordsThere : List ℕ
+  wordsThere = sectorWords longer sector
+
+  data-there : (10 ≤ sector) × (sector * 256 + 256 ≤ length i)
+  data-there = append-inside o n found live ext room few (zeroWords 256) (length-zeroWords 256) (words-zeroWords 256)
+
+  longer-size : length longer ≡ length i
+  longer-size = taken-size i _ (p .F) (p .s) (f .slices) (appendSlices p f) ∙ length-all-marked 0 (appendSlices p f) i
+
+  count-there : length wordsThere ≡ 256
+  count-there = length-sectorWords longer sector (omega (arith, data-there .1, longer-size))
+
+  words-there : Words wordsThere
+  words-there = words-sectorWords longer sector (append-words o n found live ext room few (zeroWords 256) (length-zeroWords 256) (words-zeroWords 256))
+
+  stored-there : store longer (sector * 256) wordsThere ≡ longer
+  stored-there = store-same longer (sector * 256) wordsThere (λ b h. sym (getD-sectorWords longer sector b (omega (arith, count-there))))
+
+  pub extended-counts : p .s * onesInMap longer < 65536
+  extended-counts = rw stored-there at (append-counts o n found live ext room few wordsThere count-there words-there)
+
+  -- the block is the file's before it is stored, with the words that stand there
+  pub extended-on : OnDisc (extendedImage p i f (appendSlices p f)) (withFile n (rewritten f (f .slices ++ appendSlices p f) (f .sectors ++ (wordsThere ∷ []))) p)
+  unfolding extendedImage appendedImage
+  extended-on = rw stored-there at (append-on o n found live ext room few wordsThere count-there words-there)
+
+  pub appended-stored : (words : List ℕ) → length words ≡ 256
+      → store (extendedImage p i f (appendSlices p f)) (blockSector (p .F) (p .s) (f .slices ++ appendSlices p f) fileFrom (length (f .sectors)) * 256) words
+      ≡ appendedImage p i f (appendSlices p f) words
+  unfolding extendedImage appendedImage
+  appended-stored words len = sym (counted-store longer words (p .s) sector (data-there .0) (omega arith))

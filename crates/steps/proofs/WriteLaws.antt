@@ -13,7 +13,7 @@ use Rattle.disc.specs.Words.{word, Words, Holds}
 use Rattle.disc.specs.Names.{SYS, legalName, isSystem, keyOf}
 use Rattle.disc.specs.Slices.{occurrences, oneIfNone, freeCount}
 use Rattle.disc.specs.Stretches.{sectorIn, indexWords, stretchCount, sysFrom}
-use Rattle.disc.specs.Kit.{kitSector}
+use Rattle.disc.specs.Kit.{kitSector, mapSector}
 use Rattle.disc.specs.Map.{onesInMap, MapOf}
 use Rattle.disc.specs.Entries.{entryWords, indexSector, sysEntry, placeWord, placeCount, nameAt}
 use Rattle.disc.proofs.Compare.{same-or, below-or}
@@ -23,7 +23,7 @@ use Rattle.disc.proofs.SliceLaws.{inUnit-mono, sum-law}
 use Rattle.disc.proofs.Geometry.{in-range, need-cover}
 use Rattle.disc.proofs.EntryLaws.{sector-first}
 use Rattle.words.specs.Store.{store, zeroWords}
-use Rattle.words.proofs.StoreLaws.{length-store, words-store, length-zeroWords, getD-zeroWords, words-zeroWords, word-sector-in}
+use Rattle.words.proofs.StoreLaws.{length-store, store-store, words-store, length-zeroWords, getD-zeroWords, words-zeroWords, word-sector-in}
 use Rattle.map.specs.Marks.{allMarked, allUsed}
 use Rattle.map.proofs.CountLaws.{ones-free}
 use Rattle.map.proofs.MarkLaws.{InMap, in-map, words-all-marked}
@@ -38,7 +38,7 @@ use Rattle.sound.specs.Places.{Unused}
 use Rattle.refine.specs.Represents.{PlaceOf, CatalogOf, Layout}
 use Rattle.refine.specs.OnDisc.{OnDisc}
 use Rattle.refine.specs.Writes.{setFree, countedFree, storePlace, zeroedSectors, takenImage}
-use Rattle.refine.proofs.Sectors.{Same, same-refl, same-trans, store-outside, sector-outside}
+use Rattle.refine.proofs.Sectors.{Same, same-refl, same-trans, store-outside, sector-outside, ones-kept}
 use Rattle.refine.proofs.CatalogLaws.{Named, nameIn, name-zero}
 use Rattle.refine.proofs.Ground.{Ground, ground, positive, top, sys-ground, part-file, file-data, first-in}
 use Rattle.refine.proofs.Writers.{write-free, write-entry}
@@ -72,6 +72,13 @@ counted-on {i} {p} g w r =
 pub counted-keep : (image : List ℕ) (s q : ℕ) → q ≢ kitSector → Same image (countedFree image s) q
 unfolding countedFree
 counted-keep image s q d = store-outside image (s * onesInMap image ∷ []) kitSector 3 (omega arith) .same q (d, tt)
+
+-- a data sector may be stored before or after it
+pub counted-store : (image words : List ℕ) (s q : ℕ) → 10 ≤ q → length words ≤ 256 → countedFree (store image (q * 256) words) s ≡ store (countedFree image s) (q * 256) words
+unfolding countedFree
+counted-store image words s q far short =
+    ap (λ (n : ℕ). setFree (store image (q * 256) words) (s * n)) (ones-kept (sector-outside image words q short .same mapSector (λ e. omega arith, tt)))
+    ∙ sym (store-store image (kitSector * 256 + 3) (s * onesInMap image ∷ []) (q * 256) words (omega arith))
 
 -- ---- zeroed sectors
 

@@ -1,21 +1,20 @@
 -- Transput by what the code finds: each answer is the plain unit's, and image and state are those of its unit.
 use mathlib.Core.Path.{_≡_, refl, sym, ap, ap₂, _∙_, subst}
 use mathlib.Core.Bool.{Bool, true, false, cond}
-use mathlib.Core.List.{List, [], _++_}
+use mathlib.Core.List.{List, []}
 use mathlib.Core.Logic.{_≢_}
 use mathlib.Core.Option.{some}
 use Prim.Native.Nat.{ℕ, suc, _+_, _≤_, _<_}
 use native.Mathlib.Omega.{arith}
 use native.Mathlib.Numerals.{add-one}
 use lib.Dec.{leb, eqb}
-use lib.ListN.{length, drop, getD}
+use lib.ListN.{length, getD}
 use borrow.Author.Tests.{lt-ltb, le-ltb, le-leb, lt-leb, eq-eqb, ne-eqb, leb-true}
 use Rattle.types.specs.declared.Area.{Area}
 use Rattle.types.specs.declared.State.{State}
 use Rattle.types.specs.State.{areaAt, userAt}
 use Rattle.disc.specs.Numbers.{negative}
 use Rattle.disc.specs.Attributes.{writeProtected, extendable}
-use Rattle.words.specs.Store.{sectorWords}
 use Rattle.state.specs.declared.Kind.the-variants.{Writer}
 use Rattle.state.specs.Areas.{packed, anyOther}
 use Rattle.plain.specs.Table.{Table, tableFind}
@@ -39,7 +38,8 @@ use Rattle.sharing.specs.Sharing.{areaReply, atPosition, positionWord, position
 use Rattle.refine.specs.Leaves.{Leaves}
 use Rattle.sharing.specs.Seat.{Seat, areaUsers, areaUser}
 use Rattle.sharing.proofs.ShareLaws.{seat-size, position-inside, moved-good, moved-represents, own-position, reached-low}
-use Rattle.output.specs.Output.{AttributesOf, BlockSectorOf, Placed, SomePlaced, outputImage, outputState, Outputs}
+use Rattle.blocks.specs.Blocks.{AttributesOf, BlockRead}
+use Rattle.output.specs.Output.{Placed, SomePlaced, outputImage, outputState, Outputs}
 use Rattle.output.proofs.OutputLaws.{own-size, own-from, own-attributes, image-refused, state-refused}
 use Rattle.transput.specs.Transput.{refusalWord, RefusalFor, inputState, InputLeaves, Inputs, transputFrom, transputImage, transputState, TransputLeaves, TransputsAt, Seated, Transputs}
 
@@ -158,13 +158,12 @@ module _ {image : List ℕ} {state : State} {o : Opened} {j u k : ℕ} {area : A
     all = λ p q n sender f at. rw e (input-refused at lent (omega (arith, own-size own at)) (word ∙ ap endWord (own-attributes own at attributes)));
   }
 
-  pub inputs-handed : {lent : List ℕ} {reply : AreaReply} {r : ℕ} {after : List ℕ} → k < area .length → BlockSectorOf image (area .index .0) k r → after ≡ sectorWords image r ++ drop 256 lent
+  pub inputs-handed : {lent : List ℕ} {reply : AreaReply} {after : List ℕ} → k < area .length → BlockRead image (area .index .0) k lent after
       → reply ≡ areaReply (atPosition state j u (k + 1)) 0 512 k → Inputs image state o j u k lent reply after
-  inputs-handed {lent} x h filled e = record {
+  inputs-handed {lent} x h e = record {
     all = λ p q n sender f at.
         let from = own-from own at x in
-        let words = filled ∙ ap (λ (y : ℕ). sectorWords image y ++ drop 256 lent) (h .all p n f from) ∙ input-filled (from .on) n (from .file) k (from .below) lent in
-        rw (e, words) (input-handed at lent (from .below));
+        rw (e, h .all p n f from ∙ input-filled (from .on) n (from .file) k (from .below) lent) (input-handed at lent (from .below));
   }
 
 -- ---- input or output
@@ -358,9 +357,8 @@ module _ {image : List ℕ} {state : State} {o : Opened} {j sender u operation b
     long-lent : Seated image state o j sender u → 256 ≤ length lent
     long-lent s = leb-true 256 (length lent) (allowed (s .seat) (s .numbers) operation bytes block lent (word-is (s .seat) (s .numbers)) yes .long)
 
-    pub some-own : {k : ℕ} → Seated image state o j sender u → k ≡ userAt (areaAt state j) u .position .0 → SomePlaced image state o j u k lent
-    some-own {k} s q =
-        record { p = s .p; q = s .p; n = s .n; sender = sender; f = s .f; placed = placed-own (s .seat) (s .numbers) k q; long = long-lent s }
+    pub some-own : {k : ℕ} → Seated image state o j sender u → k ≡ userAt (areaAt state j) u .position .0 → SomePlaced image state o j u k × (256 ≤ length lent)
+    some-own {k} s q = (record { p = s .p; q = s .p; n = s .n; sender = sender; f = s .f; placed = placed-own (s .seat) (s .numbers) k q }, long-lent s)
 
     pub transputs-own : {reply : AreaReply} {filled after : List ℕ} {k : ℕ} → isRandom operation ≡ false → k ≡ userAt (areaAt state j) u .position .0
         → TransputsAt image state o j u operation k lent reply filled after → Transputs image state o j sender u operation bytes block lent reply filled after
@@ -379,18 +377,19 @@ module _ {image : List ℕ} {state : State} {o : Opened} {j sender u operation b
       }
 
       module _ (z : v ≡ 0) where
-        pub some-first : Seated image state o j sender u → SomePlaced image state o j u block lent
+        pub some-first : Seated image state o j sender u → SomePlaced image state o j u block × (256 ≤ length lent)
         some-first s =
-            let low = first-low (s .seat) (s .numbers) operation bytes block lent (word-is (s .seat) (s .numbers)) yes r (position-is (s .seat)) z in
-            record {
-              p = s .p;
-              q = moved (s .p) (s .n) sender (areaUsers state j) (areaUser state j u) block;
-              n = s .n;
-              sender = sender;
-              f = s .f;
-              placed = placed-moved (s .seat) (s .numbers) block low;
-              long = long-lent s;
-            }
+            let low = first-low (s .seat) (s .numbers) operation bytes block lent (word-is (s .seat) (s .numbers)) yes r (position-is (s .seat)) z in (
+              record {
+                p = s .p;
+                q = moved (s .p) (s .n) sender (areaUsers state j) (areaUser state j u) block;
+                n = s .n;
+                sender = sender;
+                f = s .f;
+                placed = placed-moved (s .seat) (s .numbers) block low;
+              },
+              long-lent s,
+            )
 
         pub transputs-first : {reply : AreaReply} {filled after : List ℕ} → TransputsAt image state o j u operation block lent reply filled after
             → Transputs image state o j sender u operation bytes block lent reply filled after

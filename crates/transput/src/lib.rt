@@ -1,6 +1,8 @@
 // Transput by a user of an open area: its questions, Position first for 5 and 7, then input or output.
 
 ghost use mathlib.Core.Path.{_≡_};
+ghost use Prim.Native.Nat.{_≤_};
+ghost use lib.ListN.{length};
 ghost use Rattle.plain.specs.Transput.{isOutput, isRandom, endWord};
 ghost use Rattle.unit.specs.Opened.{Searchable};
 ghost use Rattle.output.specs.Output.{SomePlaced};
@@ -60,7 +62,7 @@ fn refusal(
     if state::any_other(area, sender, Kind::Writer) {
         return 0x0A00;
     }
-    if numbers::bit(12, output::attributes_of(image, o, area.name)) {
+    if numbers::bit(12, blocks::attributes_of(image, o, area.name)) {
         return 0x0C00;
     }
     0
@@ -86,16 +88,15 @@ fn input(
     k: Block,
     lent: &mut [u16],
 ) -> AreaReply
-    requires { ⌜ SomePlaced (now image) state o j u (k .0) (now lent) ⌝ }
+    requires { ⌜ SomePlaced (now image) state o j u (k .0) × (256 ≤ length (now lent)) ⌝ }
     ensures { λ r. ⌜ Inputs (now (image .entry)) state o j u (k .0) (now (lent .entry)) r (now (lent .exit)) ⌝ }
 {
     let area = state::area_at(state, j);
     if area.length <= k.0 {
-        let word = end_word(output::attributes_of(image, o, area.name));
+        let word = end_word(blocks::attributes_of(image, o, area.name));
         return sharing::refused_at(state, j, u, word, k);
     }
-    let q = output::sector_of(image, area.index, k);
-    words::copy_sector(image, q, lent);
+    blocks::read(image, area.index, k, lent);
     sharing::transferred(state, j, u, k)
 }
 
@@ -110,7 +111,7 @@ fn transput_at(
     k: Block,
     lent: &mut [u16],
 ) -> AreaReply
-    requires { ⌜ SomePlaced (now image) state o j u (k .0) (now lent) ⌝ }
+    requires { ⌜ SomePlaced (now image) state o j u (k .0) × (256 ≤ length (now lent)) ⌝ }
     ensures { λ r. ⌜ TransputsAt (now (image .entry)) state o j u operation (k .0) (now (lent .entry)) r (now (lent .exit)) (now (image .exit)) ⌝ }
 {
     if is_output(operation) {

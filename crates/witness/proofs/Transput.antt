@@ -3,18 +3,15 @@ use mathlib.Core.Path.{_≡_, refl, sym, ap₂, _∙_}
 use mathlib.Core.Bool.{Bool, true, false}
 use mathlib.Core.List.{List}
 use Prim.Native.Nat.{ℕ, _≤_}
-use native.Mathlib.Omega.{arith}
 use lib.ListN.{length}
 use borrow.Author.Tests.{leb-true}
 use Rattle.types.specs.declared.State.{State}
 use Rattle.types.specs.State.{areaAt, userAt}
 use Rattle.disc.specs.Words.{Words}
-use Rattle.disc.specs.Attributes.{extendable}
 use Rattle.disc.proofs.Compare.{same-or, below-or}
-use Rattle.index.specs.Block.{wholeIndex}
 use Rattle.plain.specs.Table.{tableFind}
 use Rattle.plain.specs.Unit.{Plain, File}
-use Rattle.plain.specs.Transput.{isOutput, isRandom, slicesToTake, stepTransput}
+use Rattle.plain.specs.Transput.{isOutput, isRandom, stepTransput}
 use Rattle.plain.proofs.TableLaws.{some-inj}
 use Rattle.refine.proofs.SoundRepresents.{sound-represents}
 use Rattle.refine.proofs.StateLaws.{named-name}
@@ -24,8 +21,8 @@ use Rattle.unit.specs.Opened.{NumbersOf}
 use Rattle.sharing.specs.declared.AreaReply.{AreaReply}
 use Rattle.sharing.specs.Sharing.{atPosition, positionWord}
 use Rattle.sharing.specs.Seat.{Seat, areaUsers, areaUser}
-use Rattle.output.specs.Output.{roomWord, CanAppendFrom, Placed, OutputLeaves, Outputs}
-use Rattle.output.proofs.OutputLaws.{placed-on, placed-live, refused, replaced, fixed, no-room, appended}
+use Rattle.output.specs.Output.{Placed, OutputLeaves, Outputs}
+use Rattle.output.proofs.OutputLaws.{output-leaves}
 use Rattle.transput.specs.Transput.{refusalWord, InputLeaves, Inputs, TransputsAt, TransputLeaves, Transputs}
 use Rattle.transput.proofs.TransputLaws.{input-refused, input-handed, at-output, at-input, placed-own, placed-moved, refused-asked, allowed, transput-own, refused-first, transput-first, first-low}
 
@@ -65,30 +62,7 @@ module _ {image : List ℕ} {state : State} {o : Opened} {p q : Plain} {n j send
 
   module _ (operation : ℕ) (lent : List ℕ) (long : 256 ≤ length lent) (words : Words lent) where
     output-some : isOutput operation ≡ true → SomeReply (TransputsAt image state o j u operation k lent)
-    output-some out = below-or k (length (f .sectors)) (λ x. told (replaced at lent long words x)) (λ x. at-end x (extendable (f .attributes)) refl)
-      where
-        told : {r : AreaReply} {after : List ℕ} → OutputLeaves image state p q n j sender u f k lent r after → SomeReply (TransputsAt image state o j u operation k lent)
-        told l = record { reply = _; filled = _; after = _; holds = at-output out (one-output l) }
-
-        can : extendable (f .attributes) ≡ true → roomWord p f ≡ 0 → CanAppendFrom image o (wholeIndex (p .F) (p .s) (f .slices)) (slicesToTake (p .s) f) (length (f .sectors)) lent p n (areaUsers state j) f
-        can e z = record {
-          on = placed-on at;
-          numbers = at .numbers;
-          file = at .seat .file;
-          live = placed-live at;
-          words = refl;
-          more = refl;
-          size = refl;
-          extends = e;
-          room = z;
-          long = long;
-        }
-
-        at-end : length (f .sectors) ≤ k → (b : Bool) → extendable (f .attributes) ≡ b → SomeReply (TransputsAt image state o j u operation k lent)
-        at-end x false e = told (refused at lent 0x0A00 (omega arith) (fixed at lent x e))
-        at-end x true e = same-or (roomWord p f) 0
-            (λ z. told (appended at lent x long words (can e z) {index = record { 0 = _ }} refl refl refl))
-            (λ d. told (refused at lent (roomWord p f) d (no-room at lent x e d)))
+    output-some out = record { reply = _; filled = _; after = _; holds = at-output out (one-output (output-leaves at lent long words)) }
 
     input-some : isOutput operation ≡ false → SomeReply (TransputsAt image state o j u operation k lent)
     input-some out = below-or k (length (f .sectors)) (λ x. told (input-handed at lent x)) (λ x. told (input-refused at lent x refl))

@@ -7,7 +7,7 @@ use native.Mathlib.Nat.{add-zero}
 use native.Mathlib.Numerals.{add-one}
 use native.Mathlib.Omega.{arith}
 use lib.ListN.{length, getD, set, take, drop, length-set, length-replicate, length-drop, replicate-append-replicate, List·getD-eq-default}
-use lib.Seq.{sets, length-sets, sets-eq, getD-set-same, getD-set-other, getD-take, getD-drop, ext-getD, length-take-le, set-getD, take-suc}
+use lib.Seq.{sets, length-sets, sets-eq, set-comm, getD-set-same, getD-set-other, getD-take, getD-drop, ext-getD, length-take-le, set-getD, take-suc}
 use Rattle.disc.specs.Words.{word, Words, Holds}
 use Rattle.disc.proofs.Compare.{below-or}
 use Rattle.disc.proofs.WordLaws.{words-set, words-head, words-tail, words-take, words-drop, words-replicate}
@@ -76,6 +76,17 @@ store-same l i (v ∷ vs) h =
     let s : set l i v ≡ l = ap (set l i) e ∙ set-getD l i 0 in
     ap (λ (m : List ℕ). sets m (suc i) vs) s ∙ store-same l (suc i) vs
     (λ j m. let g : suc i + j ≡ i + suc j = omega arith in ap (λ (k : ℕ). getD l k 0) g ∙ h (suc j) (omega arith))
+
+-- two stores, the second behind the first, in either order
+set-store : (l : List ℕ) (i u j : ℕ) (vs : List ℕ) → i < j → store (set l i u) j vs ≡ set (store l j vs) i u
+unfolding store
+set-store l i u j [] h = refl
+set-store l i u j (v ∷ vs) h = ap (λ (m : List ℕ). sets m (suc j) vs) (set-comm l i j u v (omega arith)) ∙ set-store (set l j v) i u (suc j) vs (omega arith)
+
+pub store-store : (l : List ℕ) (i : ℕ) (us : List ℕ) (j : ℕ) (vs : List ℕ) → i + length us ≤ j → store (store l i us) j vs ≡ store (store l j vs) i us
+unfolding store
+store-store l i [] j vs h = refl
+store-store l i (u ∷ us) j vs h = store-store (set l i u) (suc i) us j vs (omega arith) ∙ ap (λ (m : List ℕ). sets m (suc i) us) (set-store l i u j vs (omega arith))
 
 -- words that fill the start of a list
 pub store-front : (l vs : List ℕ) → length vs ≤ length l → store l 0 vs ≡ vs ++ drop (length vs) l

@@ -1,7 +1,7 @@
 -- `grow::add_layer` meets its contract. Assumes nothing.
 use native.Mathlib.Omega.{arith}
 use borrow.Author.Needs.{needs}
-use Rattle.grow.proofs.GrowLaws.{layers-small, from-small, slice-low, had-small, more-is, more-small, can-lengthen, six-inside, can-zero, layer-added}
+use Rattle.grow.proofs.GrowLaws.{layers-small, from-small, slice-low, had-small, more-is, more-small, can-lengthen, index-inside, can-zero, layer-added}
 use Rattle.grow.proofs.add_layer.Statement.{statement}
 use Rattle.grow.proofs.add_layer.Tie as tie
 
@@ -26,7 +26,7 @@ take-at-requires c κs =
     let more = c .before in
     let read = more .before .before in
     let can = read .before .before .before .pre .can in
-    (six-inside can, can-lengthen can (read .read-block .ensures) (more-is can (read .read-block .ensures) (more .sys-more .ensures)))
+    (index-inside can, can-lengthen can (read .read-block .ensures) (more-is can (read .read-block .ensures) (more .sys-more .ensures)))
 
 mul-zero-sectors : tie.Need-mul-zero-sectors
 mul-zero-sectors c = omega (arith, from-small (c .before .before .before .before .before .before .before .before .before .before .before .pre .can))

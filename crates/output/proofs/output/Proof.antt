@@ -1,8 +1,7 @@
 -- `output::output` meets its contract. Assumes nothing.
 use borrow.Author.Needs.{needs}
 use Rattle.disc.specs.Words.{Words}
-use Rattle.sharing.proofs.ShareLaws.{seat-low}
-use Rattle.output.proofs.OutputLaws.{block-there, sector-asks, position-asks, outputs-replaced}
+use Rattle.output.proofs.OutputLaws.{position-asks, outputs-refused, block-ready, outputs-stored}
 use Rattle.output.proofs.output.Statement.{statement}
 use Rattle.output.proofs.output.Tie as tie
 
@@ -10,49 +9,47 @@ use Rattle.output.proofs.output.Tie as tie
 words : (c : tie.After-shared-slice-known) → Words (c .before .before .args .lent .now)
 words c = record { each = λ k. c .shared-slice-known .given k .fits }
 
-area-at-requires : tie.Need-area-at-requires
-area-at-requires c κs = seat-low (c .before .before .pre .placed .seat)
-
-sector-of-requires : tie.Need-sector-of-requires
-sector-of-requires c κs = block-there (c .before .before .before .before .area-at .ensures) (c .before .before .before .before .before .before .before .pre) (c .before .if1 .taken)
-
-store-sector-requires : tie.Need-store-sector-requires
-store-sector-requires c κs =
-    let s = c .before .before .before .before .before .before .before .before .before in
-    (s .pre .long, sector-asks (c .before .before .before .before .before .before .area-at .ensures) (s .pre) (c .before .sector-of .ensures) (c .before .before .before .if1 .taken))
-
-transferred-requires : tie.Need-transferred-requires
-transferred-requires c κs =
-    let s = c .before .before .before .before .before .before .before .before .before .before .before .before in
-    (seat-low (s .pre .placed .seat), position-asks (c .before .before .before .before .before .before .before .before .before .area-at .ensures) (s .pre))
+prepare-requires : tie.Need-prepare-requires
+prepare-requires c κs = c .before .before .before .pre .0
 
 same-length : tie.Need-same-length
 same-length c = search needs
 
 returns : tie.Need-returns
-returns c = outputs-replaced (c .before .before .before .before .before .before .before .before .before .before .area-at .ensures) (c .before .before .before .before .before .before .before .if1 .taken) (c .before .before .before .before .before .before .before .before .before .before .before .before .before .pre .long) (words (c .before .before .before .before .before .before .before .before .before .before .before)) (c .before .before .before .before .before .sector-of .ensures) (c .before .before .before .store-sector .ensures) (c .transferred .ensures)
+returns c =
+    let prepared = c .before .before .before .before in
+    let lent = prepared .before .before in
+    outputs-refused (prepared .prepare .ensures) (lent .before .before .pre .1) (words lent) (c .if1 .taken)
 
-append-requires : tie.Need-append-requires
-append-requires c κs =
-    let left = c .before .if1 .left in
-    (c .before .before .before .before .before .before .before .pre, rw (c .before .before .before .before .area-at .ensures) at left)
+area-at-requires : tie.Need-area-at-requires
+area-at-requires c κs = position-asks (c .before .before .before .before .before .before .before .before .pre .0) .0
+
+replace-requires : tie.Need-replace-requires
+replace-requires c κs =
+    let a = c .before in
+    let prepared = a .before .before .before .before .before in
+    let s = prepared .before .before .before .before in
+    (block-ready (prepared .prepare .ensures) (a .before .if1 .left) (a .area-at .ensures) (s .pre .0), s .pre .1)
 
 same-length-2 : tie.Need-same-length-2
 same-length-2 c = search needs
 
 returns-2 : tie.Need-returns-2
-returns-2 c = search needs
+returns-2 c =
+    let stored = c .before .before in
+    let a = stored .before .before in
+    let prepared = a .before .before .before .before .before in
+    let lent = prepared .before .before in
+    outputs-stored (prepared .prepare .ensures) (a .before .if1 .left) (a .area-at .ensures) (lent .before .before .pre .1) (words lent) (stored .replace .ensures)
 
 pub output-spec : {M : Type 1} → statement M
 output-spec =
     tie.close
     (tie.spec
-    area-at-requires
-    sector-of-requires
-    store-sector-requires
-    transferred-requires
+    prepare-requires
     same-length
     returns
-    append-requires
+    area-at-requires
+    replace-requires
     same-length-2
     returns-2)

@@ -9,19 +9,10 @@ use Rattle.refine.specs.Writes.{countedFree}
 use Rattle.slices.proofs.count_free.Statement.{statement}
 use Rattle.slices.proofs.count_free.Tie as tie
 
-count-free-requires : tie.Need-count-free-requires
-count-free-requires c κs = search needs
-
 mul-set-word : tie.Need-mul-set-word
 mul-set-word c =
     let s = c .before .before .before .before .args .slice in
     record { fits = omega (arith, c .before .before .before .before .pre .1, ap (λ (n : ℕ). s * n) (c .before .count-free .ensures)) }
-
-set-word-requires : tie.Need-set-word-requires
-set-word-requires c κs = search needs
-
-same-length : tie.Need-same-length
-same-length c = search needs
 
 returns : tie.Need-returns
 unfolding countedFree
@@ -31,4 +22,4 @@ returns c =
 
 pub count-free-spec : {M : Type 1} → statement M
 count-free-spec =
-    tie.close (tie.spec count-free-requires mul-set-word set-word-requires same-length returns)
+    tie.close (tie.spec (λ c κs. search needs) mul-set-word (λ c κs. search needs) (λ c. search needs) returns)

@@ -10,27 +10,27 @@ copied : (c : tie.After-copy-words) → let s = c .before .before .before in Cop
 copied c = let s = c .before .before .before in map-copied (s .args .image .now) _ (s .pre .can .first .long) (omega arith) (c .copy-words .ensures)
 
 take-slices-requires : tie.Need-take-slices-requires
-take-slices-requires c κs = let copy = c .before .before .before .before .before in can-first (copied copy) (copy .before .before .before .pre)
+take-slices-requires c κs = let copy = c .before .before .before .before in can-first (copied copy) (copy .before .before .before .pre)
 
 returns : tie.Need-returns
 returns c =
     let took = c .before .before .before in
-    let copy = took .before .before .before .before .before .before in
+    let copy = took .before .before .before .before .before in
     first-full (copied copy) (took .take-slices .ensures) (not-true _ (c .if1 .taken))
 
 take-slices-requires-2 : tie.Need-take-slices-requires-2
 take-slices-requires-2 c κs =
-    let left = c .before .before .before .before in
+    let left = c .before .before .before in
     let took = left .before .before .before in
-    let copy = took .before .before .before .before .before .before in
+    let copy = took .before .before .before .before .before in
     can-second (copied copy) (took .take-slices .ensures) (not-false _ (left .if1 .left)) (copy .before .before .before .pre)
 
 returns-2 : tie.Need-returns-2
 returns-2 c =
     let then = c .before .before in
-    let left = then .before .before .before .before .before in
+    let left = then .before .before .before .before in
     let took = left .before .before .before in
-    let copy = took .before .before .before .before .before .before in
+    let copy = took .before .before .before .before .before in
     second-fits (copied copy) (took .take-slices .ensures) (not-false _ (left .if1 .left)) (then .take-slices2 .ensures)
 
 pub fits-spec : {M : Type 1} → statement M

@@ -16,7 +16,7 @@ use Rattle.slices.proofs.take_one.Tie as tie
 returns : tie.Need-returns
 returns c = record {
   all = λ held slices can.
-      let is = c .before .next-slice .ensures .all held slices (can-fewer can (omega arith)) in
+      let is = c .before .next-slice .ensures .all held slices (can-fewer can (omega arith)) .next in
       record {
         fits = fails (λ few. let e = is ∙ one-few {n = 0} can few in miss (1 ∷ 2 ∷ []) 0 tt (rw e at (c .match .keys2)));
         marked = λ e. absurd (true≢false (sym e));
@@ -27,7 +27,7 @@ returns c = record {
 -- the slice in hand is the next
 is-next : {held slices : List ℕ} (c : tie.After-known-told) → let a = c .before .before .before .before .before .before .before .before .args in
     CanTakeFrom (a .image .now) (a .words .now) (a .first .0) (a .s) (a .slices) 1 held slices → At (c .before .k .given .0 .0) ≡ nextOf (a .slices) held slices
-is-next {held} {slices} c can = sym (c .before .k .given .1) ∙ c .before .before .before .next-slice .ensures .all held slices (can-fewer can (omega arith))
+is-next {held} {slices} c can = sym (c .before .k .given .1) ∙ c .before .before .before .next-slice .ensures .all held slices (can-fewer can (omega arith)) .next
 
 mark-used-requires : tie.Need-mark-used-requires
 mark-used-requires c κs =

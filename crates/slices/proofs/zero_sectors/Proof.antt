@@ -6,7 +6,6 @@ use mathlib.Core.List.{List}
 use Prim.Native.Nat.{ℕ, _-_, _≤_, _<_}
 use native.Mathlib.Omega.{arith}
 use lib.ListN.{length}
-use Rattle.words.proofs.StoreLaws.{length-store}
 use Rattle.refine.specs.Writes.{zeroedSectors}
 use Rattle.slices.specs.Zero.{CanZeroFrom, CanZero}
 use Rattle.slices.proofs.ZeroLaws.{zero-none, zero-next, zero-inside}
@@ -24,25 +23,10 @@ abbrev μ-loop : tie.MeasureT-loop
 loop-holds : tie.Need-loop-holds Inv-loop μ-loop
 loop-holds c = (omega arith, refl, c .before .pre, λ F s m slices can. zero-none _ F s slices _)
 
-cast-sector-at : tie.Need-cast-sector-at Inv-loop μ-loop
-cast-sector-at c = search needs
-
-add-sector-at : tie.Need-add-sector-at Inv-loop μ-loop
-add-sector-at c = search needs
-
-sector-at-requires : tie.Need-sector-at-requires Inv-loop μ-loop
-sector-at-requires c κs = search needs
-
 clear-sector-requires : tie.Need-clear-sector-requires Inv-loop μ-loop
 clear-sector-requires c κs =
     let at-loop = c .before .before .before .before .before .before in
     zero-inside (at-loop .loop .inv .2 .can) (at-loop .loop .image) (at-loop .loop .j) (c .before .sector-at .result .0) (omega arith) (c .before .sector-at .ensures) (at-loop .loop .inv .1)
-
-add-j : tie.Need-add-j Inv-loop μ-loop
-add-j c = search needs
-
-loop-less : tie.Need-loop-less Inv-loop μ-loop
-loop-less c = omega arith
 
 loop-again : tie.Need-loop-again Inv-loop μ-loop
 loop-again c =
@@ -51,14 +35,11 @@ loop-again c =
     let at-loop = told .before .before .before .before .before in
     let lt : at-loop .loop .j < at-loop .before .before .args .n = omega arith in (
       omega arith,
-      ap length (cleared .clear-sector .ensures) ∙ length-store (at-loop .loop .image) _ _ ∙ at-loop .loop .inv .1,
+      omega arith,
       at-loop .loop .inv .2,
       λ F s m slices can.
           zero-next can (at-loop .loop .image) (at-loop .loop .j) (told .sector-at .result .0) lt (told .sector-at .ensures) (at-loop .loop .inv .3 F s m slices can) (cleared .clear-sector .ensures),
     )
-
-same-length : tie.Need-same-length Inv-loop μ-loop
-same-length c = c .before .loop .inv .1
 
 returns : tie.Need-returns Inv-loop μ-loop
 returns c =
@@ -73,12 +54,12 @@ zero-sectors-spec =
     Inv-loop
     μ-loop
     loop-holds
-    cast-sector-at
-    add-sector-at
-    sector-at-requires
+    (λ c. search needs)
+    (λ c. search needs)
+    (λ c κs. search needs)
     clear-sector-requires
-    add-j
-    loop-less
+    (λ c. search needs)
+    (λ c. search needs)
     loop-again
-    same-length
+    (λ c. search needs)
     returns)

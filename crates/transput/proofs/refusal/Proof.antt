@@ -3,7 +3,7 @@ use borrow.Author.Needs.{needs}
 use mathlib.Core.Path.{sym, ap, _∙_}
 use borrow.Author.Tests.{not-true, not-false}
 use Rattle.disc.specs.Attributes.{writeProtected}
-use Rattle.output.proofs.FileLaws.{file-attributes}
+use Rattle.blocks.proofs.BlockLaws.{file-attributes}
 use Rattle.transput.proofs.TransputLaws.{word-bytes, word-short, word-input, word-writer, word-protected, word-output}
 use Rattle.transput.proofs.refusal.Statement.{statement}
 use Rattle.transput.proofs.refusal.Tie as tie

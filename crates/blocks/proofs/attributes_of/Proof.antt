@@ -1,8 +1,8 @@
--- `output::attributes_of` meets its contract. Assumes nothing.
+-- `blocks::attributes_of` meets its contract. Assumes nothing.
 use borrow.Author.Needs.{needs}
-use Rattle.output.proofs.FileLaws.{attributes-none, attributes-some}
-use Rattle.output.proofs.attributes_of.Statement.{statement}
-use Rattle.output.proofs.attributes_of.Tie as tie
+use Rattle.blocks.proofs.BlockLaws.{attributes-none, attributes-some}
+use Rattle.blocks.proofs.attributes_of.Statement.{statement}
+use Rattle.blocks.proofs.attributes_of.Tie as tie
 
 find-name-requires : tie.Need-find-name-requires
 find-name-requires c κs = search needs

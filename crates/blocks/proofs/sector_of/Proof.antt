@@ -1,8 +1,8 @@
--- `output::sector_of` meets its contract. Assumes nothing.
+-- `blocks::sector_of` meets its contract. Assumes nothing.
 use borrow.Author.Needs.{needs}
-use Rattle.output.proofs.FileLaws.{block-sector-of}
-use Rattle.output.proofs.sector_of.Statement.{statement}
-use Rattle.output.proofs.sector_of.Tie as tie
+use Rattle.blocks.proofs.BlockLaws.{block-sector-of}
+use Rattle.blocks.proofs.sector_of.Statement.{statement}
+use Rattle.blocks.proofs.sector_of.Tie as tie
 
 file-block-requires : tie.Need-file-block-requires
 file-block-requires c κs = search needs

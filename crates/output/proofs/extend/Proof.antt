@@ -1,0 +1,30 @@
+-- `output::extend` meets its contract. Assumes nothing.
+use borrow.Author.Needs.{needs}
+use Rattle.output.proofs.AppendLaws.{can-lengthen, can-count, extended-is, index-is}
+use Rattle.output.proofs.extend.Statement.{statement}
+use Rattle.output.proofs.extend.Tie as tie
+
+take-more-requires : tie.Need-take-more-requires
+take-more-requires c κs = can-lengthen (c .before .before .pre .can)
+
+count-free-requires : tie.Need-count-free-requires
+count-free-requires c κs =
+    let took = c .before .before .before in
+    can-count (took .before .before .before .pre .can) (took .take-more .ensures)
+
+block-sector-requires : tie.Need-block-sector-requires
+block-sector-requires c κs = search needs
+
+same-length : tie.Need-same-length
+same-length c = search needs
+
+returns : tie.Need-returns
+returns c =
+    let counted = c .before .before .before in
+    let took = counted .before .before .before .before in
+    record { all = λ p n users f can. (extended-is can (took .take-more .ensures) (counted .count-free .ensures), index-is can (took .take-more .ensures) (c .block-sector .ensures)) }
+
+pub extend-spec : {M : Type 1} → statement M
+extend-spec =
+    tie.close
+    (tie.spec take-more-requires count-free-requires block-sector-requires same-length returns)
