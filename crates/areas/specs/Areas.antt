@@ -38,7 +38,8 @@ pub record AreaMade (p : Plain) (state : State) (n : ℕ) (next : State) (q : Pl
   pub name : Name
   pub is : NameIs name n
   pub unit : q ≡ withAreas p (tablePut n [] (p .areas))
-  pub left : next ≡ areaOpened state j name (record { 0 = indexSector (p .F) (p .s) (length (f .slices)) (f .slices) }) (length (f .sectors))
+  pub left : next
+      ≡ areaOpened state j name (record { 0 = indexSector (p .F) (p .s) (length (f .slices)) (f .slices) }) (length (f .sectors))
 
 -- "Create area: dummy if open."
 pub data AreaCreated (p : Plain) (state : State) (n : ℕ) (next : State) (q : Plain) : Type 0 where
@@ -47,7 +48,8 @@ pub data AreaCreated (p : Plain) (state : State) (n : ℕ) (next : State) (q : P
 
 -- Create area on the unit p, whatever words are lent.
 pub record CreateAreaStep (p : Plain) (state : State) (name : Name) (r : AreaDone) : Type 0 where
-  pub step : (lent : List ℕ) → Replies p (stepCreateArea p name lent) lent (r .result) (r .state ≡ state) (AreaCreated p state (named name) (r .state))
+  pub step : (lent : List ℕ)
+      → Replies p (stepCreateArea p name lent) lent (r .result) (r .state ≡ state) (AreaCreated p state (named name) (r .state))
 
 -- The same of every unit that image and state represent.
 pub record CreatesArea (image : List ℕ) (o : Opened) (state : State) (name : Name) (r : AreaDone) : Type 0 where
@@ -72,7 +74,8 @@ pub record CanBook (image : List ℕ) (o : Opened) (place : Place) (sector size 
 
 -- "Length and slices are booked."
 pub record Booked (image : List ℕ) (o : Opened) (place : Place) (sector size : ℕ) (after : List ℕ) : Type 0 where
-  pub all : (p : Plain) (n : ℕ) (f : File) (can : CanBookFrom image o place sector size p n f) → after ≡ bookedImage p (sysOf p) image (can .at .number) n f
+  pub all : (p : Plain) (n : ℕ) (f : File) (can : CanBookFrom image o place sector size p n f)
+      → after ≡ bookedImage p (sysOf p) image (can .at .number) n f
 
 -- ---- Remove area
 
@@ -98,7 +101,8 @@ pub data AreaRemoved (p : Plain) (image : List ℕ) (state : State) (n : ℕ) (a
 -- Remove area on the unit p, whatever words are lent.
 pub record RemoveAreaStep (p : Plain) (image : List ℕ) (state : State) (name : Name) (after : List ℕ) (r : AreaDone) : Type 0 where
   pub step : (lent : List ℕ)
-      → Replies p (stepRemoveArea p name lent) lent (r .result) ((after ≡ image) × (r .state ≡ state)) (AreaRemoved p image state (named name) after (r .state))
+      → Replies p (stepRemoveArea p name lent) lent (r .result) ((after ≡ image) × (r .state ≡ state))
+      (AreaRemoved p image state (named name) after (r .state))
 
 -- The same of every unit that image and state represent.
 pub record RemovesArea (image : List ℕ) (o : Opened) (state : State) (name : Name) (after : List ℕ) (r : AreaDone) : Type 0 where

@@ -2,6 +2,7 @@
 
 use crate::unit::Disc;
 use types::Area;
+use types::Message;
 use types::Role;
 use types::State;
 use types::User;
@@ -90,23 +91,26 @@ fn either(first: bool, yes: &[u8], other: &[u8]) {
 }
 
 // What Init answers with the image's first words, and whether they are a sound unit.
-fn answer(words: &[u16], count: usize, state: State, unit: u16) -> State {
+fn answer(words: &mut [u16], count: usize, state: State, unit: u16) -> State {
+    let mut lent: [u16; 1] = [0];
     if words.len() < count {
         return state;
     }
-    let started = init::init(&words[..count], state, unit);
+    let init = Message::Init { unit: unit };
+    let outcome = perform::perform(&mut words[..count], state, init, &mut lent);
+    let answer = outcome.answer;
     io::write_all(1, b": ");
-    io::print_hex(1, started.result as u64, 4);
+    io::print_hex(1, answer.result as u64, 4);
     either(
         soundness::sound(&words[..count], state),
         b", sound",
         b", not sound",
     );
-    started.state
+    outcome.state
 }
 
 // The case's line after its name.
-pub fn show(image: &Disc, count: usize, state: State, unit: u16) {
+pub fn show(image: &mut Disc, count: usize, state: State, unit: u16) {
     let before = checksum(image);
     let after = answer(image, count, state, unit);
     either(

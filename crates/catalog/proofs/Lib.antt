@@ -3,3 +3,4 @@ pub mod SearchLaws
 pub mod PlaceLaws
 pub mod AnswerLaws
 pub mod ValueLaws
+pub mod EntryLaws

@@ -4,7 +4,8 @@ ghost use mathlib.Core.Path.{_≡_};
 ghost use mathlib.Core.List.{_++_};
 ghost use Prim.Native.Nat.{_+_, _≤_};
 ghost use lib.ListN.{length, take, drop};
-ghost use Rattle.disc.specs.Names.{pack};
+ghost use Rattle.disc.specs.Names.{pack, packed};
+ghost use Rattle.disc.specs.Entries.{entryFrom, systemEntry};
 ghost use Rattle.words.specs.Store.{store, zeroWords};
 ghost use Rattle.catalog.specs.Catalog.{sysValue, keySector, placeStart, entryWord, entryAt, slotNamed, slotUnused, firstSlot, NamePlace, UnusedPlace};
 use types::Name;
@@ -152,6 +153,46 @@ pub fn entry_word(image: &[u16], place: Place, w: u16) -> u16
     ensures { λ r. ⌜ r ≡ entryWord (now (image .entry)) place w ⌝ }
 {
     words::word(image, place.sector, place.slot as usize * 16 + w as usize)
+}
+
+// The words of an entry, optional and tail from the words given.
+pub fn entry_words(
+    name: Name,
+    attributes: u16,
+    size: u16,
+    index: Sector,
+    reserved: u16,
+    words: &[u16],
+) -> [u16; 16]
+    requires { ⌜ 16 ≤ length (now words) ⌝ }
+    ensures { λ r. ⌜ r ≡ entryFrom (packed name) attributes size (index .0) reserved (now (words .entry)) ⌝ }
+{
+    [
+        name.0,
+        name.1,
+        name.2,
+        words[3],
+        words[4],
+        words[5],
+        attributes,
+        size,
+        index.0,
+        reserved,
+        words[10],
+        words[11],
+        words[12],
+        words[13],
+        words[14],
+        words[15],
+    ]
+}
+
+// The words of SYS's or MAP's entry.
+pub fn system_entry(name: Name, size: u16, index: Sector, reserved: u16) -> [u16; 16]
+    ensures { λ r. ⌜ r ≡ systemEntry (packed name) size (index .0) reserved ⌝ }
+{
+    let zero = [0u16; 16];
+    entry_words(name, 0x8010, size, index, reserved, &zero)
 }
 
 // Hands out a place as the first 16 lent words.

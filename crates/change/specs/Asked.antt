@@ -6,7 +6,7 @@ use mathlib.Core.Option.{none, some}
 use Prim.Native.Nat.{ℕ}
 use lib.Dec.{eqb}
 use Rattle.disc.specs.Numbers.{need}
-use Rattle.disc.specs.Names.{pack, legalName}
+use Rattle.disc.specs.Names.{packed, legalName}
 use Rattle.disc.specs.Attributes.{legalAttributes, legalWith, permanent}
 use Rattle.names.specs.NameIs.{NameIs}
 use Rattle.catalog.specs.declared.Place.{Place}
@@ -56,7 +56,7 @@ pub record WantedOf (s n : ℕ) (f : Standing) (lent : List ℕ) (r : Wanted) : 
 -- "4. .. name, size, attributes legal? 5. .. not permanent (Change: name and length kept)? 1200h"
 unfoldable pub allowedBy : Standing → Wanted → Bool
 allowedBy f w =
-    legalName (pack (w .name .0) (w .name .1) (w .name .2))
+    legalName (packed (w .name))
     && (legalAttributes (w .attributes)
     && (legalWith (w .attributes) (w .slices) && (not (permanent (f .attributes)) || (not (w .moves) && eqb (w .size) (f .size)))))
 
@@ -64,11 +64,11 @@ allowedBy f w =
 -- has the file.
 pub record LayersFor (image : List ℕ) (o : Opened) (n : ℕ) (w : Wanted) (r : ℕ) : Type 0 where
   pub all : (p : Plain) (f : File) → OnDisc image p → NumbersOf o p → tableFind n (p .files) ≡ some f
-      → r ≡ cond (w .moves) (layersFor (p .H) (sysOf p) (pack (w .name .0) (w .name .1) (w .name .2)) (tableRemove n (p .files))) (p .layers)
+      → r ≡ cond (w .moves) (layersFor (p .H) (sysOf p) (packed (w .name)) (tableRemove n (p .files))) (p .layers)
 
 -- "6. New name unused? 1010h"
 pub record TakenBy (image : List ℕ) (o : Opened) (w : Wanted) (r : Bool) : Type 0 where
-  pub all : (p : Plain) → OnDisc image p → NumbersOf o p → r ≡ w .moves && isSome (entry p (pack (w .name .0) (w .name .1) (w .name .2)))
+  pub all : (p : Plain) → OnDisc image p → NumbersOf o p → r ≡ w .moves && isSome (entry p (packed (w .name)))
 
 -- The file as it stands, as it is to be under name m, and SYS's layers then.
 pub record AskedAs (image : List ℕ) (o : Opened) (now : Standing) (w : Wanted) (layers : ℕ) (p : Plain) (n m : ℕ) (f : File) : Type 0 where

@@ -6,7 +6,7 @@ ghost use Prim.Native.Nat.{_-_, _≤_};
 ghost use lib.ListN.{length};
 ghost use lib.Dec.{eqb};
 ghost use Rattle.disc.specs.Numbers.{need};
-ghost use Rattle.disc.specs.Names.{pack, unitIn};
+ghost use Rattle.disc.specs.Names.{packed, unitIn};
 ghost use Rattle.names.specs.NameIs.{NameIs};
 ghost use Rattle.plain.specs.Catalog.{keptOr, newName};
 ghost use Rattle.unit.specs.Opened.{OpenedOn, Meant};
@@ -53,7 +53,7 @@ fn kept_or(w: u16, old: u16) -> u16
 // The name that the lent entry gives to the file: its own where word 0 is 0.
 fn new_name(n: Name, lent: &[u16]) -> Name
     requires { ⌜ 16 ≤ length (now lent) ⌝ }
-    ensures { λ r. ⌜ NameIs r (newName (pack (n .0) (n .1) (n .2)) (now (lent .entry))) ⌝ }
+    ensures { λ r. ⌜ NameIs r (newName (packed n) (now (lent .entry))) ⌝ }
 {
     if lent[0] == 0 {
         return n;
@@ -75,7 +75,7 @@ fn slices_after(s: u16, size: u16, booked: u16, slices: u16) -> u16
 // The file as it is to be.
 fn wanted(s: u16, n: Name, f: Standing, lent: &[u16]) -> Wanted
     requires { ⌜ (2 ≤ s) × (16 ≤ length (now lent)) ⌝ }
-    ensures { λ r. ⌜ WantedOf s (pack (n .0) (n .1) (n .2)) f (now (lent .entry)) r ⌝ }
+    ensures { λ r. ⌜ WantedOf s (packed n) f (now (lent .entry)) r ⌝ }
 {
     let name = new_name(n, lent);
     let moves = !names::same_name(name, n);
@@ -98,10 +98,10 @@ fn allowed(f: Standing, w: Wanted) -> bool
     if !names::legal(w.name) {
         return false;
     }
-    if !files::legal_attributes(w.attributes) {
+    if !attributes::legal(w.attributes) {
         return false;
     }
-    if !files::legal_with(w.attributes, w.slices) {
+    if !attributes::legal_with(w.attributes, w.slices) {
         return false;
     }
     if !numbers::bit(11, f.attributes) {
@@ -116,7 +116,7 @@ fn allowed(f: Standing, w: Wanted) -> bool
 // SYS's layers after the message. Under a name of its own key the file's own place is unused then.
 fn layers_for(image: &[u16], o: Opened, n: Name, w: Wanted) -> u16
     requires { ⌜ OpenedOn (now image) o ⌝ }
-    ensures { λ r. ⌜ LayersFor (now (image .entry)) o (pack (n .0) (n .1) (n .2)) w r ⌝ }
+    ensures { λ r. ⌜ LayersFor (now (image .entry)) o (packed n) w r ⌝ }
 {
     if !w.moves {
         return o.catalog.layers;
@@ -171,8 +171,8 @@ fn judged(image: &[u16], o: Opened, f: Standing, w: Wanted, layers: u16) -> u16
 
 // Change of a closed file whose entry stands in the place, with an entry lent: the result word.
 fn change_file(image: &mut [u16], o: Opened, n: Name, place: Place, lent: &[u16]) -> u16
-    requires { ⌜ CanChange (now image) o (pack (n .0) (n .1) (n .2)) place (now lent) ⌝ }
-    ensures { λ r. ⌜ FileChanges (now (image .entry)) o (pack (n .0) (n .1) (n .2)) place (now (lent .entry)) (now (image .exit)) r ⌝ }
+    requires { ⌜ CanChange (now image) o (packed n) place (now lent) ⌝ }
+    ensures { λ r. ⌜ FileChanges (now (image .entry)) o (packed n) place (now (lent .entry)) (now (image .exit)) r ⌝ }
 {
     let f = standing(image, o, place);
     let w = wanted(o.slice, n, f, lent);
@@ -202,7 +202,7 @@ pub fn change(image: &mut [u16], o: Opened, state: State, name: Name, lent: &[u1
     if lent.len() < 16 {
         return 0x1200;
     }
-    if files::gives_entry_only(lent[6]) {
+    if attributes::gives_entry_only(lent[6]) {
         return 0x1200;
     }
     if names::is_system(n) {

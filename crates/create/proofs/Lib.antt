@@ -1,5 +1,4 @@
 pub mod LegalLaws
-pub mod EntryLaws
 pub mod FileLaws
 pub mod PlaceLaws
 pub mod MessageLaws

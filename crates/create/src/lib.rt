@@ -3,11 +3,10 @@
 ghost use mathlib.Core.Path.{_≡_};
 ghost use Prim.Native.Nat.{_+_, _≤_};
 ghost use lib.ListN.{length};
-ghost use Rattle.disc.specs.Names.{pack, unitIn};
-ghost use Rattle.disc.specs.Entries.{entryWords};
+ghost use Rattle.disc.specs.Names.{packed, unitIn};
+ghost use Rattle.disc.specs.Entries.{entryFrom};
 ghost use Rattle.words.specs.Store.{store};
 ghost use Rattle.catalog.specs.Catalog.{placeStart};
-ghost use Rattle.plain.specs.Catalog.{optionalIn, tailIn};
 ghost use Rattle.unit.specs.Opened.{OpenedOn, MeantOn};
 ghost use Rattle.create.specs.Create.{legalNew, CanWrite, FileWritten, CanPlace, Placed, CanGrowFor, PlacedGrown, NewFileMade, Creates, Sets};
 use catalog::Found;
@@ -19,7 +18,7 @@ use unit::Opened;
 
 // Whether name, size and attributes are legal for a new file.
 fn is_legal(name: Name, size: u16, attributes: u16) -> bool
-    ensures { λ r. ⌜ r ≡ legalNew (pack (name .0) (name .1) (name .2)) size attributes ⌝ }
+    ensures { λ r. ⌜ r ≡ legalNew (packed name) size attributes ⌝ }
 {
     if !names::legal(name) {
         return false;
@@ -27,10 +26,10 @@ fn is_legal(name: Name, size: u16, attributes: u16) -> bool
     if numbers::negative(size) {
         return false;
     }
-    if !files::legal_attributes(attributes) {
+    if !attributes::legal(attributes) {
         return false;
     }
-    !files::gives_entry_only(attributes)
+    !attributes::gives_entry_only(attributes)
 }
 
 // Stores a file's entry in a place: optional and tail are those of the words.
@@ -45,26 +44,10 @@ fn enter(
     words: &[u16],
 )
     requires { ⌜ (16 ≤ length (now words)) × (placeStart place + 16 ≤ length (now image)) ⌝ }
-    ensures { λ _. ⌜ now (image .exit) ≡ store (now (image .entry)) (placeStart place) (entryWords (pack (name .0) (name .1) (name .2)) (optionalIn (now (words .entry))) attributes size (index .0) reserved (tailIn (now (words .entry)))) ⌝ }
+    ensures { λ _. ⌜ now (image .exit) ≡ store (now (image .entry)) (placeStart place)
+        (entryFrom (packed name) attributes size (index .0) reserved (now (words .entry))) ⌝ }
 {
-    let entry = [
-        name.0,
-        name.1,
-        name.2,
-        words[3],
-        words[4],
-        words[5],
-        attributes,
-        size,
-        index.0,
-        reserved,
-        words[10],
-        words[11],
-        words[12],
-        words[13],
-        words[14],
-        words[15],
-    ];
+    let entry = catalog::entry_words(name, attributes, size, index, reserved, words);
     catalog::write_entry(image, place, &entry);
 }
 
@@ -78,8 +61,8 @@ fn write_file(
     attributes: u16,
     words: &[u16],
 )
-    requires { ⌜ CanWrite (now image) o place (pack (name .0) (name .1) (name .2)) size attributes (now words) ⌝ }
-    ensures { λ _. ⌜ FileWritten (now (image .entry)) o place (pack (name .0) (name .1) (name .2)) size attributes (now (words .entry)) (now (image .exit)) ⌝ }
+    requires { ⌜ CanWrite (now image) o place (packed name) size attributes (now words) ⌝ }
+    ensures { λ _. ⌜ FileWritten (now (image .entry)) o place (packed name) size attributes (now (words .entry)) (now (image .exit)) ⌝ }
 {
     let count = numbers::need(o.slice, size);
     let none = index::empty_block();
@@ -109,8 +92,8 @@ fn create_in(
     attributes: u16,
     words: &[u16],
 ) -> u16
-    requires { ⌜ CanPlace (now image) o place (pack (name .0) (name .1) (name .2)) size attributes (now words) ⌝ }
-    ensures { λ r. ⌜ Placed (now (image .entry)) o place (pack (name .0) (name .1) (name .2)) size attributes (now (words .entry)) (now (image .exit)) r ⌝ }
+    requires { ⌜ CanPlace (now image) o place (packed name) size attributes (now words) ⌝ }
+    ensures { λ r. ⌜ Placed (now (image .entry)) o place (packed name) size attributes (now (words .entry)) (now (image .exit)) r ⌝ }
 {
     let none = index::empty_block();
     let room = grow::room(
@@ -136,8 +119,8 @@ fn create_grown(
     attributes: u16,
     words: &[u16],
 ) -> u16
-    requires { ⌜ CanGrowFor (now image) o (pack (name .0) (name .1) (name .2)) size attributes (now words) ⌝ }
-    ensures { λ r. ⌜ PlacedGrown (now (image .entry)) o (pack (name .0) (name .1) (name .2)) size attributes (now (words .entry)) (now (image .exit)) r ⌝ }
+    requires { ⌜ CanGrowFor (now image) o (packed name) size attributes (now words) ⌝ }
+    ensures { λ r. ⌜ PlacedGrown (now (image .entry)) o (packed name) size attributes (now (words .entry)) (now (image .exit)) r ⌝ }
 {
     let none = index::empty_block();
     let room = grow::room(
@@ -169,7 +152,7 @@ fn new_file(
     words: &[u16],
 ) -> u16
     requires { ⌜ OpenedOn (now image) o × (16 ≤ length (now words)) ⌝ }
-    ensures { λ r. ⌜ NewFileMade (now (image .entry)) o (pack (name .0) (name .1) (name .2)) size attributes (now (words .entry)) (now (image .exit)) r ⌝ }
+    ensures { λ r. ⌜ NewFileMade (now (image .entry)) o (packed name) size attributes (now (words .entry)) (now (image .exit)) r ⌝ }
 {
     if !is_legal(name, size, attributes) {
         return 0x1200;

@@ -1,7 +1,7 @@
 -- The letter's three demands, proved of the contracts of `perform::perform` and `format::format`.
 use mathlib.Core.Path.{_≡_, refl, sym, ap, _∙_, subst}
 use mathlib.Core.List.{List}
-use mathlib.Core.Logic.{_⊎_, inl, inr, ⊎-elim, _↔_}
+use mathlib.Core.Logic.{_≢_, _⊎_, inl, inr, ⊎-elim, _↔_}
 use Prim.Native.Nat.{ℕ}
 use native.Mathlib.Omega.{arith}
 use Rattle.types.specs.declared.Answer.{Answer}
@@ -80,6 +80,11 @@ module _ {image : List ℕ} {state : State} {unit : ℕ} {lent : List ℕ} where
   init-only (unsound k other u) z = k
   init-only (obeyed k s all) z = k
 
+  init-refused : {r : Performed} → Performs image state (Init unit) lent r → r .answer .result ≢ 0 → (r .image ≡ image) × (r .state ≡ state) × (r .lent ≡ lent)
+  init-refused (unknown _ u) nz = (u .same-image, u .same-state, u .same-lent)
+  init-refused (unsound _ _ u) nz = (u .same-image, u .same-state, u .same-lent)
+  init-refused (obeyed k s all) nz = absurd (nz (init-exactly (obeyed k s all) k .1 s))
+
   init-accepted : {r : Performed} → Performs image state (Init unit) lent r → r .answer .result ≡ 0 → (r .image ≡ image) × AcceptedState (r .state) × SoundUnit (r .image) (r .state)
   init-accepted (unknown other u) z = absurd (let e = ap (λ (a : Answer). a .result) (u .answered) in omega arith)
   init-accepted (unsound k other u) z = absurd (let e = ap (λ (a : Answer). a .result) (u .answered) in omega arith)
@@ -88,7 +93,7 @@ module _ {image : List ℕ} {state : State} {unit : ℕ} {lent : List ℕ} where
       let o = all (x .0) (x .1) (x .2) in
       let stands = ap (λ (y : Outcome). y .unit) (init-done (x .1) (x .2) lent k) in (
         o .wrote .0,
-        rw (o .wrote .1) (record { known = k .low; initialized = refl; closed = k .ready }),
+        rw (o .wrote .1) (record { known = record { number = refl; low = k .unit .low }; initialized = refl; closed = k .ready }),
         represents-sound (x .1) (subst (λ (q : Plain). Represents (r .image) (r .state) q) stands (o .represents)),
       )
 
@@ -112,7 +117,7 @@ format-keeps i h w (written l f x) = inr (format-sound i w h (written l f x) (x 
 format-known : {image : List ℕ} {state : State} {bytes : ℕ} {lent after : List ℕ} {r : Formatted} → FormatAnswer image state bytes lent after r → r .result ≡ 0 → Known (r .state) (Init (r .state .unit))
 format-known (notLent other f) z = absurd (omega (arith, f .word))
 format-known (notAllowed l other f) z = absurd (omega (arith, f .word))
-format-known (written l f x) z = rw (x .left) (record { number = refl; low = f .known; ready = f .closed })
+format-known (written l f x) z = rw (x .left) (record { unit = record { number = refl; low = f .known .unit .low }; ready = f .known .ready })
 
 sound-then : {image end : List ℕ} {state stop : State} → SoundUnit image state → Keeps image state end stop → SoundUnit end stop
 sound-then s (inl e) = rw (e .0, e .1) s
@@ -137,6 +142,7 @@ pub demand-2 : Demand2 Performs FormatAnswer
 demand-2 = record {
   exactly = init-exactly;
   only = init-only;
+  refused = init-refused;
   accepted = init-accepted;
   format = λ w l h f z. (format-sound w l h f z, format-known f z);
   later = every-later;

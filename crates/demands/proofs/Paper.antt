@@ -45,9 +45,7 @@ module _ {calls : List Call} {replies : List Reply} {fresh end : List ℕ} {stop
 
   allowed : Formattable (b .image) (b .state) lent
   allowed = record {
-    number = sym (b .unit);
-    known = omega (arith, b .unit);
-    closed = b .closed;
+    known = record { unit = record { number = sym (b .unit); low = omega (arith, b .unit) }; ready = b .closed };
     limits = record {
       keys-low = omega arith;
       keys-high = omega arith;
@@ -78,7 +76,7 @@ module _ {calls : List Call} {replies : List Reply} {fresh end : List ℕ} {stop
   fresh-unit = rw (b .unit) at (format-unit (b .words) (b .record-words) (b .shaped) (b .format) (wrote .word))
 
   init-known : Known (b .formatted .state) (Init 0)
-  init-known = rw (wrote .left) (record { number = sym (b .unit); low = omega (arith, b .unit); ready = b .closed })
+  init-known = rw (wrote .left) (record { unit = record { number = sym (b .unit); low = omega (arith, b .unit) }; ready = b .closed })
 
   -- and Init accepts it
   init-zero : b .accepted .answer .result ≡ 0
@@ -89,7 +87,7 @@ module _ {calls : List Call} {replies : List Reply} {fresh end : List ℕ} {stop
   begins : Standing (b .accepted .image) (b .accepted .state) paperUnit
   begins =
       let a = demand-2 .accepted (b .init) init-zero .1 in
-      record { good = fresh-unit .0; represents = go (b .init); low = a .known; initialized = a .initialized }
+      record { good = fresh-unit .0; represents = go (b .init); low = a .known .low; initialized = a .initialized }
     where
       go : Performs fresh (b .formatted .state) (Init 0) (b .lent) (b .accepted) → Represents (b .accepted .image) (b .accepted .state) paperUnit
       go (unknown other _) = absurd (other init-known)

@@ -4,7 +4,6 @@ use mathlib.Core.Path.{_≡_, refl, sym, ap, _∙_}
 use mathlib.Core.List.{List}
 use mathlib.Core.Logic.{_≢_}
 use Prim.Native.Nat.{ℕ}
-use native.Mathlib.Omega.{arith}
 use Rattle.types.specs.declared.Answer.{Answer}
 use Rattle.types.specs.declared.State.{State}
 use Rattle.types.specs.declared.Message.{Message}
@@ -44,7 +43,7 @@ module _ {image : List ℕ} {state : State} {p : Plain} (g : Good p) (rep : Repr
   left (RemoveArea name) k o nz q e everything = let s = same nz (o .wrote .step lent) in (s .0, demands.everything refl (s .1))
   left (AreaMessage name sender operation) k o nz q e l =
       let a = o .wrote in
-      let mine = known-yes p _ (k .number ∙ rep .areas .number) (omega (arith, k .number, k .low)) in (
+      let mine = known-yes g rep (k .unit) in (
         a .written ∙ refused-image p image lent operation (r .answer) nz _,
         rw (a .reached)
             (refused-state g rep name sender lent mine q (r .answer) (r .lent) nz operation

@@ -152,9 +152,7 @@ format-kept {lent = lent} (format.written _ f x) = by (beyond-formatted (lentKey
 
 formattable-same : {a b : List ℕ} {state : State} {lent : List ℕ} → SameOthers a b → Formattable a state lent → Formattable b state lent
 formattable-same s f = record {
-  number = f .number;
   known = f .known;
-  closed = f .closed;
   limits = f .limits;
   free = f .free;
   top = f .top;

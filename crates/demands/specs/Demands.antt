@@ -52,8 +52,8 @@ pub record PositionIs (state : State) (name : Name) (sender k : ℕ) (next : Sta
 -- position at which they leave it in the plain unit, which is q then.
 pub data StateLeft (p q : Plain) (state next : State) : Message → Type 0 where
   everything : {message : Message} → q ≡ p → next ≡ state → StateLeft p q state next message
-  butPosition : {name : Name} {sender : ℕ} {operation : Operation} → Moves operation → (m : OnlyMoved p name sender q) → PositionIs state name sender (m .to) next
-      → StateLeft p q state next (AreaMessage name sender operation)
+  butPosition : {name : Name} {sender : ℕ} {operation : Operation} → Moves operation → (m : OnlyMoved p name sender q)
+      → PositionIs state name sender (m .to) next → StateLeft p q state next (AreaMessage name sender operation)
 
 -- A later question has the answer no: the answer is that of the plain unit, whose step asks the questions from the top, "and no word of
 -- image, state or lent record changes, save the sender's position"; "returned byte counts are 0".
@@ -69,55 +69,65 @@ pub record RefusedLater (p : Plain) (image : List ℕ) (state : State) (message 
 -- question, the second, or a later one; "where none has, the word is 0 and the call does what document 01 says of it".
 pub data Answered (image : List ℕ) (state : State) (message : Message) (lent : List ℕ) (r : Performed) : Type 0 where
   unknown : (Known state message → ⊥) → Untouched (unknownWord message) image state lent r → Answered image state message lent r
-  unsound : Known state message → (SoundUnit image state → ⊥) → Untouched (unsoundWord message) image state lent r → Answered image state message lent r
-  refused : Known state message → SoundUnit image state → (p : Plain) → ReadFrom image state p → r .answer .result ≢ 0 → RefusedLater p image state message lent r
+  unsound : Known state message → (SoundUnit image state → ⊥) → Untouched (unsoundWord message) image state lent r
       → Answered image state message lent r
-  done : Known state message → SoundUnit image state → (p : Plain) → ReadFrom image state p → r .answer .result ≡ 0 → Obeyed p image state message lent r
-      → Answered image state message lent r
+  refused : Known state message → SoundUnit image state → (p : Plain) → ReadFrom image state p → r .answer .result ≢ 0
+      → RefusedLater p image state message lent r → Answered image state message lent r
+  done : Known state message → SoundUnit image state → (p : Plain) → ReadFrom image state p → r .answer .result ≡ 0
+      → Obeyed p image state message lent r → Answered image state message lent r
 
 -- "Every call ends with a result word", whatever image, state, message and lent words are; Format's questions and what it writes are
 -- those of `FormatAnswer`.
 pub record Demand1 (C : Contract) (F : FormatContract) : Type 0 where
-  pub call : {image : List ℕ} {state : State} {message : Message} {lent : List ℕ} {r : Performed} → C image state message lent r → Answered image state message lent r
-  pub format : {image : List ℕ} {state : State} {bytes : ℕ} {lent after : List ℕ} {r : Formatted} → F image state bytes lent after r → FormatAnswer image state bytes lent after r
+  pub call : {image : List ℕ} {state : State} {message : Message} {lent : List ℕ} {r : Performed} → C image state message lent r
+      → Answered image state message lent r
+  pub format : {image : List ℕ} {state : State} {bytes : ℕ} {lent after : List ℕ} {r : Formatted} → F image state bytes lent after r
+      → FormatAnswer image state bytes lent after r
   -- every word of answer, image, state and lent words is determined; a listing's order too, by document 02, R-1
-  pub determined : {image : List ℕ} {state : State} {message : Message} {lent : List ℕ} {r q : Performed} → C image state message lent r → C image state message lent q → r ≡ q
-  pub format-determined : {image : List ℕ} {state : State} {bytes : ℕ} {lent a b : List ℕ} {r q : Formatted} → F image state bytes lent a r → F image state bytes lent b q → (a ≡ b) × (r ≡ q)
+  pub determined : {image : List ℕ} {state : State} {message : Message} {lent : List ℕ} {r q : Performed} → C image state message lent r
+      → C image state message lent q → r ≡ q
+  pub format-determined : {image : List ℕ} {state : State} {bytes : ℕ} {lent a b : List ℕ} {r q : Formatted} → F image state bytes lent a r
+      → F image state bytes lent b q → (a ≡ b) × (r ≡ q)
 
 -- ---- demand 2
 
 -- Calls one after the other, Format among them, each on image and state as the one before left them.
 pub data Later (C : Contract) (F : FormatContract) : List ℕ → State → List ℕ → State → Type 0 where
   here : {image : List ℕ} {state : State} → Later C F image state image state
-  call : {image end : List ℕ} {state stop : State} {message : Message} {lent : List ℕ} {r : Performed} → Words lent → C image state message lent r
-      → Later C F (r .image) (r .state) end stop → Later C F image state end stop
-  format : {image end : List ℕ} {state stop : State} {bytes : ℕ} {lent after : List ℕ} {r : Formatted} → Words lent → F image state bytes lent after r
-      → Later C F after (r .state) end stop → Later C F image state end stop
+  call : {image end : List ℕ} {state stop : State} {message : Message} {lent : List ℕ} {r : Performed} → Words lent
+      → C image state message lent r → Later C F (r .image) (r .state) end stop → Later C F image state end stop
+  format : {image end : List ℕ} {state stop : State} {bytes : ℕ} {lent after : List ℕ} {r : Formatted} → Words lent
+      → F image state bytes lent after r → Later C F after (r .state) end stop → Later C F image state end stop
 
 pub record Demand2 (C : Contract) (F : FormatContract) : Type 0 where
   -- "Init, on a known unit with no area process, accepts exactly the images that meet document 01's rules of a sound unit"
-  pub exactly : {image : List ℕ} {state : State} {unit : ℕ} {lent : List ℕ} {r : Performed} → C image state (Init unit) lent r → Known state (Init unit)
-      → (r .answer .result ≡ 0) ↔ SoundUnit image state
+  pub exactly : {image : List ℕ} {state : State} {unit : ℕ} {lent : List ℕ} {r : Performed} → C image state (Init unit) lent r
+      → Known state (Init unit) → (r .answer .result ≡ 0) ↔ SoundUnit image state
   -- and no other unit
-  pub only : {image : List ℕ} {state : State} {unit : ℕ} {lent : List ℕ} {r : Performed} → C image state (Init unit) lent r → r .answer .result ≡ 0 → Known state (Init unit)
+  pub only : {image : List ℕ} {state : State} {unit : ℕ} {lent : List ℕ} {r : Performed} → C image state (Init unit) lent r
+      → r .answer .result ≡ 0 → Known state (Init unit)
+  -- refused, it leaves everything as it was
+  pub refused : {image : List ℕ} {state : State} {unit : ℕ} {lent : List ℕ} {r : Performed} → C image state (Init unit) lent r
+      → r .answer .result ≢ 0 → (r .image ≡ image) × (r .state ≡ state) × (r .lent ≡ lent)
   -- on accepting it leaves the image, and the state with which demand 3's list begins
-  pub accepted : {image : List ℕ} {state : State} {unit : ℕ} {lent : List ℕ} {r : Performed} → C image state (Init unit) lent r → r .answer .result ≡ 0
-      → (r .image ≡ image) × AcceptedState (r .state) × SoundUnit (r .image) (r .state)
+  pub accepted : {image : List ℕ} {state : State} {unit : ℕ} {lent : List ℕ} {r : Performed} → C image state (Init unit) lent r
+      → r .answer .result ≡ 0 → (r .image ≡ image) × AcceptedState (r .state) × SoundUnit (r .image) (r .state)
   -- "and every image that Format .. writes meets them again", whatever stood there before: Init of the same unit accepts it
-  pub format : {image : List ℕ} {state : State} {bytes : ℕ} {lent after : List ℕ} {r : Formatted} → Words image → Words lent → Shaped state → F image state bytes lent after r
-      → r .result ≡ 0 → SoundUnit after (r .state) × Known (r .state) (Init (r .state .unit))
+  pub format : {image : List ℕ} {state : State} {bytes : ℕ} {lent after : List ℕ} {r : Formatted} → Words image → Words lent → Shaped state
+      → F image state bytes lent after r → r .result ≡ 0 → SoundUnit after (r .state) × Known (r .state) (Init (r .state .unit))
   -- "or a later call writes meets them again, together with the open area processes": after every list of calls, Format among them,
   -- refused ones included
   pub later : {image end : List ℕ} {state stop : State} → SoundUnit image state → Later C F image state end stop → SoundUnit end stop
   -- and whatever stood there before, sound or not: after every such list nothing has changed, or the rules are met
-  pub written : {image end : List ℕ} {state stop : State} → Words image → Shaped state → Later C F image state end stop → ((end ≡ image) × (stop ≡ state)) ⊎ SoundUnit end stop
+  pub written : {image end : List ℕ} {state stop : State} → Words image → Shaped state → Later C F image state end stop
+      → ((end ≡ image) × (stop ≡ state)) ⊎ SoundUnit end stop
 
 -- ---- demand 3
 
 -- Demand 3's list "begins with any image that is sound .. and the state that Init left on accepting it just before": the same said of an
 -- accepted Init, without a word about the state that it left.
 pub record AfterInit (C : Contract) : Type 0 where
-  pub holds : {image : List ℕ} {state : State} {unit : ℕ} {words : List ℕ} {r : Performed} {calls : List Call} {replies : List Reply} {end : List ℕ} {stop : State}
+  pub holds : {image end words : List ℕ} {state stop : State} {unit : ℕ} {r : Performed} {calls : List Call} {replies : List Reply}
       → C image state (Init unit) words r → r .answer .result ≡ 0 → LentWords calls → Run C (r .image) (r .state) calls replies end stop
       → Demand3After (r .image) (r .state) calls replies end stop
 

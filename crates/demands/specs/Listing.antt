@@ -27,5 +27,5 @@ pub record ListedByName (C : Contract) : Type 0 where
   -- the entries that every good plain unit lists
   pub plain : (p : Plain) → Good p → ByName p (length (entries p)) (joined (entries p))
   -- and the lent words after every accepted listing, of the plain unit that the image stands for
-  pub call : {image : List ℕ} {state : State} {unit : ℕ} {lent : List ℕ} {r : Performed} → C image state (Listing unit) lent r → r .answer .result ≡ 0
-      → (p : Plain) × Good p × Represents image state p × ByName p (r .answer .entries) (r .lent)
+  pub call : {image : List ℕ} {state : State} {unit : ℕ} {lent : List ℕ} {r : Performed} → C image state (Listing unit) lent r
+      → r .answer .result ≡ 0 → (p : Plain) × Good p × Represents image state p × ByName p (r .answer .entries) (r .lent)

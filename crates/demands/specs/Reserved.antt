@@ -37,12 +37,14 @@ pub record SameButReserved (r q : Performed) : Type 0 where
 -- "Sectors 0 to 5 are never read or written", whatever image, state, message and lent words are.
 pub record ReservedSectors (C : Contract) (F : FormatContract) : Type 0 where
   -- never written: they are after a call as before
-  pub written : {image : List ℕ} {state : State} {message : Message} {lent : List ℕ} {r : Performed} → C image state message lent r → SameReserved image (r .image)
+  pub written : {image : List ℕ} {state : State} {message : Message} {lent : List ℕ} {r : Performed} → C image state message lent r
+      → SameReserved image (r .image)
   -- never read: whatever words they hold, the unit is sound or is not, and a call does the same
   pub sound : {a b : List ℕ} {state : State} → SameOthers a b → Words a → Words b → SoundUnit a state ↔ SoundUnit b state
-  pub read : {a b : List ℕ} {state : State} {message : Message} {lent : List ℕ} {r q : Performed} → SameOthers a b → Words a → Words b → C a state message lent r
-      → C b state message lent q → SameButReserved r q
+  pub read : {a b : List ℕ} {state : State} {message : Message} {lent : List ℕ} {r q : Performed} → SameOthers a b → Words a → Words b
+      → C a state message lent r → C b state message lent q → SameButReserved r q
   -- Format
-  pub format-written : {image : List ℕ} {state : State} {bytes : ℕ} {lent after : List ℕ} {r : Formatted} → F image state bytes lent after r → SameReserved image after
-  pub format-read : {a b : List ℕ} {state : State} {bytes : ℕ} {lent afterA afterB : List ℕ} {r q : Formatted} → SameOthers a b → F a state bytes lent afterA r
-      → F b state bytes lent afterB q → SameOthers afterA afterB × (r ≡ q)
+  pub format-written : {image : List ℕ} {state : State} {bytes : ℕ} {lent after : List ℕ} {r : Formatted} → F image state bytes lent after r
+      → SameReserved image after
+  pub format-read : {a b : List ℕ} {state : State} {bytes : ℕ} {lent afterA afterB : List ℕ} {r q : Formatted} → SameOthers a b
+      → F a state bytes lent afterA r → F b state bytes lent afterB q → SameOthers afterA afterB × (r ≡ q)

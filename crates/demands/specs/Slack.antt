@@ -28,8 +28,10 @@ use Rattle.refine.specs.Demands.{Performed, Contract, Run}
 pub data InUse (p : Plain) (q : ℕ) : Type 0 where
   system : sysIndexSector ≤ q → q ≤ mapSector → InUse p q
   catalog : (b : ℕ) → b < p .H * p .layers → q ≡ blockSector (p .F) (p .s) (p .sys) sysFrom b → InUse p q
-  index : (n : ℕ) (f : File) → tableFind n (p .files) ≡ some f → 0 < length (f .slices) → q ≡ sectorIn (p .F) (p .s) (f .slices) 0 → InUse p q
-  block : (n : ℕ) (f : File) → tableFind n (p .files) ≡ some f → (b : ℕ) → b < length (f .sectors) → q ≡ blockSector (p .F) (p .s) (f .slices) fileFrom b → InUse p q
+  index : (n : ℕ) (f : File) → tableFind n (p .files) ≡ some f → 0 < length (f .slices) → q ≡ sectorIn (p .F) (p .s) (f .slices) 0
+      → InUse p q
+  block : (n : ℕ) (f : File) → tableFind n (p .files) ≡ some f → (b : ℕ) → b < length (f .sectors)
+      → q ≡ blockSector (p .F) (p .s) (f .slices) fileFrom b → InUse p q
 
 -- Every other sector.
 abbrev pub Idle : Plain → ℕ → Type 0
@@ -37,9 +39,10 @@ Idle p q = InUse p q → ⊥
 
 -- Slack: a sector of SYS's or a file's slices past its blocks.
 pub data Slack (p : Plain) (q : ℕ) : Type 0 where
-  ofSys : (b : ℕ) → p .H * p .layers ≤ b → (b + sysFrom) / p .s < length (p .sys) → q ≡ blockSector (p .F) (p .s) (p .sys) sysFrom b → Slack p q
-  ofFile : (n : ℕ) (f : File) → tableFind n (p .files) ≡ some f → (b : ℕ) → length (f .sectors) ≤ b → (b + fileFrom) / p .s < length (f .slices)
-      → q ≡ blockSector (p .F) (p .s) (f .slices) fileFrom b → Slack p q
+  ofSys : (b : ℕ) → p .H * p .layers ≤ b → (b + sysFrom) / p .s < length (p .sys) → q ≡ blockSector (p .F) (p .s) (p .sys) sysFrom b
+      → Slack p q
+  ofFile : (n : ℕ) (f : File) → tableFind n (p .files) ≡ some f → (b : ℕ) → length (f .sectors) ≤ b
+      → (b + fileFrom) / p .s < length (f .slices) → q ≡ blockSector (p .F) (p .s) (f .slices) fileFrom b → Slack p q
 
 -- Sector q is one of slice k's s sectors.
 pub record SectorOf (p : Plain) (k q : ℕ) : Type 0 where
@@ -83,10 +86,13 @@ IdleAfterEach p (c ∷ calls) q = let after : Plain = step p (c .message) (c .le
 -- "Slack, freed and free sectors keep their words", through one call and through a list.
 pub record SlackKept (C : Contract) : Type 0 where
   -- every sector that the unit does not use after a call, and so those of the four kinds
-  pub idle : {image : List ℕ} {state : State} {message : Message} {lent : List ℕ} {r : Performed} (p : Plain) → Good p → Represents image state p → Words lent → C image state message lent r
-      → (q : ℕ) → Idle (step p message lent .unit) q → SectorKept image (r .image) q
-  pub call : {image : List ℕ} {state : State} {message : Message} {lent : List ℕ} {r : Performed} (p : Plain) → Good p → Represents image state p → Words lent → C image state message lent r
-      → (q : ℕ) → LeftAlone p (step p message lent .unit) q → SectorKept image (r .image) q
+  pub idle : {image : List ℕ} {state : State} {message : Message} {lent : List ℕ} {r : Performed} (p : Plain) → Good p
+      → Represents image state p → Words lent → C image state message lent r → (q : ℕ) → Idle (step p message lent .unit) q
+      → SectorKept image (r .image) q
+  pub call : {image : List ℕ} {state : State} {message : Message} {lent : List ℕ} {r : Performed} (p : Plain) → Good p
+      → Represents image state p → Words lent → C image state message lent r → (q : ℕ) → LeftAlone p (step p message lent .unit) q
+      → SectorKept image (r .image) q
   -- a list of calls to an initialized unit
-  pub list : {image end : List ℕ} {state stop : State} {calls : List Call} {replies : List Reply} (p : Plain) → Good p → Represents image state p → state .unit ≤ 3 → state .initialized ≡ true
-      → LentWords calls → Run C image state calls replies end stop → (q : ℕ) → IdleAfterEach p calls q → SectorKept image end q
+  pub list : {image end : List ℕ} {state stop : State} {calls : List Call} {replies : List Reply} (p : Plain) → Good p
+      → Represents image state p → state .unit ≤ 3 → state .initialized ≡ true → LentWords calls → Run C image state calls replies end stop
+      → (q : ℕ) → IdleAfterEach p calls q → SectorKept image end q

@@ -22,11 +22,14 @@ abbrev pub wordIf : Bool → ℕ → ℕ
 wordIf true w = w
 wordIf false w = 0
 
+-- The word of bit n where a has that bit, else 0.
+abbrev pub bitIn : ℕ → ℕ → ℕ
+bitIn n a = wordIf (bit n a) (bitWord n)
+
 -- Attributes that a file may have: the five bits alone, and "not 13 with 15".
 abbrev pub legalAttributes : ℕ → Bool
 legalAttributes a =
-    eqb a (wordIf (bit 1 a) (bitWord 1) + wordIf (bit 11 a) (bitWord 11) + wordIf (bit 12 a) (bitWord 12) + wordIf (bit 13 a) (bitWord 13) + wordIf (bit 15 a) (bitWord 15))
-    && not (entryOnly a && extendable a)
+    eqb a (bitIn 1 a + bitIn 11 a + bitIn 12 a + bitIn 13 a + bitIn 15 a) && not (entryOnly a && extendable a)
 
 -- "13 only with no slices", judged on the number of slices after the message.
 abbrev pub legalWith : ℕ → ℕ → Bool

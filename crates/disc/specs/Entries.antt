@@ -2,7 +2,7 @@
 -- none), 9 reserved = s times slices, 10-15 tail."
 use mathlib.Core.List.{List, [], _∷_, _++_}
 use Prim.Native.Nat.{ℕ, zero, suc, _+_, _*_, _/_, _%_}
-use lib.ListN.{length, replicate}
+use lib.ListN.{length, take, drop, replicate}
 use Rattle.disc.specs.Numbers.{sliceStart}
 use Rattle.disc.specs.Words.{word}
 use Rattle.disc.specs.Names.{nameWords, SYS, MAP, pack}
@@ -13,6 +13,20 @@ use Rattle.disc.specs.Kit.{sysIndexSector, mapIndexSector}
 abbrev pub entryWords : ℕ → List ℕ → ℕ → ℕ → ℕ → ℕ → List ℕ → List ℕ
 entryWords name optional attributes size index reserved tail =
     nameWords name ++ (optional ++ (attributes ∷ size ∷ index ∷ reserved ∷ tail))
+
+-- The name, the optional words and the tail that stand in the words of an entry.
+abbrev pub nameBy : (ℕ → ℕ) → ℕ
+nameBy w = pack (w 0) (w 1) (w 2)
+
+abbrev pub optionalIn : List ℕ → List ℕ
+optionalIn words = take 3 (drop 3 words)
+
+abbrev pub tailIn : List ℕ → List ℕ
+tailIn words = take 6 (drop 10 words)
+
+-- The entry that has its optional words and its tail from other words.
+abbrev pub entryFrom : ℕ → ℕ → ℕ → ℕ → ℕ → List ℕ → List ℕ
+entryFrom name attributes size index reserved words = entryWords name (optionalIn words) attributes size index reserved (tailIn words)
 
 -- The index sector of an ordinary file with n slices, of which the first is that of the list: 0 if there are none.
 abbrev pub indexSector : ℕ → ℕ → ℕ → List ℕ → ℕ
@@ -41,4 +55,4 @@ placeWord image F s slices from t w = word image (blockSector F s slices from (t
 
 -- The name that stands in place t of an array of places.
 abbrev pub nameAt : (ℕ → ℕ → ℕ) → ℕ → ℕ
-nameAt P t = pack (P t 0) (P t 1) (P t 2)
+nameAt P t = nameBy (P t)

@@ -10,6 +10,10 @@ use Rattle.types.specs.declared.Name.{Name}
 abbrev pub pack : ℕ → ℕ → ℕ → ℕ
 pack a b c = (a * 65536 + b) * 65536 + c
 
+-- The three words of a name as one number, as they stand.
+abbrev pub packed : Name → ℕ
+packed name = pack (name .0) (name .1) (name .2)
+
 -- The three words of a name.
 abbrev pub nameWords : ℕ → List ℕ
 nameWords n = (n / 0x100000000) ∷ (n / 65536 % 65536) ∷ (n % 65536) ∷ []

@@ -2,18 +2,16 @@
 use mathlib.Core.Path.{_≡_, refl, sym, ap, _∙_, subst, subst⁻¹}
 use mathlib.Core.Bool.{Bool, true, false, _||_}
 use mathlib.Core.Bool as B
-use mathlib.Core.List.{List, [], _∷_, _++_}
+use mathlib.Core.List.{List}
 use Prim.Native.Nat.{ℕ, _/_, _<_}
 use native.Mathlib.Omega.{arith}
 use lib.Dec.{T, lit<, eqb}
-use lib.ListN.{replicate}
 use borrow.Author.Tests.{not-true, not-false, eqb-true, eqb-false}
 use Rattle.types.specs.declared.Name.{Name}
 use Rattle.disc.specs.Decide.{Decides}
 use Rattle.disc.specs.Names.{pack, legalName, keyOf, SYS, MAP}
 use Rattle.disc.specs.Entries.{nameAt, systemEntry}
 use Rattle.disc.proofs.DecideLaws.{true≢false}
-use Rattle.disc.proofs.NameLaws.{nameWords-pack}
 use Rattle.names.specs.NameIs.{NameIs}
 use Rattle.sound.specs.Places.{Unused, Used}
 use Rattle.entries.specs.declared.Expected.{Expected}
@@ -24,12 +22,6 @@ T-of e = subst⁻¹ T e tt
 
 pub T-not : {b : Bool} → b ≡ false → T b → ⊥
 T-not e h = subst T e h
-
--- the words of SYS's or MAP's entry, with the name's words written out
-pub entry-list : (a b c size index reserved : ℕ) → b < 65536 → c < 65536
-    → a ∷ b ∷ c ∷ 0 ∷ 0 ∷ 0 ∷ 0x8010 ∷ size ∷ index ∷ reserved ∷ 0 ∷ 0 ∷ 0 ∷ 0 ∷ 0 ∷ 0 ∷ [] ≡ systemEntry (pack a b c) size index reserved
-entry-list a b c size index reserved p q =
-    sym (ap (λ (l : List ℕ). l ++ (replicate 3 0 ++ (0x8010 ∷ size ∷ index ∷ reserved ∷ replicate 6 0))) (nameWords-pack a b c p q))
 
 -- a name whose first character is 0 is not legal
 pub legal-first : (n : ℕ) → T (legalName n) → n / 0x10000000000 ≡ 0 → ⊥

@@ -92,24 +92,7 @@ fn is_entry(
     requires { ⌜ (q .0 * 256 + 256 ≤ length (now image)) × (i < 16) ⌝ }
     ensures { λ r. ⌜ Decides r (HoldsEntry (sectorPlaces (now (image .entry)) (q .0)) i (systemEntry (pack (name .0) (name .1) (name .2)) size (index .0) reserved)) ⌝ }
 {
-    let entry = [
-        name.0,
-        name.1,
-        name.2,
-        0,
-        0,
-        0,
-        0x8010,
-        size,
-        index.0,
-        reserved,
-        0,
-        0,
-        0,
-        0,
-        0,
-        0,
-    ];
+    let entry = catalog::system_entry(name, size, index, reserved);
     holds_entry(image, q, i, &entry)
 }
 

@@ -9,14 +9,18 @@ use Rattle.types.specs.declared.Name.{Name}
 use Rattle.types.specs.declared.Role.the-variants.{Sharing, ExclusiveWriter}
 use Rattle.types.specs.declared.Operation.{Operation}
 use Rattle.types.specs.declared.Operation.the-variants.{Reserve, Position, Sense, Transput, Other}
-use Rattle.types.specs.declared.Message.the-variants.{Init, Set, Create, LookUp, Change, Remove, CreateArea, RemoveArea, AreaMessage, UnitDescription, Listing}
+use Rattle.types.specs.declared.Message.the-variants.{Init, Set, Create, LookUp, Change, Remove, CreateArea, RemoveArea, AreaMessage}
+use Rattle.types.specs.declared.Message.the-variants.{UnitDescription, Listing}
 use Rattle.disc.specs.Names.{named}
 use Rattle.plain.specs.Table.{Table, tableFind}
 use Rattle.plain.specs.Unit.{Plain, File, AreaUser, freeSectors}
 use Rattle.plain.specs.Step.{after}
 use Rattle.examples.specs.Cases.{Case, gives, givesAt, givesCounts, callsOf, Shows, wordsAfter}
 use Rattle.examples.specs.Paper.{paperUnit, pass, mixedPass, smallPass, sectorOf, slicesIn}
-use Rattle.examples.specs.ExampleUnits.{aName, bName, cName, dName, zName, char, smallA, oneName, bracketName, elsewhere, sysName, mapName, smallSys, mixedMap, crowdName, lentEntry, setEntry, keptName, keep, blank, userRow, smallUnit, nineFiles, oldUnit, fullLayer, twoLayers, heldUnit, keyFull, openUnit, countedUnit, outputUnit, scattered, crowded, areaRow}
+use Rattle.examples.specs.ExampleUnits.{char, aName, bName, cName, dName, zName, smallA, oneName, bracketName, elsewhere, sysName}
+use Rattle.examples.specs.ExampleUnits.{mapName, smallSys, mixedMap, crowdName, lentEntry, setEntry, keptName, keep, blank}
+use Rattle.examples.specs.ExampleUnits.{userRow, areaRow, smallUnit, nineFiles, oldUnit, fullLayer, twoLayers, heldUnit, keyFull}
+use Rattle.examples.specs.ExampleUnits.{openUnit, countedUnit, outputUnit, scattered, crowded}
 
 -- The unit after the calls of some cases; a file of it, its slices, and the users of an area.
 abbrev pub afterCases : Plain → List Case → Plain
@@ -229,7 +233,8 @@ refusedOld =
     ∷ gives (RemoveArea cName) [] 0
     ∷ []
 
--- 'C' keeps its attributes by any negative word, becomes 'Z', then an extendable file of two blocks; 'D' becomes an ordinary permanent file.
+-- 'C' keeps its attributes by any negative word, becomes 'Z', then an extendable file of two blocks; 'D' becomes an ordinary permanent
+-- file.
 abbrev pub changedOld : List Case
 changedOld =
     gives (Change cName) (keptName 0x8004 keep) 0
@@ -478,7 +483,8 @@ emptyInputCases =
 
 -- Output by user 7 or 8: by 3, 7 and 19 alike, as the block is always the user's position.
 abbrev pub writes : ℕ → Name → ℕ → ℕ → ℕ → ℕ → ℕ → Case
-writes operation name sender at word result bytes = givesAt (AreaMessage name sender (Transput operation 512 at)) (sectorOf word) result bytes at
+writes operation name sender at word result bytes =
+    givesAt (AreaMessage name sender (Transput operation 512 at)) (sectorOf word) result bytes at
 
 abbrev pub outputCases : ℕ → List Case
 outputCases operation =
@@ -573,7 +579,8 @@ pub record Examples : Type 0 where
   pub system : Shows paperUnit systemCases
   pub keyed : Shows keyFull keyedCases
   -- 'PASS' had slices 3, 4 and 5; SYS took slice 5 when 'Pass', shortened to two slices, became 'pass'
-  pub keyedSys : (afterCases keyFull keyedCases .sys ≡ 1 ∷ 2 ∷ 5 ∷ []) × (slicesIn (fileIn smallPass (afterCases keyFull keyedCases)) ≡ 3 ∷ 4 ∷ [])
+  pub keyedSys : (afterCases keyFull keyedCases .sys ≡ 1 ∷ 2 ∷ 5 ∷ [])
+      × (slicesIn (fileIn smallPass (afterCases keyFull keyedCases)) ≡ 3 ∷ 4 ∷ [])
   pub grow : Shows twoLayers growCases
   pub grownSys : (afterCases twoLayers growCases .sys ≡ 1 ∷ 2 ∷ []) × (afterCases twoLayers growCases .layers ≡ 3)
   pub grownFile : slicesIn (fileIn zName (afterCases twoLayers growCases)) ≡ 3 ∷ 4 ∷ 5 ∷ []
@@ -652,4 +659,5 @@ pub record Examples : Type 0 where
   pub listing : Shows openUnit listingCases
   -- the plain unit lists by name
   pub listingWords : wordsAfter paperUnit (Listing 0) (blank 33)
-      ≡ 0x4D41 ∷ 0x5000 ∷ 0 ∷ 0 ∷ 0 ∷ 0 ∷ 0x8010 ∷ 1 ∷ 7 ∷ 1 ∷ noTail ++ (0x5359 ∷ 0x5300 ∷ 0 ∷ 0 ∷ 0 ∷ 0 ∷ 0x8010 ∷ 1 ∷ 6 ∷ 2 ∷ noTail ++ (0xFFFF ∷ []))
+      ≡ 0x4D41 ∷ 0x5000 ∷ 0 ∷ 0 ∷ 0 ∷ 0 ∷ 0x8010 ∷ 1 ∷ 7 ∷ 1
+      ∷ noTail ++ (0x5359 ∷ 0x5300 ∷ 0 ∷ 0 ∷ 0 ∷ 0 ∷ 0x8010 ∷ 1 ∷ 6 ∷ 2 ∷ noTail ++ (0xFFFF ∷ []))

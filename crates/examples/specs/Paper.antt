@@ -168,8 +168,8 @@ entryOnlyUnit = withFiles paperUnit (record {
 abbrev pub entryOnlyWords : List ℕ
 entryOnlyWords = 0x5041 ∷ 0x5353 ∷ 0 ∷ 1 ∷ 2 ∷ 3 ∷ 4 ∷ 0 ∷ 0 ∷ 0 ∷ 10 ∷ 11 ∷ 12 ∷ 13 ∷ 14 ∷ 15 ∷ []
 
--- The record for a Set or Change with these first two words of a name, attributes and length; and the words of an entry after it, with these
--- length, index sector and reserved sectors.
+-- The record for a Set or Change with these first two words of a name, attributes and length; and the words of an entry after it, with
+-- these length, index sector and reserved sectors.
 abbrev pub recordOf : ℕ → ℕ → ℕ → ℕ → List ℕ
 recordOf first second attributes size =
     first ∷ second ∷ 0 ∷ 4 ∷ 5 ∷ 6 ∷ attributes ∷ 0 ∷ 0 ∷ size ∷ 20 ∷ 21 ∷ 22 ∷ 23 ∷ 24 ∷ 25 ∷ []

@@ -19,8 +19,7 @@ use Rattle.disc.specs.Slices.{InRangeOnce}
 use Rattle.disc.specs.Entries.{nameAt}
 use Rattle.disc.specs.Attributes.{legalAttributes, legalWith}
 use Rattle.disc.proofs.Compare.{below-or}
-use Rattle.disc.proofs.DecideLaws.{true≢false}
-use Rattle.kit.proofs.KitLaws.{decides-eq}
+use Rattle.disc.proofs.DecideLaws.{true≢false, decides-eq}
 use Rattle.kit.specs.declared.Geometry.{Geometry}
 use Rattle.kit.specs.Geometry.{UnitOf}
 use Rattle.marks.specs.declared.Indexed.{Indexed}

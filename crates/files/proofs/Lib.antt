@@ -1,4 +1,3 @@
-pub mod AttributeLaws
 pub mod LiveLaws
 pub mod FileLaws
 pub mod SequenceLaws

@@ -4,6 +4,7 @@ use mathlib.Core.Bool.{Bool, true, false}
 use mathlib.Core.List.{List, [], _++_, append-nil}
 use Prim.Native.Nat.{ℕ, zero, suc}
 use Rattle.disc.specs.Names.{isSystem}
+use Rattle.disc.specs.Entries.{nameBy}
 use Rattle.kit.specs.declared.Geometry.{Geometry}
 use Rattle.marks.specs.Marked.{Marked}
 use Rattle.marks.proofs.MarkLaws.{marks}
@@ -11,7 +12,7 @@ use Rattle.sound.specs.Sound.{heldBy}
 use Rattle.entries.proofs.PlaceLaws.{T-of, T-not}
 use Rattle.files.specs.declared.Live.{Live}
 use Rattle.files.specs.Rules.{entryOf, FileRules, fileSlices, FileMarking}
-use Rattle.files.specs.Walk.{nameBy, placeSlices, PlaceRules, PlaceMarking}
+use Rattle.files.specs.Walk.{placeSlices, PlaceRules, PlaceMarking}
 use Rattle.files.proofs.SequenceLaws.{marking-map}
 
 pub held-zero : (n : ℕ) (l : List ℕ) → n ≡ 0 → heldBy n l ≡ []

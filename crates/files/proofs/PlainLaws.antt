@@ -10,6 +10,7 @@ use lib.ListN.{length, getD, set}
 use lib.Seq.{getD-set-same, getD-set-other}
 use borrow.Author.Tests.{eq-eqb, ne-eqb}
 use Rattle.disc.specs.Numbers.{need}
+use Rattle.disc.specs.Entries.{nameBy}
 use Rattle.disc.proofs.Compare.{same-or}
 use Rattle.disc.proofs.DecideLaws.{true≢false, holds}
 use Rattle.disc.proofs.NumberLaws.{need-le}
@@ -23,8 +24,8 @@ use Rattle.files.specs.declared.Live.{Live}
 use Rattle.files.specs.declared.Entry.{Entry}
 use Rattle.files.specs.Live.{closedFile, lengthBy, liveIn, liveFrom, nameCell, CellsOf, Unopened}
 use Rattle.files.specs.Rules.{entryOf, wordsAt, FileNumbers, PlainNumbers, ClosedMarking}
-use Rattle.files.specs.Walk.{nameBy, placesFrom, PlacesMarking, OrdinaryPlace, OrdinaryPlaces, PlainMarking, PlainPlaces}
-use Rattle.files.proofs.AttributeLaws.{with-some}
+use Rattle.files.specs.Walk.{placesFrom, PlacesMarking, OrdinaryPlace, OrdinaryPlaces, PlainMarking, PlainPlaces}
+use Rattle.attributes.proofs.AttributeLaws.{with-some}
 use Rattle.files.proofs.FileLaws.{own-some, file-judged}
 use Rattle.files.proofs.PlaceLaws.{place-unused, place-file}
 use Rattle.files.proofs.WalkLaws.{PlacesPassed, places-none, places-some, place-more, places-more, places-stop, places-all}

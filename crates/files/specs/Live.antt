@@ -9,7 +9,7 @@ use lib.ListN as ListN
 use lib.Dec.{eqb}
 use Rattle.types.specs.declared.Area.{Area}
 use Rattle.types.specs.declared.State.{State}
-use Rattle.types.specs.State.{areaAt}
+use Rattle.types.specs.State.{areaAt, isOpen}
 use Rattle.sound.specs.State.{areaName}
 use Rattle.files.specs.declared.Live.{Live}
 
@@ -41,7 +41,7 @@ liveIn names indexes lengths upto name = liveFrom names indexes lengths name 0 u
 
 -- The name of an open descriptor, else 0.
 abbrev pub openName : Area → ℕ
-openName a = cond (a .live) (areaName a) 0
+openName a = cond (isOpen a) (areaName a) 0
 
 -- "Eight area processes": the lists hold what the state's descriptors say.
 pub record FlatOf (state : State) (names indexes lengths : List ℕ) : Type 0 where

@@ -6,9 +6,9 @@ use Prim.Native.Nat.{ℕ, zero, suc, _+_, _*_, _≤_, _<_}
 use lib.ListN.{length}
 use lib.Dec.{T}
 use Rattle.types.specs.declared.State.{State}
-use Rattle.disc.specs.Names.{pack, legalName, isSystem}
+use Rattle.disc.specs.Names.{legalName, isSystem}
 use Rattle.disc.specs.Kit.{sysIndexSector}
-use Rattle.disc.specs.Entries.{nameAt}
+use Rattle.disc.specs.Entries.{nameAt, nameBy}
 use Rattle.sound.specs.Places.{Used, IndexBlock}
 use Rattle.sound.specs.Sound.{heldBy, SoundFile}
 use Rattle.sound.specs.Parts.{Marking}
@@ -19,10 +19,6 @@ use Rattle.entries.specs.Sys.{sysSlices, placesIn}
 use Rattle.files.specs.declared.Live.{Live}
 use Rattle.files.specs.Live.{Unopened}
 use Rattle.files.specs.Rules.{entryOf, wordsAt, fileSlices, FileRules}
-
--- The name in sixteen words.
-abbrev pub nameBy : (ℕ → ℕ) → ℕ
-nameBy w = pack (w 0) (w 1) (w 2)
 
 -- The slices that the place with these words holds; the area processes are known by name.
 unfoldable pub placeSlices : List ℕ → Geometry → (ℕ → Live) → (ℕ → ℕ) → List ℕ

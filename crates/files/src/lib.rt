@@ -7,9 +7,7 @@ ghost use mathlib.Core.List.{[]};
 ghost use Prim.Native.Nat.{_+_, _*_, _/_, _≤_, _<_};
 ghost use lib.ListN.{length};
 ghost use Rattle.disc.specs.Decide.{Decides};
-ghost use Rattle.disc.specs.Numbers.{need};
-ghost use Rattle.disc.specs.Attributes.{legalAttributes, legalWith, entryOnly, givesEntryOnly};
-ghost use Rattle.disc.specs.Entries.{placeCount};
+ghost use Rattle.disc.specs.Entries.{placeCount, nameBy};
 ghost use Rattle.sound.specs.Places.{Booked};
 ghost use Rattle.sound.specs.Sound.{slicesBelow};
 ghost use Rattle.sound.specs.Parts.{Marking, MarksOf};
@@ -17,7 +15,7 @@ ghost use Rattle.files.specs.Live.{indexBy, lengthBy, liveIn, openName, 
 ghost use Rattle.kit.specs.Geometry.{UnitOf};
 ghost use Rattle.marks.specs.Marked.{SomeMarked};
 ghost use Rattle.entries.specs.Sys.{sysSlices, placesIn};
-ghost use Rattle.files.specs.Walk.{nameBy, placesFrom, PlaceMarking, PlacesMarking, SysKnown, NamesKnown, OrdinaryPlace, OrdinaryPlaces, PlainMarking, PlainPlaces, SoundFiles};
+ghost use Rattle.files.specs.Walk.{placesFrom, PlaceMarking, PlacesMarking, SysKnown, NamesKnown, OrdinaryPlace, OrdinaryPlaces, PlainMarking, PlainPlaces, SoundFiles};
 ghost use Rattle.files.specs.Rules.{wordsAt, entryAt, FileNumbers, DataSector, OwnMarking, FileMarking, PlainNumbers, ClosedMarking};
 use kit::Geometry;
 use marks::Indexed;
@@ -41,64 +39,11 @@ pub struct Entry {
     pub reserved: u16,
 }
 
-// Whether a word has no bits but those that a file may have, and not both 13 and 15.
-pub fn legal_attributes(a: u16) -> bool
-    ensures { λ r. ⌜ r ≡ legalAttributes a ⌝ }
-{
-    let own = 16384 * (a / 16384 % 2)
-        + 16 * (a / 16 % 2)
-        + 8 * (a / 8 % 2)
-        + 4 * (a / 4 % 2)
-        + a % 2;
-    if own != a {
-        return false;
-    }
-    a / 4 % 2 + a % 2 != 2
-}
-
-// Whether bit 13 is set.
-pub fn entry_only(a: u16) -> bool
-    ensures { λ r. ⌜ r ≡ entryOnly a ⌝ }
-{
-    a / 4 % 2 == 1
-}
-
-// Whether bit 13 may stand beside so many slices.
-pub fn legal_with(a: u16, slices: u16) -> bool
-    ensures { λ r. ⌜ r ≡ legalWith a slices ⌝ }
-{
-    if slices == 0 {
-        return true;
-    }
-    !entry_only(a)
-}
-
-// Whether attributes in a message give bit 13: no message may. Negative ones give nothing.
-pub fn gives_entry_only(a: u16) -> bool
-    ensures { λ r. ⌜ r ≡ givesEntryOnly a ⌝ }
-{
-    if numbers::negative(a) {
-        return false;
-    }
-    entry_only(a)
-}
-
-// Whether so many slices, of s sectors each, are enough for n sectors and the index block.
-pub fn covered(s: u16, n: u16, slices: u16) -> bool
-    requires { ⌜ 1 ≤ s ⌝ }
-    ensures { λ r. ⌜ Decides r (need s n ≤ slices) ⌝ }
-{
-    if n == 0 {
-        return true;
-    }
-    n as u32 + 1 <= slices as u32 * s as u32
-}
-
 // The name of an open descriptor as one number, else 0.
 fn open_name(area: Area) -> u64
     ensures { λ r. ⌜ r ≡ openName area ⌝ }
 {
-    if area.live {
+    if state::is_open(area) {
         return names::packed(area.name);
     }
     0
@@ -232,7 +177,7 @@ fn booked_legal(entry: Entry, live: Live, slices: u16, s: u16) -> bool
     if live.length < entry.size {
         return false;
     }
-    if !covered(s, entry.size, own) {
+    if !numbers::covered(s, entry.size, own) {
         return false;
     }
     if own == 0 {
@@ -246,17 +191,17 @@ fn numbers_legal(entry: Entry, live: Live, slices: u16, s: u16) -> bool
     requires { ⌜ 1 ≤ s ⌝ }
     ensures { λ r. ⌜ Decides r (FileNumbers s entry live slices) ⌝ }
 {
-    if !legal_attributes(entry.attributes) {
+    if !attributes::legal(entry.attributes) {
         return false;
     }
-    if !legal_with(entry.attributes, slices) {
+    if !attributes::legal_with(entry.attributes, slices) {
         return false;
     }
     let size = live_length(live, entry.size);
     if 32767 < size {
         return false;
     }
-    if !covered(s, size, slices) {
+    if !numbers::covered(s, size, slices) {
         return false;
     }
     if live.opened {
@@ -325,10 +270,10 @@ fn plain_numbers(entry: Entry) -> bool
     if entry.reserved <= entry.size {
         return false;
     }
-    if entry_only(entry.attributes) {
+    if attributes::entry_only(entry.attributes) {
         return false;
     }
-    legal_attributes(entry.attributes)
+    attributes::legal(entry.attributes)
 }
 
 // The same of a closed file whose slices are all in one stretch. Of any other file it says false and marks nothing.

@@ -30,7 +30,7 @@ format-unit {image} {state} {lent = lent} words lentWords shaped (written l f w)
   format-good (lentKeys lent) (lentSlice lent) (lentFirst lent) (lentSectors lent) (f .limits) (state .unit),
   rw (w .whole, w .left)
       (format-represents image (uninitialized state) (lentKeys lent) (lentSlice lent) (lentFirst lent) (lentSectors lent) (getD lent 7 0) (getD lent 8 0)
-      (f .limits) (f .size) words (lentWords .each 7) (lentWords .each 8) (record { eight = shaped .eight; three = shaped .three }) (f .closed)),
+      (f .limits) (f .size) words (lentWords .each 7) (lentWords .each 8) (record { eight = shaped .eight; three = shaped .three }) (f .known .ready)),
 )
 
 pub format-sound : {image : List ℕ} {state : State} {bytes : ℕ} {lent after : List ℕ} {r : Formatted} → Words image → Words lent → Shaped state

@@ -1,6 +1,5 @@
 pub mod MapLaws
 pub mod BlockLaws
-pub mod EntryLaws
-pub mod AreaLaws
+pub mod PlaceLaws
 pub mod WriteLaws
 pub mod FormatUnit

@@ -3,11 +3,13 @@
 use mathlib.Core.Path.{_≡_}
 use mathlib.Core.Bool.{false}
 use mathlib.Core.List.{List}
-use Prim.Native.Nat.{ℕ, _*_, _-_, _≤_, _<_}
+use Prim.Native.Nat.{ℕ, _*_, _-_, _≤_}
 use lib.ListN.{length, getD}
 use Rattle.types.specs.declared.State.{State}
-use Rattle.types.specs.State.{areaAt}
+use Rattle.types.specs.declared.Message.the-variants.{Init}
 use Rattle.disc.specs.Kit.{Limits}
+use Rattle.state.specs.Areas.{withInitialized}
+use Rattle.known.specs.Known.{Known}
 use Rattle.refine.specs.Format.{systemSectors, freshCatalog, formatted}
 use Rattle.format.specs.declared.Formatted.{Formatted}
 
@@ -42,12 +44,9 @@ pub record RecordLent (bytes : ℕ) (lent : List ℕ) : Type 0 where
 abbrev pub LentLimits : List ℕ → Type 0
 LentLimits lent = Limits (lentKeys lent) (lentSlice lent) (lentFirst lent) (lentSectors lent)
 
--- "Unit known, no area process, limits met, free = N - F, top = N, image length 256 times N?" A known unit is the
--- state's, 0 to 3.
+-- "Unit known, no area process, limits met, free = N - F, top = N, image length 256 times N?" The first two are what Init asks first.
 pub record Formattable (image : List ℕ) (state : State) (lent : List ℕ) : Type 0 where
-  pub number : lentUnit lent ≡ state .unit
-  pub known : state .unit ≤ 3
-  pub closed : (j : ℕ) → j < 8 → areaAt state j .live ≡ false
+  pub known : Known state (Init (lentUnit lent))
   pub limits : LentLimits lent
   pub free : lentFree lent ≡ lentSectors lent - lentFirst lent
   pub top : lentTop lent ≡ lentSectors lent
@@ -67,7 +66,7 @@ formattedBy image lent =
 
 -- "It .. leaves the unit uninitialized."
 abbrev pub uninitialized : State → State
-uninitialized state = record { unit = state .unit; initialized = false; areas = state .areas }
+uninitialized state = withInitialized state false
 
 -- "The first no decides; nothing changes".
 pub record Refused (result : ℕ) (image : List ℕ) (state : State) (after : List ℕ) (r : Formatted) : Type 0 where

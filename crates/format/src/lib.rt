@@ -5,7 +5,7 @@ ghost use Prim.Native.Nat.{_+_, _*_, _≤_, _<_, compare};
 ghost use lib.ListN.{length};
 ghost use Rattle.disc.specs.Decide.{Decides};
 ghost use Rattle.disc.specs.Numbers.{ceilDiv};
-ghost use Rattle.disc.specs.Names.{pack};
+ghost use Rattle.disc.specs.Names.{packed};
 ghost use Rattle.disc.specs.Kit.{mapSector};
 ghost use Rattle.disc.specs.Slices.{inUnit, oneIfNone, oneIfSame, occurrences};
 ghost use Rattle.disc.specs.Stretches.{span};
@@ -13,7 +13,8 @@ ghost use Rattle.disc.specs.Map.{mapWord};
 ghost use Rattle.disc.specs.Entries.{systemEntry};
 ghost use Rattle.words.specs.Store.{store};
 ghost use Rattle.refine.specs.Format.{storeBlock, mapWords};
-ghost use Rattle.format.specs.Format.{Formattable, LentLimits, lentSectors, systemBy, catalogBy, uninitialized, FormatAnswer};
+ghost use Rattle.format.specs.Format.{Formattable, LentLimits, lentSectors, systemBy, catalogBy, FormatAnswer};
+use types::Message;
 use types::Name;
 use types::Sector;
 use types::Slice;
@@ -125,26 +126,10 @@ fn enter(
     reserved: u16,
 )
     requires { ⌜ (place < 16) × (q .0 * 256 + 256 ≤ length (now image)) ⌝ }
-    ensures { λ _. ⌜ now (image .exit) ≡ store (now (image .entry)) (q .0 * 256 + 16 * place) (systemEntry (pack (name .0) (name .1) (name .2)) size (index .0) reserved) ⌝ }
+    ensures { λ _. ⌜ now (image .exit) ≡ store (now (image .entry)) (q .0 * 256 + 16 * place)
+        (systemEntry (packed name) size (index .0) reserved) ⌝ }
 {
-    let entry = [
-        name.0,
-        name.1,
-        name.2,
-        0,
-        0,
-        0,
-        0x8010,
-        size,
-        index.0,
-        reserved,
-        0,
-        0,
-        0,
-        0,
-        0,
-        0,
-    ];
+    let entry = catalog::system_entry(name, size, index, reserved);
     words::store_words(image, q, 16 * place, &entry, 16);
 }
 
@@ -197,13 +182,7 @@ fn accepts(image: &[u16], state: State, lent: &[u16]) -> bool
     requires { ⌜ 9 ≤ length (now lent) ⌝ }
     ensures { λ r. ⌜ Decides r (Formattable (now (image .entry)) state (now (lent .entry))) ⌝ }
 {
-    if lent[0] != state.unit {
-        return false;
-    }
-    if 3 < state.unit {
-        return false;
-    }
-    if state::any_open(state) {
+    if !known::known(state, Message::Init { unit: lent[0] }) {
         return false;
     }
     let sectors = lent[3];
@@ -218,15 +197,6 @@ fn accepts(image: &[u16], state: State, lent: &[u16]) -> bool
         return false;
     }
     image.len() == sectors as usize * 256
-}
-
-// The state of a unit that must be initialized first.
-fn not_initialized(state: State) -> State
-    ensures { λ r. ⌜ r ≡ uninitialized state ⌝ }
-{
-    let mut next = state;
-    next.initialized = false;
-    next
 }
 
 // Format: makes the image that of a fresh unit, as the record of nine words describes it.
@@ -255,6 +225,6 @@ pub fn format(image: &mut [u16], state: State, bytes: u16, lent: &[u16]) -> Form
     write_catalog(image, lent);
     Formatted {
         result: 0,
-        state: not_initialized(state),
+        state: state::with_initialized(state, false),
     }
 }

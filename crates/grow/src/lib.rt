@@ -16,6 +16,7 @@ use catalog::Found;
 use catalog::Place;
 use index::IndexBlock;
 use slices::Growth;
+use types::Sector;
 use unit::Opened;
 
 // The slices of SYS with so many layers: H times L / s rounded up.
@@ -94,24 +95,7 @@ fn enter_sys(image: &mut [u16], place: Place, size: u16, reserved: u16)
     requires { ⌜ placeStart place + 16 ≤ length (now image) ⌝ }
     ensures { λ _. ⌜ now (image .exit) ≡ store (now (image .entry)) (placeStart place) (systemEntry SYS size 6 reserved) ⌝ }
 {
-    let entry = [
-        0x5359,
-        0x5300,
-        0,
-        0,
-        0,
-        0,
-        0x8010,
-        size,
-        6,
-        reserved,
-        0,
-        0,
-        0,
-        0,
-        0,
-        0,
-    ];
+    let entry = catalog::system_entry(names::sys_name(), size, Sector(6), reserved);
     catalog::write_entry(image, place, &entry);
 }
 

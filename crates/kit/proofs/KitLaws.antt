@@ -1,14 +1,11 @@
--- Laws of the kit: decisions by a test of numbers, whole slices by multiplying back, MAP's index by its words, and the numbers
+-- Laws of the kit: whole slices by multiplying back, MAP's index by its words, and the numbers
 -- of a sound kit.
 use mathlib.Core.Path.{_≡_, refl, sym, ap, ap₂, _∙_}
 use mathlib.Core.List.{List, [], _∷_}
 use Prim.Native.Nat.{ℕ, zero, suc, _*_, _/_, _%_, _≤_, _<_}
 use native.Mathlib.Nat.{div-add-mod'}
 use native.Mathlib.Omega.{arith}
-use lib.Dec.{eqb, leb}
 use lib.ListN.{length, getD}
-use borrow.Author.Tests.{eqb-true, eqb-false, leb-true, leb-false}
-use Rattle.disc.specs.Decide.{Decides}
 use Rattle.disc.specs.Numbers.{ceilDiv, sliceCount}
 use Rattle.disc.specs.Words.{word, Holds}
 use Rattle.disc.specs.Kit.{kitSector, mapIndexSector}
@@ -17,14 +14,6 @@ use Rattle.disc.proofs.NumberLaws.{ceilDiv-le}
 use Rattle.sound.specs.Parts.{SoundKit}
 use Rattle.kit.specs.declared.Geometry.{Geometry}
 use Rattle.kit.specs.Geometry.{GeometryOf, UnitOf, SoundByKit}
-
--- ---- the answer is a test of two numbers
-
-pub decides-eq : {P : Type 0} (a b : ℕ) → (a ≡ b → P) → (P → a ≡ b) → Decides (eqb a b) P
-decides-eq a b to fro = record { yes = λ e. to (eqb-true a b e); not = λ e p. eqb-false a b e (fro p) }
-
-pub decides-le : {P : Type 0} (a b : ℕ) → (a ≤ b → P) → (P → a ≤ b) → Decides (leb a b) P
-decides-le a b to fro = record { yes = λ e. to (leb-true a b e); not = λ e p. omega (arith, fro p, leb-false a b e) }
 
 -- ---- whole slices
 

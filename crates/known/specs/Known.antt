@@ -1,13 +1,13 @@
 -- The first question of every call: the class of a message and the unit that it names, and whether that unit is known and ready; the words
 -- of the first two questions.
 use mathlib.Core.Path.{_≡_}
-use mathlib.Core.Bool.{true, false}
-use Prim.Native.Nat.{ℕ, _≤_, _<_}
+use mathlib.Core.Bool.{true}
+use Prim.Native.Nat.{ℕ}
 use Rattle.types.specs.declared.Name.{Name}
 use Rattle.types.specs.declared.State.{State}
 use Rattle.types.specs.declared.Message.{Message}
 use Rattle.types.specs.declared.Message.the-variants.{Init, Set, Create, LookUp, Change, Remove, CreateArea, RemoveArea, AreaMessage, UnitDescription, Listing}
-use Rattle.types.specs.State.{areaAt}
+use Rattle.types.specs.State.{NoneOpen, UnitKnown}
 use Rattle.disc.specs.Names.{unitIn}
 use Rattle.known.specs.declared.Class.{Class}
 use Rattle.known.specs.declared.Class.the-variants as class
@@ -61,13 +61,12 @@ unsoundWord message = unsoundTo (classified message .class)
 
 -- "And (but for Init) initialized? Init: no area process?"
 abbrev pub Ready : State → Class → Type 0
-Ready state class.Init = (j : ℕ) → j < 8 → areaAt state j .live ≡ false
+Ready state class.Init = NoneOpen state
 Ready state class.Catalog = state .initialized ≡ true
 Ready state class.Area = state .initialized ≡ true
 Ready state class.Report = state .initialized ≡ true
 
 -- "1. Unit known (the state's, 0 to 3) and (but for Init) initialized? Init: no area process?"
 pub record Known (state : State) (message : Message) : Type 0 where
-  pub number : unitMeant message ≡ state .unit
-  pub low : state .unit ≤ 3
+  pub unit : UnitKnown state (unitMeant message)
   pub ready : Ready state (classified message .class)

@@ -1,6 +1,7 @@
 // Each message's class and the unit that it names; the first question of every call, and the words of the first two.
 
 ghost use mathlib.Core.Path.{_≡_};
+ghost use Rattle.types.specs.State.{UnitKnown};
 ghost use Rattle.disc.specs.Decide.{Decides};
 ghost use Rattle.known.specs.Known.{byUnit, byName, classified, unknownTo, unsoundTo, unknownWord, unsoundWord, Ready, Known};
 use types::Message;
@@ -106,30 +107,34 @@ pub fn unsound_word(message: Message) -> u16
     unsound_to(class)
 }
 
+// Whether a number is that of the state's unit, one of 0 to 3.
+fn unit_known(state: State, unit: u16) -> bool
+    ensures { λ r. ⌜ Decides r (UnitKnown state unit) ⌝ }
+{
+    if unit != state.unit {
+        return false;
+    }
+    state.unit <= 3
+}
+
 // Whether the unit is ready for a message of a class: Init asks for no area process, all others for an initialized unit.
 fn ready(state: State, class: Class) -> bool
     ensures { λ r. ⌜ Decides r (Ready state class) ⌝ }
 {
     let initialized = state.initialized;
     match class {
-        Class::Init => !state::any_open(state),
+        Class::Init => state::none_open(state),
         Class::Catalog => initialized,
         Class::Area => initialized,
         Class::Report => initialized,
     }
 }
 
-// Whether the unit that a message means is the state's, one of 0 to 3, and ready.
+// Whether the unit that a message names is known and ready.
 pub fn known(state: State, message: Message) -> bool
     ensures { λ r. ⌜ Decides r (Known state message) ⌝ }
 {
     let asked = classify(message);
     let class = asked.class;
-    if asked.unit != state.unit {
-        return false;
-    }
-    if 3 < state.unit {
-        return false;
-    }
-    ready(state, class)
+    unit_known(state, asked.unit) && ready(state, class)
 }

@@ -13,11 +13,10 @@ use Rattle.disc.specs.Decide.{Decides}
 use Rattle.disc.specs.Slices.{InRangeOnce}
 use Rattle.disc.specs.Stretches.{span}
 use Rattle.disc.proofs.Compare.{same-or}
-use Rattle.disc.proofs.DecideLaws.{true≢false}
+use Rattle.disc.proofs.DecideLaws.{true≢false, decides-eq}
 use Rattle.disc.proofs.SliceLaws.{inUnit-le, occurrences-append}
 use Rattle.disc.proofs.SpanLaws.{span-in}
 use Rattle.sound.specs.Parts.{Marking}
-use Rattle.kit.proofs.KitLaws.{decides-eq}
 use Rattle.marks.specs.Marked.{Marked, Free, runMarks, RunMarking}
 use Rattle.marks.proofs.MarkLaws.{mark-one}
 

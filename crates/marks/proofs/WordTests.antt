@@ -9,7 +9,7 @@ use Rattle.disc.specs.Decide.{Decides}
 use Rattle.disc.specs.Words.{word}
 use Rattle.disc.specs.Kit.{mapSector}
 use Rattle.disc.proofs.Compare.{same-or}
-use Rattle.kit.proofs.KitLaws.{decides-eq}
+use Rattle.disc.proofs.DecideLaws.{decides-eq}
 use Rattle.marks.specs.Packed.{packedMarks, Filled, Cleared}
 
 pub filled-none : (image marks : List ℕ) → Filled image marks 0

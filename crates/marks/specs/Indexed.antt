@@ -29,7 +29,8 @@ pub record WholeSlices (F s sectors start : ℕ) : Type 0 where
 -- marked already.
 pub record PairMarking (g : Geometry) (sectors start : ℕ) (before after : List ℕ) (answer : ℕ) : Type 0 where
   pub marking : (held : List ℕ) → Marked (g .slices) before held
-      → Marking (ltb 0 answer) (WholeSlices (g .first .0) (g .slice) sectors start) (g .slices) after held (span ((start - g .first .0) / g .slice + 1) (sectors / g .slice))
+      → Marking (ltb 0 answer) (WholeSlices (g .first .0) (g .slice) sectors start) (g .slices) after held
+      (span ((start - g .first .0) / g .slice + 1) (sectors / g .slice))
   pub slices : 1 ≤ answer → answer ≡ sectors / g .slice
   pub high : 1 ≤ answer → start + sectors ≤ g .sectors
 
@@ -50,9 +51,11 @@ pub record Refusal (marks : List ℕ) (answer : Indexed) : Type 0 where
 -- marked, and the answer has their number and the first sector of the first. Else no slice is marked.
 pub record IndexMarking (image : List ℕ) (g : Geometry) (q : ℕ) (before after : List ℕ) (answer : Indexed) : Type 0 where
   pub marking : (held : List ℕ) → MarksOf before held → InRangeOnce (g .slices) held
-      → Marking (answer .good) (IndexBlock image (g .first .0) (g .slice) q) (g .slices) after held (slicesAt image (g .first .0) (g .slice) q)
+      → Marking (answer .good) (IndexBlock image (g .first .0) (g .slice) q) (g .slices) after held
+      (slicesAt image (g .first .0) (g .slice) q)
   pub slices : answer .good ≡ true → answer .slices ≡ length (slicesAt image (g .first .0) (g .slice) q)
-  pub start : answer .good ≡ true → answer .start .0 ≡ sliceStart (g .first .0) (g .slice) (firstOf (slicesAt image (g .first .0) (g .slice) q))
+  pub start : answer .good ≡ true
+      → answer .start .0 ≡ sliceStart (g .first .0) (g .slice) (firstOf (slicesAt image (g .first .0) (g .slice) q))
   pub refused : answer .good ≡ false → Refusal after answer
 
 -- The index block in sector q has one pair, of so many sectors from sector q on.
@@ -71,5 +74,6 @@ pub record SingleFile (image : List ℕ) (g : Geometry) (q sectors : ℕ) (marks
 
 -- The answer true says that it is such a file, and that its slices are marked now; false that it is none, and nothing was changed.
 pub record SingleMarking (image : List ℕ) (g : Geometry) (q sectors : ℕ) (before after : List ℕ) (answer : Bool) : Type 0 where
-  pub yes : answer ≡ true → SingleFile image g q sectors before × (after ≡ runMarks before ((q - g .first .0) / g .slice) (sectors / g .slice))
+  pub yes : answer ≡ true
+      → SingleFile image g q sectors before × (after ≡ runMarks before ((q - g .first .0) / g .slice) (sectors / g .slice))
   pub not : answer ≡ false → (SingleFile image g q sectors before → ⊥) × (after ≡ before)

@@ -70,7 +70,8 @@ fn cleared(image: &[u16], n: usize) -> bool
 // Whether the map is that of the marked slices: full words, the word in which the unit's slices end, and words past it.
 pub fn map_agrees(image: &[u16], marks: &[u8; 4096], g: Geometry) -> bool
     requires { ⌜ UnitOf (now image) g × SomeMarked (g .slices) (now marks) ⌝ }
-    ensures { λ r. ⌜ ((all : List ℕ) → MarksOf (now (marks .entry)) all → InRangeOnce (g .slices) all → Decides r (SoundMap (now (image .entry)) (g .slices) all)) ⌝ }
+    ensures { λ r. ⌜ ((all : List ℕ) → MarksOf (now (marks .entry)) all → InRangeOnce (g .slices) all
+        → Decides r (SoundMap (now (image .entry)) (g .slices) all)) ⌝ }
 {
     let full = g.slices as usize / 16;
     if !filled(image, marks, full) {

@@ -2,11 +2,11 @@
 use mathlib.Core.Path.{_≡_}
 use Prim.Native.Nat.{ℕ, _<_}
 use Rattle.types.specs.declared.Name.{Name}
-use Rattle.disc.specs.Names.{pack}
+use Rattle.disc.specs.Names.{packed}
 
 -- The three words of a name, each a word, make the number n. At most one name does.
 pub record NameIs (name : Name) (n : ℕ) : Type 0 where
-  pub packed : pack (name .0) (name .1) (name .2) ≡ n
+  pub packed : packed name ≡ n
   pub first : name .0 < 65536
   pub second : name .1 < 65536
   pub third : name .2 < 65536

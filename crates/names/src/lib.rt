@@ -5,7 +5,7 @@ ghost use mathlib.Core.Bool.{_||_};
 ghost use Prim.Native.Nat.{_≤_, _<_};
 ghost use lib.ListN.{length};
 ghost use lib.Dec.{eqb};
-ghost use Rattle.disc.specs.Names.{pack, letter, digit, legalName, named, unitIn, SYS, MAP, isSystem};
+ghost use Rattle.disc.specs.Names.{packed, letter, digit, legalName, named, unitIn, SYS, MAP, isSystem};
 ghost use Rattle.names.specs.NameIs.{NameIs};
 ghost use Rattle.names.specs.Classes.{ClassesOf, RangeClassed};
 use types::Name;
@@ -31,21 +31,21 @@ pub fn map_name() -> Name
 
 // The three words as one number, the first word highest.
 pub fn packed(name: Name) -> u64
-    ensures { λ r. ⌜ r ≡ pack (name .0) (name .1) (name .2) ⌝ }
+    ensures { λ r. ⌜ r ≡ packed name ⌝ }
 {
     (name.0 as u64 * 65536 + name.1 as u64) * 65536 + name.2 as u64
 }
 
 // Whether two names have the same words.
 pub fn same_name(a: Name, b: Name) -> bool
-    ensures { λ r. ⌜ r ≡ eqb (pack (a .0) (a .1) (a .2)) (pack (b .0) (b .1) (b .2)) ⌝ }
+    ensures { λ r. ⌜ r ≡ eqb (packed a) (packed b) ⌝ }
 {
     packed(a) == packed(b)
 }
 
 // Whether a name is 'SYS' or 'MAP'.
 pub fn is_system(name: Name) -> bool
-    ensures { λ r. ⌜ r ≡ isSystem (pack (name .0) (name .1) (name .2)) ⌝ }
+    ensures { λ r. ⌜ r ≡ isSystem (packed name) ⌝ }
 {
     let n = packed(name);
     if n == SYS_NUMBER {
@@ -99,7 +99,7 @@ pub fn is_letter_or_digit(c: u16) -> bool
 
 // Whether a name is legal: a letter, letters or digits, then zeros to the sixth character.
 pub fn legal(name: Name) -> bool
-    ensures { λ r. ⌜ r ≡ legalName (pack (name .0) (name .1) (name .2)) ⌝ }
+    ensures { λ r. ⌜ r ≡ legalName (packed name) ⌝ }
 {
     let n = packed(name);
     if !is_letter((n / 0x100_0000_0000) as u16) {
@@ -148,7 +148,7 @@ pub fn classes() -> [u8; 256]
 // No test goes another way in one legal name than in the next, so that a processor guesses each of them rightly.
 pub fn legal_by(name: Name, table: &[u8; 256]) -> bool
     requires { ⌜ ClassesOf (now table) ⌝ }
-    ensures { λ r. ⌜ r ≡ legalName (pack (name .0) (name .1) (name .2)) ⌝ }
+    ensures { λ r. ⌜ r ≡ legalName (packed name) ⌝ }
 {
     let initial = name.0 / 256;
     if initial < 65 {

@@ -5,7 +5,7 @@ ghost use Prim.Native.Nat.{ℕ, _+_, _-_, _*_, _/_, _%_, _≤_, _<_};
 ghost use lib.Dec.{eqb};
 ghost use Rattle.disc.specs.Decide.{Decides};
 ghost use Rattle.disc.specs.Numbers.{bitWord, bit, negative, ceilDiv, need, sliceStart};
-ghost use Rattle.disc.specs.Names.{pack, keyOf};
+ghost use Rattle.disc.specs.Names.{packed, keyOf};
 use types::Block;
 use types::Name;
 use types::Sector;
@@ -54,6 +54,17 @@ pub fn need(s: u16, n: u16) -> u16
         return 0;
     }
     n / s + 1
+}
+
+// Whether so many slices, of s sectors each, are enough for n sectors and the index block.
+pub fn covered(s: u16, n: u16, slices: u16) -> bool
+    requires { ⌜ 1 ≤ s ⌝ }
+    ensures { λ r. ⌜ Decides r (need s n ≤ slices) ⌝ }
+{
+    if n == 0 {
+        return true;
+    }
+    n as u32 + 1 <= slices as u32 * s as u32
 }
 
 // The first sector of slice k, where the data begin at sector `first`.
@@ -163,7 +174,7 @@ pub fn key_joined(from: u16, h: u16, key: u16, layer: u16) -> u32
 // The key of a name: the sum of its three words, carry out of 16 bits dropped, modulo h.
 pub fn key(name: Name, h: u16) -> u16
     requires { ⌜ 1 ≤ h ⌝ }
-    ensures { λ r. ⌜ r ≡ keyOf h (pack (name .0) (name .1) (name .2)) ⌝ }
+    ensures { λ r. ⌜ r ≡ keyOf h (packed name) ⌝ }
 {
     std::num::wrapping_add_u16(std::num::wrapping_add_u16(name.0, name.1), name.2) % h
 }

@@ -1,17 +1,18 @@
 -- Demand 3: one claim over every list of calls, by induction over the list.
 use mathlib.Core.Path.{_≡_, refl, sym, ap, ap₂, _∙_}
-use mathlib.Core.Bool.{Bool, true, false, not}
+use mathlib.Core.Bool.{true, false, not}
 use mathlib.Core.List.{List, _∷_}
 use mathlib.Core.Logic.{_≢_}
-use Prim.Native.Nat.{ℕ, _≤_, _<_}
+use Prim.Native.Nat.{ℕ, _≤_}
 use native.Mathlib.Omega.{arith}
-use lib.Dec.{T, ltb, eqb}
+use lib.Dec.{T, eqb}
 use lib.ListN.{length}
 use Rattle.types.specs.declared.State.{State}
 use Rattle.types.specs.declared.Message.{Message}
 use Rattle.types.specs.declared.Message.the-variants.{Init, Set, Create, LookUp, Change, Remove, CreateArea, RemoveArea, AreaMessage, UnitDescription, Listing}
-use Rattle.types.specs.State.{areaAt}
+use Rattle.types.specs.State.{NoneOpen, UnitKnown}
 use Rattle.disc.proofs.Compare.{same-or}
+use Rattle.disc.proofs.DecideLaws.{never-true}
 use Rattle.disc.specs.Words.{Words}
 use Rattle.plain.specs.Unit.{Plain, M, held}
 use Rattle.plain.specs.Questions.{replies, known}
@@ -22,14 +23,12 @@ use Rattle.plain.specs.Claims.{LentWords}
 use Rattle.plain.proofs.Keeps.{step-keeps, good-adds}
 use Rattle.plain.proofs.Refuses.{never-shrinks}
 use Rattle.plain.proofs.QuestionLaws.{false-no, true-yes, asks-yes, asks-no}
-use Rattle.state.specs.Areas.{anyOpen}
-use Rattle.users.proofs.AreaLaws.{none-open}
 use Rattle.refine.specs.Represents.{Represents}
 use Rattle.refine.specs.Demands.{empty, then, Performed, Run, Demand3}
 use Rattle.refine.proofs.SoundRepresents.{sound-represents}
 use Rattle.refine.proofs.SysStays.{sys-never-shrinks}
 use Rattle.map.proofs.CountLaws.{ones-free}
-use Rattle.refine.proofs.StateLaws.{same-any}
+use Rattle.refine.proofs.StateLaws.{same-none}
 use Rattle.known.specs.Known.{unknownWord, Known}
 use Rattle.perform.proofs.ObeyLaws.{known-no, known-yes}
 use Rattle.perform.specs.Perform.{Performs, unknown, unsound, obeyed}
@@ -49,37 +48,34 @@ module _ {image : List ℕ} {state : State} {p : Plain} (s : Standing image stat
   other unit d = false-no (known-no p unit (λ e. d (e ∙ sym (s .represents .areas .number))))
 
   -- no area process in the plain unit, none in the state
-  no-area : eqb (length (p .areas)) 0 ≡ true → (j : ℕ) → j < 8 → areaAt state j .live ≡ false
-  no-area e =
-      let n : length (p .areas) ≡ 0 = lib.Dec.eqb→eq (length (p .areas)) 0 (rw e tt) in
-      let none : anyOpen state ≡ false = same-any _ _ (s .represents .areas) (s .good .areaNames) ∙ ap (ltb 0) n in
-      none-open state (s .represents .areas .shaped .eight) .yes (ap not none)
+  no-area : eqb (length (p .areas)) 0 ≡ true → NoneOpen state
+  no-area e = same-none _ _ (s .represents .areas) (s .good .areaNames) .1 (lib.Dec.eqb→eq (length (p .areas)) 0 (rw e tt))
+
+  -- the unit that is meant is known
+  mine : {unit : ℕ} → unit ≡ state .unit → UnitKnown state unit
+  mine e = record { number = e; low = s .low }
 
   init-refused : (unit : ℕ) (lent : List ℕ) → (Known state (Init unit) → ⊥) → step p (Init unit) lent ≡ replies p 0x1200 lent
   init-refused unit lent unmet = same-or unit (state .unit)
       (λ e.
-      asks-yes _ _ _ (true-yes (known-yes p unit (e ∙ s .represents .areas .number) (omega (arith, e, s .low))))
-      ∙ asks-no _ _ _ (false-no (opened (eqb (length (p .areas)) 0) refl (λ q. unmet (record { number = e; low = s .low; ready = no-area q })))))
+      asks-yes _ _ _ (true-yes (known-yes (s .good) (s .represents) (mine e)))
+      ∙ asks-no _ _ _ (false-no (never-true (eqb (length (p .areas)) 0) (λ q. unmet (record { unit = mine e; ready = no-area q })))))
       (λ d. asks-no _ _ _ (other unit d))
-    where
-      opened : (b : Bool) → eqb (length (p .areas)) 0 ≡ b → (eqb (length (p .areas)) 0 ≡ true → ⊥) → eqb (length (p .areas)) 0 ≡ false
-      opened true e f = absurd (f e)
-      opened false e f = e
 
   -- every message: what the first no of the one call leaves is the plain unit's reply
   pub unknown-step : (message : Message) (lent : List ℕ) → (Known state message → ⊥) → step p message lent ≡ replies p (unknownWord message) lent
   unfolding stepListing stepDescription
   unknown-step (Init unit) lent unmet = init-refused unit lent unmet
-  unknown-step (Set name) lent unmet = asks-no _ _ _ (other _ (λ e. unmet (record { number = e; low = s .low; ready = s .initialized })))
-  unknown-step (Create name size attributes) lent unmet = asks-no _ _ _ (other _ (λ e. unmet (record { number = e; low = s .low; ready = s .initialized })))
-  unknown-step (LookUp name) lent unmet = asks-no _ _ _ (other _ (λ e. unmet (record { number = e; low = s .low; ready = s .initialized })))
-  unknown-step (Change name) lent unmet = asks-no _ _ _ (other _ (λ e. unmet (record { number = e; low = s .low; ready = s .initialized })))
-  unknown-step (Remove name) lent unmet = asks-no _ _ _ (other _ (λ e. unmet (record { number = e; low = s .low; ready = s .initialized })))
-  unknown-step (CreateArea name) lent unmet = asks-no _ _ _ (other _ (λ e. unmet (record { number = e; low = s .low; ready = s .initialized })))
-  unknown-step (RemoveArea name) lent unmet = asks-no _ _ _ (other _ (λ e. unmet (record { number = e; low = s .low; ready = s .initialized })))
-  unknown-step (AreaMessage name sender operation) lent unmet = asks-no _ _ _ (other _ (λ e. unmet (record { number = e; low = s .low; ready = s .initialized })))
-  unknown-step (UnitDescription unit bytes) lent unmet = asks-no _ _ _ (other _ (λ e. unmet (record { number = e; low = s .low; ready = s .initialized })))
-  unknown-step (Listing unit) lent unmet = asks-no _ _ _ (other _ (λ e. unmet (record { number = e; low = s .low; ready = s .initialized })))
+  unknown-step (Set name) lent unmet = asks-no _ _ _ (other _ (λ e. unmet (record { unit = mine e; ready = s .initialized })))
+  unknown-step (Create name size attributes) lent unmet = asks-no _ _ _ (other _ (λ e. unmet (record { unit = mine e; ready = s .initialized })))
+  unknown-step (LookUp name) lent unmet = asks-no _ _ _ (other _ (λ e. unmet (record { unit = mine e; ready = s .initialized })))
+  unknown-step (Change name) lent unmet = asks-no _ _ _ (other _ (λ e. unmet (record { unit = mine e; ready = s .initialized })))
+  unknown-step (Remove name) lent unmet = asks-no _ _ _ (other _ (λ e. unmet (record { unit = mine e; ready = s .initialized })))
+  unknown-step (CreateArea name) lent unmet = asks-no _ _ _ (other _ (λ e. unmet (record { unit = mine e; ready = s .initialized })))
+  unknown-step (RemoveArea name) lent unmet = asks-no _ _ _ (other _ (λ e. unmet (record { unit = mine e; ready = s .initialized })))
+  unknown-step (AreaMessage name sender operation) lent unmet = asks-no _ _ _ (other _ (λ e. unmet (record { unit = mine e; ready = s .initialized })))
+  unknown-step (UnitDescription unit bytes) lent unmet = asks-no _ _ _ (other _ (λ e. unmet (record { unit = mine e; ready = s .initialized })))
+  unknown-step (Listing unit) lent unmet = asks-no _ _ _ (other _ (λ e. unmet (record { unit = mine e; ready = s .initialized })))
 
 -- ---- one call
 
@@ -115,7 +111,7 @@ demand-3 = record {
   holds = λ image end state stop calls replies sound accepted words run.
       let x = sound-represents .reads image state sound in
       let p : Plain = x .0 in
-      let s : Standing image state p = record { good = x .1; represents = x .2; low = accepted .known; initialized = accepted .initialized } in
+      let s : Standing image state p = record { good = x .1; represents = x .2; low = accepted .known .low; initialized = accepted .initialized } in
       let l = every-list s words run in
       let q : Plain = after p calls in
       let adds = good-adds q (l .1 .good) in

@@ -1,20 +1,20 @@
 -- Each message's contract gives what the one call promises.
 use mathlib.Core.Path.{_≡_, refl, sym, ap, _∙_, subst}
-use mathlib.Core.Bool.{Bool, true, false, not, _&&_}
+use mathlib.Core.Bool.{Bool, true, false, _&&_}
 use mathlib.Core.List.{List}
 use mathlib.Core.Logic.{_≢_}
-use Prim.Native.Nat.{ℕ, _≤_, _<_}
+use Prim.Native.Nat.{ℕ}
 use native.Mathlib.Omega.{arith}
-use lib.Dec.{T, leb, ltb, eqb}
+use lib.Dec.{T, leb, eqb}
 use lib.ListN.{length}
-use borrow.Author.Tests.{le-leb, eq-eqb, ne-eqb, ltb-false}
+use borrow.Author.Tests.{le-leb, eq-eqb, ne-eqb}
 use Rattle.types.specs.declared.Answer.{Answer}
 use Rattle.types.specs.declared.Name.{Name}
 use Rattle.types.specs.declared.State.{State}
 use Rattle.types.specs.declared.Operation.{Operation}
 use Rattle.types.specs.declared.Message.{Message}
 use Rattle.types.specs.declared.Message.the-variants.{Init, Set, Create, LookUp, Change, Remove, CreateArea, RemoveArea, AreaMessage, UnitDescription, Listing}
-use Rattle.types.specs.State.{areaAt}
+use Rattle.types.specs.State.{UnitKnown}
 use Rattle.disc.specs.Words.{Words}
 use Rattle.plain.specs.Unit.{Plain}
 use Rattle.plain.specs.Questions.{Outcome, answer, replies, known, done}
@@ -22,13 +22,11 @@ use Rattle.plain.specs.Step.{step, reply}
 use Rattle.plain.specs.Good.{Good}
 use Rattle.plain.proofs.Keeps.{step-keeps}
 use Rattle.plain.proofs.QuestionLaws.{true-yes, asks-yes}
-use Rattle.state.specs.Areas.{anyOpen}
-use Rattle.users.proofs.AreaLaws.{none-open}
+use Rattle.state.specs.Areas.{initialized}
 use Rattle.refine.specs.Represents.{Represents}
 use Rattle.refine.specs.Replies.{Replies, refused, written}
-use Rattle.refine.proofs.StateLaws.{same-any}
+use Rattle.refine.proofs.StateLaws.{same-none}
 use Rattle.steps.proofs.Whole.{on-disc}
-use Rattle.init.specs.Init.{initialized}
 use Rattle.unit.specs.declared.Opened.{Opened}
 use Rattle.unit.specs.Opened.{NumbersOf, MeantOn, Meant}
 use Rattle.unit.specs.LookUp.{LooksUp}
@@ -54,17 +52,17 @@ use Rattle.perform.specs.Perform.{performed, Wrote, Obeyed, CanObey, Obe
 pub known-no : (p : Plain) (unit : ℕ) → unit ≢ p .unit → known p unit ≡ false
 known-no p unit d = ap (λ (b : Bool). b && leb unit 3) (ne-eqb unit (p .unit) d)
 
-pub known-yes : (p : Plain) (unit : ℕ) → unit ≡ p .unit → unit ≤ 3 → known p unit ≡ true
-known-yes p unit e l = rw (eq-eqb unit (p .unit) e) (le-leb unit 3 l)
-
 module _ {image : List ℕ} {state : State} {p : Plain} (g : Good p) (r : Represents image state p) where
+  pub known-yes : {unit : ℕ} → UnitKnown state unit → known p unit ≡ true
+  known-yes {unit} k = rw (eq-eqb unit (p .unit) (k .number ∙ r .areas .number)) (le-leb unit 3 (omega (arith, k .number, k .low)))
+
   -- the unit that the message means is the plain unit
   pub meant : {message : Message} → Known state message → T (known p (unitMeant message))
-  meant {message} k = rw (known-yes p (unitMeant message) (k .number ∙ r .areas .number) (omega (arith, k .number, k .low))) tt
+  meant k = rw (known-yes (k .unit)) tt
 
   -- and has its number
   own : {message : Message} → Known state message → p .unit ≡ unitMeant message
-  own k = sym (k .number ∙ r .areas .number)
+  own k = sym (k .unit .number ∙ r .areas .number)
 
   -- the unit stays
   pub stays : (message : Message) (lent : List ℕ) {a : Answer} {after : List ℕ} → state .initialized ≡ true → step p message lent ≡ record { unit = p; answer = a; lent = after }
@@ -189,17 +187,9 @@ module _ {image : List ℕ} {state : State} {p : Plain} (g : Good p) (r : Repres
 
   -- "Init leaves everything standing."
   pub init-done : {unit : ℕ} (lent : List ℕ) → Known state (Init unit) → step p (Init unit) lent ≡ done p lent
-  init-done {unit} lent k = asks-yes _ _ _ (true-yes (known-yes p unit (k .number ∙ r .areas .number) (omega (arith, k .number, k .low)))) ∙ asks-yes _ _ _ (true-yes closed)
-    where
-      shut : (b : Bool) → anyOpen state ≡ b → ((j : ℕ) → j < 8 → areaAt state j .live ≡ false) → anyOpen state ≡ false
-      shut false e c = e
-      shut true e c = absurd (none-open state (r .areas .shaped .eight) .not (ap not e) c)
-
-      zero-length : (n : ℕ) → ltb 0 n ≡ false → n ≡ 0
-      zero-length n e = omega (arith, ltb-false 0 n e)
-
-      closed : eqb (length (p .areas)) 0 ≡ true
-      closed = eq-eqb (length (p .areas)) 0 (zero-length (length (p .areas)) (sym (same-any _ _ (r .areas) (g .areaNames)) ∙ shut (anyOpen state) refl (k .ready)))
+  init-done lent k =
+      asks-yes _ _ _ (true-yes (known-yes (k .unit)))
+      ∙ asks-yes _ _ _ (true-yes (eq-eqb (length (p .areas)) 0 (same-none _ _ (r .areas) (g .areaNames) .0 (k .ready))))
 
   pub init-obeyed : {unit : ℕ} {lent : List ℕ} → Known state (Init unit) → Obeyed p image state (Init unit) lent (record { image = image; state = initialized state; answer = answer 0 0 0 0; lent = lent })
   init-obeyed {unit} {lent} k =

@@ -7,6 +7,7 @@ use Rattle.types.specs.declared.Answer.{Answer}
 use Rattle.types.specs.declared.State.{State}
 use Rattle.types.specs.declared.Message.{Message}
 use Rattle.types.specs.declared.Message.the-variants.{Init, Set, Create, LookUp, Change, Remove, CreateArea, RemoveArea, AreaMessage, UnitDescription, Listing}
+use Rattle.state.specs.Areas.{initialized}
 use Rattle.plain.specs.Unit.{Plain}
 use Rattle.plain.specs.Good.{Good}
 use Rattle.plain.specs.Questions.{answer}
@@ -14,7 +15,6 @@ use Rattle.plain.specs.Step.{step, reply}
 use Rattle.sound.specs.Sound.{SoundUnit}
 use Rattle.refine.specs.Represents.{Represents}
 use Rattle.refine.specs.Demands.{Performed}
-use Rattle.init.specs.Init.{initialized}
 use Rattle.unit.specs.declared.Opened.{Opened}
 use Rattle.unit.specs.Opened.{NumbersOf, Represented}
 use Rattle.create.specs.Create.{CreateStep, SetStep}

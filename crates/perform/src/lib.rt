@@ -66,7 +66,7 @@ fn obey(image: &mut [u16], o: Opened, state: State, message: Message, lent: &mut
     ensures { λ r. ⌜ Obeys (now (image .entry)) state o message (now (lent .entry)) (performed (now (image .exit)) (r .state) (r .answer) (now (lent .exit))) ⌝ }
 {
     match message {
-        Message::Init { unit: _ } => word_alone(0, init::accepted(state)),
+        Message::Init { unit: _ } => word_alone(0, state::with_initialized(state, true)),
         Message::Set { name } => word_alone(create::set(image, o, name, lent), state),
         Message::Create {
             name,

@@ -2,30 +2,25 @@
 use mathlib.Core.Bool.{Bool, not, _&&_, _||_, cond}
 use mathlib.Core.List.{List, [], _++_}
 use Prim.Native.Nat.{ℕ, _-_}
-use lib.ListN.{length, take, drop, getD, replicate}
+use lib.ListN.{length, take, getD, replicate}
 use lib.Dec.{leb, eqb}
 use Rattle.types.specs.declared.Name.{Name}
 use Rattle.disc.specs.Numbers.{need, negative}
 use Rattle.disc.specs.Names.{named, unitIn, nameOf, legalName}
 use Rattle.disc.specs.Attributes.{legalAttributes, legalWith, givesEntryOnly, permanent}
 use Rattle.disc.specs.Slices.{lastOf}
+pub use Rattle.disc.specs.Entries.{optionalIn, tailIn}
 use Rattle.plain.specs.Table.{Table, tableFind, tablePut, tableRemove, isSome}
 use Rattle.plain.specs.Unit.{Plain, File, sysOf, entry, withFiles}
 use Rattle.plain.specs.Questions.{Outcome, asks, given, replies, done, fill, known}
 use Rattle.plain.specs.Taking.{Taking, taking, layersFor, enough, zeroSectors}
 
--- The fields of a lent entry: optional words, attributes, size, tail.
-abbrev pub optionalIn : List ℕ → List ℕ
-optionalIn lent = take 3 (drop 3 lent)
-
+-- The attributes and the size of a lent entry.
 abbrev pub attributesIn : List ℕ → ℕ
 attributesIn lent = getD lent 6 0
 
 abbrev pub sizeIn : List ℕ → ℕ
 sizeIn lent = getD lent 9 0
-
-abbrev pub tailIn : List ℕ → List ℕ
-tailIn lent = take 6 (drop 10 lent)
 
 -- "4. Lent record at least 16 words?"
 abbrev pub isRecord : List ℕ → Bool

@@ -10,7 +10,7 @@ use native.Mathlib.Omega.{arith}
 use lib.ListN.{length, getD}
 use Rattle.types.specs.declared.Area.{Area}
 use Rattle.types.specs.declared.State.{State}
-use Rattle.types.specs.State.{areaAt, pastArea}
+use Rattle.types.specs.State.{pastArea, isOpen, NoneOpen}
 use Rattle.disc.specs.Numbers.{ceilDiv, sliceCount}
 use Rattle.disc.specs.Words.{word, Words}
 use Rattle.disc.specs.Names.{SYS, MAP, keyOf}
@@ -20,7 +20,7 @@ use Rattle.disc.specs.Kit.{Limits, Kit, kitSector, mapSector}
 use Rattle.disc.specs.Map.{MapOf}
 use Rattle.disc.specs.Entries.{placeWord, placeCount, mapEntry}
 use Rattle.disc.proofs.Compare.{Tri, less, same, more, tri, same-or, below-or}
-use Rattle.disc.proofs.DecideLaws.{true≢false}
+use Rattle.disc.proofs.DecideLaws.{never-true}
 use Rattle.disc.proofs.NumberLaws.{ceilDiv-some}
 use Rattle.disc.proofs.WordLaws.{words-none, words-cons}
 use Rattle.disc.proofs.SliceLaws.{same-le, sum-law}
@@ -106,19 +106,16 @@ module _ (H s F N : ℕ) (lim : Limits H s F N) where
 
 -- ---- no area process
 
-none-open : (n : ℕ) (l : List Area) → ((j : ℕ) → j < length l → getD l j pastArea .live ≡ false) → firstOpen n l ≡ none
+none-open : (n : ℕ) (l : List Area) → ((j : ℕ) → j < length l → isOpen (getD l j pastArea) ≡ true → ⊥) → firstOpen n l ≡ none
 none-open n [] h = refl
-none-open n (a ∷ l) h = rw (h 0 (omega arith)) (none-open n l (λ j x. h (suc j) (omega arith)))
+none-open n (a ∷ l) h = rw (never-true (isOpen a) (h 0 (omega arith))) (none-open n l (λ j x. h (suc j) (omega arith)))
 
-live-not : {b : Bool} → b ≡ true → b ≡ false → ⊥
-live-not e f = true≢false (sym e ∙ f)
-
-fresh-areas : (state : State) (H s F N : ℕ) → Shaped state → ((j : ℕ) → j < 8 → areaAt state j .live ≡ false) → SameAreas state (freshUnit (state .unit) H s F N)
+fresh-areas : (state : State) (H s F N : ℕ) → Shaped state → NoneOpen state → SameAreas state (freshUnit (state .unit) H s F N)
 fresh-areas state H s F N shaped closed = record {
   shaped = shaped;
   number = refl;
-  distinct = λ j k x y a b e. absurd (live-not a (closed j x));
-  distinctUsers = λ j u v x a y z t e. absurd (live-not a (closed j x));
+  distinct = λ j k x y a b e. absurd (closed j x a);
+  distinctUsers = λ j u v x a y z t e. absurd (closed j x a);
   each = λ n. ap areaOfState (none-open n (state .areas) (λ j x. closed j (omega (arith, shaped .eight))));
 }
 
@@ -327,7 +324,7 @@ module _ (image : List ℕ) (unit H s F N k6 k7 : ℕ) (lim : Limits H s F N) (s
 
 -- THE THEOREM: whatever the image held before, Format's image represents the fresh unit.
 pub format-represents : (image : List ℕ) (state : State) (H s F N k6 k7 : ℕ) → Limits H s F N → length image ≡ 256 * N → Words image → k6 < 65536 → k7 < 65536
-    → Shaped state → ((j : ℕ) → j < 8 → areaAt state j .live ≡ false)
+    → Shaped state → NoneOpen state
     → Represents (formatted image H s F N k6 k7) state (freshUnit (state .unit) H s F N)
 format-represents image state H s F N k6 k7 lim size words a b shaped closed = record {
   words = fresh-words image (state .unit) H s F N k6 k7 lim size words a b;

@@ -11,7 +11,7 @@ use lib.Dec.{T, eqb, eqb→eq}
 use borrow.Author.Tests.{eq-eqb}
 use Rattle.types.specs.declared.Area.{Area}
 use Rattle.types.specs.declared.State.{State}
-use Rattle.types.specs.State.{pastArea, areaAt}
+use Rattle.types.specs.State.{pastArea, areaAt, IsOpen}
 use Rattle.disc.specs.Names.{isSystem}
 use Rattle.disc.specs.Entries.{nameAt, indexSector}
 use Rattle.plain.specs.Table.{Row, Table, tableFind, SortedFrom}
@@ -21,7 +21,7 @@ use Rattle.plain.proofs.TableLaws.{some≢none, some-inj, one, total-length}
 use Rattle.plain.proofs.UnitLaws.{legal-positive}
 use Rattle.plain.proofs.Collect.{collect, weightIf, sorted-collect, collect-find, find-collect, total-collect}
 use Rattle.sound.specs.Places.{Used}
-use Rattle.sound.specs.State.{Shaped, areaName, firstOpen, openArea, liveIndex, liveLength, IsOpen, DistinctAreas}
+use Rattle.sound.specs.State.{Shaped, areaName, firstOpen, openArea, liveIndex, liveLength, DistinctAreas}
 use Rattle.sound.specs.Sound.{indexOf, SoundEntries, SoundAreas}
 use Rattle.refine.specs.Represents.{usersIn, areaOfState, areaOfUnit}
 use Rattle.refine.proofs.KeyPlaces.{sum-most}

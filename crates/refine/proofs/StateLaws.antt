@@ -3,29 +3,28 @@
 use mathlib.Core.Path.{_≡_, refl, sym, ap, _∙_}
 use mathlib.Core.List.{List, [], _∷_}
 use mathlib.Core.Bool.{true, false, cond, Bool·not-not}
-use mathlib.Core.Logic.{_≢_}
+use mathlib.Core.Logic.{_≢_, _↔_}
 use mathlib.Core.Option.{Option, none, some}
 use Prim.Native.Nat.{ℕ, _<_}
 use native.Mathlib.Omega.{arith}
 use lib.ListN.{length, set, length-set}
 use lib.Seq.{getD-set-same, getD-set-other}
-use lib.Dec.{ltb}
 use borrow.Author.Tests.{eq-eqb, eqb-false, not-true}
 use Rattle.types.specs.declared.Sector.{Sector}
 use Rattle.types.specs.declared.Name.{Name}
 use Rattle.types.specs.declared.Area.{Area}
 use Rattle.types.specs.declared.State.{State}
-use Rattle.types.specs.State.{vacantArea, pastArea, areaAt}
+use Rattle.types.specs.State.{vacantArea, pastArea, areaAt, isOpen, IsOpen, NoneOpen}
 use Rattle.disc.specs.Entries.{indexSector}
 use Rattle.disc.proofs.Compare.{same-or}
 use Rattle.plain.specs.Table.{Table, tableFind, tablePut, SortedFrom, isSome}
 use Rattle.plain.specs.Unit.{Plain, File, AreaUser, withAreas}
 use Rattle.plain.proofs.TableLaws.{find-put, find-put-other, some-inj, some≢none}
 use Rattle.state.specs.declared.Found.the-variants.{At, Absent}
-use Rattle.state.specs.Areas.{countOf, isLive, isVacant, isNamed, areaNamed, vacantAreaOf, anyOpen, packed, setArea, areaClosed}
-use Rattle.state.proofs.SearchLaws.{first-at, first-nowhere, firstThat, that-at, that-nowhere, that-set, that-set-other, that-set-none, any-count, count-full, count-room}
+use Rattle.state.specs.Areas.{countOf, isVacant, isNamed, areaNamed, vacantAreaOf, packed, setArea, areaClosed}
+use Rattle.state.proofs.SearchLaws.{first-at, first-nowhere, firstThat, that-at, that-nowhere, that-set, that-set-other, that-set-none, count-none, none-count, count-full, count-room}
 use Rattle.state.proofs.DistinctLaws.{Distinct, keyed-test, keyed-key, keyed-other, distinct-first, distinct-rest, distinct-set}
-use Rattle.sound.specs.State.{Shaped, areaName, firstOpen, openArea, IsOpen, DistinctAreas}
+use Rattle.sound.specs.State.{Shaped, areaName, firstOpen, openArea, DistinctAreas}
 use Rattle.refine.specs.Represents.{LiveArea, usersIn, areaOfState, areaOfUnit, SameAreas}
 use Rattle.refine.proofs.TableCount.{table-count}
 use Rattle.refine.proofs.UserLaws.{DistinctUsers}
@@ -50,22 +49,22 @@ module _ (state : State) (n : ℕ) where
   named-inside j e = first-at (isNamed n) pastArea (state .areas) j e .inside
 
   pub named-open : (j : ℕ) → areaNamed n state ≡ At j → IsOpen state j
-  named-open j e = keyed-test isLive areaName n (areaAt state j) (first-at (isNamed n) pastArea (state .areas) j e .passes)
+  named-open j e = keyed-test isOpen areaName n (areaAt state j) (first-at (isNamed n) pastArea (state .areas) j e .passes)
 
   pub named-name : (j : ℕ) → areaNamed n state ≡ At j → areaName (areaAt state j) ≡ n
-  named-name j e = keyed-key isLive areaName n (areaAt state j) (first-at (isNamed n) pastArea (state .areas) j e .passes)
+  named-name j e = keyed-key isOpen areaName n (areaAt state j) (first-at (isNamed n) pastArea (state .areas) j e .passes)
 
 -- ---- distinct names
 
-by-names : (state : State) → Shaped state → DistinctAreas state → Distinct isLive areaName pastArea (state .areas)
+by-names : (state : State) → Shaped state → DistinctAreas state → Distinct isOpen areaName pastArea (state .areas)
 by-names state s o = record { only = λ j k hj hk tj tk e. o j k (omega (arith, s .eight)) (omega (arith, s .eight)) tj tk e }
 
-from-names : (state : State) → length (state .areas) ≡ 8 → Distinct isLive areaName pastArea (state .areas) → DistinctAreas state
+from-names : (state : State) → length (state .areas) ≡ 8 → Distinct isOpen areaName pastArea (state .areas) → DistinctAreas state
 from-names state s o j k hj hk tj tk e = o .only j k (omega arith) (omega arith) tj tk e
 
 -- an open descriptor is the one that is found under its name
 pub own-area : (state : State) (j : ℕ) → Shaped state → DistinctAreas state → j < 8 → IsOpen state j → areaNamed (areaName (areaAt state j)) state ≡ At j
-own-area state j s o h t = distinct-first isLive areaName pastArea (state .areas) j (by-names state s o) (omega (arith, s .eight)) t
+own-area state j s o h t = distinct-first isOpen areaName pastArea (state .areas) j (by-names state s o) (omega (arith, s .eight)) t
 
 -- ---- a descriptor set
 
@@ -83,7 +82,7 @@ module _ (state : State) (j : ℕ) (new : Area) where
 
   distinct-names : Shaped state → DistinctAreas state → (new .live ≡ true → (k : ℕ) → k < 8 → k ≢ j → IsOpen state k → areaName (areaAt state k) ≡ areaName new → ⊥) → DistinctAreas (setArea state j new)
   distinct-names s o fresh =
-      from-names (setArea state j new) (length-set (state .areas) j new ∙ s .eight) (distinct-set isLive areaName pastArea (state .areas) j new (by-names state s o) (λ t k h d tk e. fresh t k (omega (arith, s .eight)) d tk e))
+      from-names (setArea state j new) (length-set (state .areas) j new ∙ s .eight) (distinct-set isOpen areaName pastArea (state .areas) j new (by-names state s o) (λ t k h d tk e. fresh t k (omega (arith, s .eight)) d tk e))
 
   open-new : (n : ℕ) → j < length (state .areas) → ((k : ℕ) → k < j → isNamed n (areaAt state k) ≡ false) → new .live ≡ true → areaName new ≡ n → openArea (setArea state j new) n ≡ some new
   open-new n h below t e = first-open n (set (state .areas) j new) ∙ that-set (isNamed n) pastArea (state .areas) j new h below (rw (t, eq-eqb (areaName new) n e))
@@ -98,7 +97,7 @@ module _ (state : State) (j : ℕ) (new : Area) where
 
     pub open-set-other : areaName new ≡ n → (m : ℕ) → m ≢ n → openArea (setArea state j new) m ≡ openArea state m
     open-set-other q m d =
-        open-past m (keyed-other isLive areaName m (areaAt state j) (λ z. d (sym z ∙ named-name state n j e))) (keyed-other isLive areaName m new (λ z. d (sym z ∙ q)))
+        open-past m (keyed-other isOpen areaName m (areaAt state j) (λ z. d (sym z ∙ named-name state n j e))) (keyed-other isOpen areaName m new (λ z. d (sym z ∙ q)))
 
     pub distinct-set-name : Shaped state → DistinctAreas state → areaName new ≡ n → DistinctAreas (setArea state j new)
     distinct-set-name s o q =
@@ -115,7 +114,7 @@ module _ (state : State) (j : ℕ) (new : Area) where
         open-new n inside (λ k h. first-nowhere (isNamed n) pastArea 0 (state .areas) e .fails k (omega arith)) t q
 
     pub open-created-other : (m : ℕ) → m ≢ n → openArea (setArea state j new) m ≡ openArea state m
-    open-created-other m d = open-past m (rw vacant-here) (keyed-other isLive areaName m new (λ z. d (sym z ∙ q)))
+    open-created-other m d = open-past m (rw vacant-here) (keyed-other isOpen areaName m new (λ z. d (sym z ∙ q)))
 
     pub distinct-created : areaNamed n state ≡ Absent → Shaped state → DistinctAreas state → DistinctAreas (setArea state j new)
     distinct-created e s o =
@@ -125,11 +124,11 @@ module _ (state : State) (j : ℕ) (new : Area) where
 module _ (state : State) (n j : ℕ) (e : areaNamed n state ≡ At j) where
   pub open-closed : Shaped state → DistinctAreas state → openArea (areaClosed state j) n ≡ none
   open-closed s o =
-      let rest = distinct-rest isLive areaName pastArea (state .areas) j (by-names state s o) (named-inside state n j e) (named-open state n j e) in
+      let rest = distinct-rest isOpen areaName pastArea (state .areas) j (by-names state s o) (named-inside state n j e) (named-open state n j e) in
       first-open n (set (state .areas) j vacantArea) ∙ that-set-none (isNamed n) pastArea (state .areas) j vacantArea (rw (named-name state n j e) at rest) refl
 
   pub open-closed-other : (m : ℕ) → m ≢ n → openArea (areaClosed state j) m ≡ openArea state m
-  open-closed-other m d = open-past state j vacantArea m (keyed-other isLive areaName m (areaAt state j) (λ z. d (sym z ∙ named-name state n j e))) refl
+  open-closed-other m d = open-past state j vacantArea m (keyed-other isOpen areaName m (areaAt state j) (λ z. d (sym z ∙ named-name state n j e))) refl
 
 pub distinct-closed : (state : State) (j : ℕ) → Shaped state → DistinctAreas state → DistinctAreas (areaClosed state j)
 distinct-closed state j s o = distinct-names state j vacantArea s o (λ t k h d tk z. let clash : _≡_ {A = ℕ} 0 1 = cc in omega arith)
@@ -138,18 +137,22 @@ distinct-closed state j s o = distinct-names state j vacantArea s o (λ t k h d 
 
 -- a sorted table of areas that has the names of the open ones
 module _ {B : Type 0} (state : State) (b : ℕ) (t : Table B) (s : Shaped state) (o : DistinctAreas state) (ok : SortedFrom b t) (same : (n : ℕ) → isSome (tableFind n t) ≡ isSome (openArea state n)) where
-  pub areas-count : length t ≡ countOf isLive (state .areas)
-  areas-count = table-count isLive areaName pastArea (state .areas) b t ok (by-names state s o) (λ n. same n ∙ ap isSome (first-open n (state .areas)))
+  pub areas-count : length t ≡ countOf isOpen (state .areas)
+  areas-count = table-count isOpen areaName pastArea (state .areas) b t ok (by-names state s o) (λ n. same n ∙ ap isSome (first-open n (state .areas)))
 
   -- fewer than eight exactly if a descriptor is vacant
   pub areas-room : (j : ℕ) → vacantAreaOf state ≡ At j → length t < 8
-  areas-room j e = omega (arith, areas-count, count-room isLive isVacant (λ a. sym (Bool·not-not (a .live))) 0 (state .areas) j e, s .eight)
+  areas-room j e = omega (arith, areas-count, count-room isOpen isVacant (λ a. sym (Bool·not-not (a .live))) 0 (state .areas) j e, s .eight)
 
   pub areas-full : vacantAreaOf state ≡ Absent → length t ≡ 8
-  areas-full e = omega (arith, areas-count, count-full isLive isVacant (λ a. sym (Bool·not-not (a .live))) 0 (state .areas) e, s .eight)
+  areas-full e = omega (arith, areas-count, count-full isOpen isVacant (λ a. sym (Bool·not-not (a .live))) 0 (state .areas) e, s .eight)
 
-  pub areas-any : anyOpen state ≡ ltb 0 (length t)
-  areas-any = any-count isLive (state .areas) ∙ ap (ltb 0) (sym areas-count)
+  -- none exactly if no descriptor is open
+  pub areas-none : NoneOpen state ↔ (length t ≡ 0)
+  areas-none = (
+    λ none. areas-count ∙ none-count isOpen pastArea (state .areas) (λ v h. none v (omega (arith, s .eight))),
+    λ e j h. count-none isOpen pastArea (state .areas) (sym areas-count ∙ e) j (omega (arith, s .eight)),
+  )
 
 -- ---- the state of a plain unit
 
@@ -222,8 +225,8 @@ module _ (state : State) (p : Plain) (r : SameAreas state p) where
   pub same-full : SortedFrom 0 (p .areas) → vacantAreaOf state ≡ Absent → length (p .areas) ≡ 8
   same-full ok = areas-full state 0 (p .areas) (r .shaped) (r .distinct) ok same-names
 
-  pub same-any : SortedFrom 0 (p .areas) → anyOpen state ≡ ltb 0 (length (p .areas))
-  same-any ok = areas-any state 0 (p .areas) (r .shaped) (r .distinct) ok same-names
+  pub same-none : SortedFrom 0 (p .areas) → NoneOpen state ↔ (length (p .areas) ≡ 0)
+  same-none ok = areas-none state 0 (p .areas) (r .shaped) (r .distinct) ok same-names
 
   -- ---- the state and the unit after a step
 

@@ -12,7 +12,7 @@ use Rattle.types.specs.declared.Role.{Role}
 use Rattle.types.specs.declared.Role.the-variants.{ExclusiveWriter, ExclusiveUser}
 use Rattle.types.specs.declared.Area.{Area}
 use Rattle.types.specs.declared.State.{State}
-use Rattle.types.specs.State.{areaAt, userAt}
+use Rattle.types.specs.State.{areaAt, userAt, IsOpen}
 use Rattle.disc.specs.Names.{isSystem}
 use Rattle.disc.specs.Entries.{nameAt}
 use Rattle.disc.proofs.Compare.{same-or}
@@ -24,7 +24,7 @@ use Rattle.plain.proofs.TableLaws.{some≢none, some-inj, total-one, total-two}
 use Rattle.plain.proofs.RoleLaws.{users-length}
 use Rattle.plain.proofs.UnitLaws.{mapSome, entry-other, not-system}
 use Rattle.sound.specs.Places.{Used}
-use Rattle.sound.specs.State.{openArea, areaName, IsOpen, IsTaken, LegalUsers}
+use Rattle.sound.specs.State.{openArea, areaName, IsTaken, LegalUsers}
 use Rattle.sound.specs.Sound.{SoundAreas}
 use Rattle.refine.specs.Represents.{LiveArea, usersIn, areaOfState, areaOfUnit, Represents}
 use Rattle.refine.proofs.CatalogLaws.{name-zero, no-zero, Named}

@@ -1,13 +1,13 @@
 -- Demand 3 of the letter, as a type over an implementation that is given by its contract.
 use mathlib.Core.Path.{_≡_}
-use mathlib.Core.Bool.{true, false}
+use mathlib.Core.Bool.{true}
 use mathlib.Core.List.{List, [], _∷_, _++_}
-use Prim.Native.Nat.{ℕ, _+_, _*_, _≤_, _<_}
+use Prim.Native.Nat.{ℕ, _+_, _*_, _≤_}
 use lib.ListN.{length}
 use Rattle.types.specs.declared.Answer.{Answer}
 use Rattle.types.specs.declared.State.{State}
 use Rattle.types.specs.declared.Message.{Message}
-use Rattle.types.specs.State.{areaAt}
+use Rattle.types.specs.State.{NoneOpen, UnitKnown}
 use Rattle.disc.specs.Words.{word}
 use Rattle.disc.specs.Slices.{InRangeOnce}
 use Rattle.disc.specs.Stretches.{slicesAt}
@@ -41,9 +41,9 @@ pub data Run (C : Contract) : List ℕ → State → List Call → List Reply �
 
 -- "With no area process open, and the state that Init left on accepting it": a known unit, initialized.
 pub record AcceptedState (state : State) : Type 0 where
-  pub known : state .unit ≤ 3
+  pub known : UnitKnown state (state .unit)
   pub initialized : state .initialized ≡ true
-  pub closed : (j : ℕ) → j < 8 → areaAt state j .live ≡ false
+  pub closed : NoneOpen state
 
 -- SYS on a sound image: its number of blocks, "H times L", where L is the one with which the rules are met, and its slices as its index
 -- block in sector 6 describes them.

@@ -9,7 +9,7 @@ use lib.ListN.{length, getD}
 use Rattle.types.specs.declared.User.{User}
 use Rattle.types.specs.declared.Area.{Area}
 use Rattle.types.specs.declared.State.{State}
-use Rattle.types.specs.State.{areaAt, userAt}
+use Rattle.types.specs.State.{areaAt, userAt, IsOpen}
 use Rattle.disc.specs.Words.{Words, Holds}
 use Rattle.disc.specs.Names.{keyOf}
 use Rattle.disc.specs.Stretches.{indexWords, sectorIn, blockSector, fileFrom}
@@ -20,7 +20,7 @@ use Rattle.disc.specs.Catalog.{Catalog, placesOf, placesIn}
 use Rattle.plain.specs.Table.{Table, tableFind, tablePut, Every}
 use Rattle.plain.specs.Unit.{Plain, File, AreaUser, sysOf, M, held, freeSectors, entry}
 use Rattle.sound.specs.Places.{Unused}
-use Rattle.sound.specs.State.{Shaped, openArea, IsOpen, IsTaken, DistinctAreas}
+use Rattle.sound.specs.State.{Shaped, openArea, IsTaken, DistinctAreas}
 
 -- A file on the image: "Each file's index .. gives its slice list in order. Each list of sectors is what its file's
 -- blocks below the live length hold."

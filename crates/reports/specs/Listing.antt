@@ -29,15 +29,16 @@ slotStart q i = q * 256 + i * 16
 unfoldable pub slotEmpty : List ℕ → ℕ → ℕ → Bool
 slotEmpty image q i = eqb (getD image (slotStart q i) 0) 0
 
--- The four words that stand for an entry while the entries are put in order (`order/Records`): its name's words a, b and c, and the number g
--- of its group of 16 words in the image, of which the high part takes the room of the name's sixth character, which is 0.
+-- The four words that stand for an entry while the entries are put in order (`order/Records`): its name's words a, b and c, and the
+-- number g of its group of 16 words in the image, of which the high part takes the room of the name's sixth character, which is 0.
 abbrev pub entryRecord : ℕ → ℕ → ℕ → ℕ → List ℕ
 entryRecord a b c g = a ∷ b ∷ (c / 256 * 256 + g / 65536) ∷ (g % 65536) ∷ []
 
 -- The record of the entry in slot i of sector q if the slot is used; no words if it is not.
 unfoldable pub slotRecord : List ℕ → ℕ → ℕ → List ℕ
 slotRecord image q i =
-    cond (slotEmpty image q i) [] (entryRecord (getD image (slotStart q i) 0) (getD image (slotStart q i + 1) 0) (getD image (slotStart q i + 2) 0) (q * 16 + i))
+    let at : ℕ = slotStart q i in
+    cond (slotEmpty image q i) [] (entryRecord (getD image at 0) (getD image (at + 1) 0) (getD image (at + 2) 0) (q * 16 + i))
 
 -- The records of the entries in the first n slots of sector q.
 abbrev pub slotRecords : List ℕ → ℕ → ℕ → List ℕ
@@ -73,4 +74,5 @@ pub record CanList (image : List ℕ) (o : Opened) : Type 0 where
 -- "Listing writes each entry's 16 booked words once and hands back the number of entries, 0 if refused", and (02, R-1) "by name": answer
 -- and lent words after are the plain unit's, of every unit on the image that the message means, and the unit stays.
 pub record Lists (image : List ℕ) (o : Opened) (lent : List ℕ) (r : Answer) (after : List ℕ) : Type 0 where
-  pub all : (p : Plain) → OnDisc image p → NumbersOf o p → (unit : ℕ) → T (known p unit) → stepListing p unit lent ≡ record { unit = p; answer = r; lent = after }
+  pub all : (p : Plain) → OnDisc image p → NumbersOf o p → (unit : ℕ) → T (known p unit)
+      → stepListing p unit lent ≡ record { unit = p; answer = r; lent = after }

@@ -105,10 +105,11 @@ fn count_entries(image: &[u16], n: u32) -> u32
     count
 }
 
-// Stores the record of the entry in a slot of sector q, if the slot is used, from lent word `at` on. Hands back the number of the word after
-// it.
+// Stores the record of the entry in a slot of sector q, if the slot is used, from lent word `at` on. Hands back the number of the word
+// after it.
 fn note_slot(image: &[u16], q: Sector, slot: u16, lent: &mut [u16], at: usize) -> usize
-    requires { ⌜ (q .0 * 256 + 256 ≤ length (now image)) × (slot < 16) × (at + length (slotRecord (now image) (q .0) slot) ≤ length (now lent)) ⌝ }
+    requires { ⌜ (q .0 * 256 + 256 ≤ length (now image)) × (slot < 16)
+        × (at + length (slotRecord (now image) (q .0) slot) ≤ length (now lent)) ⌝ }
     ensures { λ r. ⌜ Noted (now (lent .entry)) at (slotRecord (now (image .entry)) (q .0) slot) (now (lent .exit)) r ⌝ }
 {
     let first = q.0 as usize * 256 + slot as usize * 16;

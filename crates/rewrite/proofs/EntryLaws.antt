@@ -1,45 +1,13 @@
--- The words of an entry as the code puts them together, and those of the entry that they are.
-use mathlib.Core.Path.{_≡_, refl, sym, ap, ap₂, _∙_}
+-- Optional and tail of an entry, and of the first 16 words lent.
+use mathlib.Core.Path.{_≡_, refl, sym, ap, _∙_}
 use mathlib.Core.List.{List, [], _∷_, _++_, append-nil}
-use Prim.Native.Nat.{ℕ, zero, suc, _+_, _≤_, _<_}
+use Prim.Native.Nat.{ℕ, zero, suc, _+_, _≤_}
 use native.Mathlib.Omega.{arith}
-use lib.ListN.{length, getD, take, drop, drop-of-length-le}
+use lib.ListN.{length, take, drop, drop-of-length-le}
 use lib.Seq.{take-take, take-all, take-at, length-take-le}
-use Rattle.disc.specs.Names.{pack}
 use Rattle.disc.specs.Entries.{entryWords}
-use Rattle.disc.proofs.NameLaws.{nameWords-pack}
 use Rattle.words.specs.Store.{store}
 use Rattle.words.proofs.StoreLaws.{store-front}
-
--- one word more of a part of a list
-take-one : (k i : ℕ) (l : List ℕ) → i < length l → take (suc k) (drop i l) ≡ getD l i 0 ∷ take k (drop (suc i) l)
-take-one k i [] h = absurd (omega arith)
-take-one k zero (x ∷ l) h = refl
-take-one k (suc i) (x ∷ l) h = take-one k i l (omega arith)
-
-module _ (l : List ℕ) (size : length l ≡ 16) where
-  three : take 3 (drop 3 l) ≡ getD l 3 0 ∷ getD l 4 0 ∷ getD l 5 0 ∷ []
-  three =
-      take-one 2 3 l (omega arith) ∙ ap (λ (r : List ℕ). getD l 3 0 ∷ r) (take-one 1 4 l (omega arith)
-      ∙ ap (λ (r : List ℕ). getD l 4 0 ∷ r) (take-one 0 5 l (omega arith)))
-
-  six : take 6 (drop 10 l) ≡ getD l 10 0 ∷ getD l 11 0 ∷ getD l 12 0 ∷ getD l 13 0 ∷ getD l 14 0 ∷ getD l 15 0 ∷ []
-  six =
-      take-one 5 10 l (omega arith) ∙ ap (λ (r : List ℕ). getD l 10 0 ∷ r) (take-one 4 11 l (omega arith)
-      ∙ ap (λ (r : List ℕ). getD l 11 0 ∷ r) (take-one 3 12 l (omega arith)
-      ∙ ap (λ (r : List ℕ). getD l 12 0 ∷ r) (take-one 2 13 l (omega arith)
-      ∙ ap (λ (r : List ℕ). getD l 13 0 ∷ r) (take-one 1 14 l (omega arith)
-      ∙ ap (λ (r : List ℕ). getD l 14 0 ∷ r) (take-one 0 15 l (omega arith))))))
-
-  -- sixteen words, optional and tail from those of a list
-  pub entry-told : (a b c attributes size₁ index reserved : ℕ) → b < 65536 → c < 65536
-      → a ∷ b ∷ c ∷ getD l 3 0 ∷ getD l 4 0 ∷ getD l 5 0 ∷ attributes ∷ size₁ ∷ index ∷ reserved ∷ getD l 10 0 ∷ getD l 11 0 ∷ getD l 12 0 ∷ getD l 13 0 ∷ getD l 14 0 ∷ getD l 15 0 ∷ []
-      ≡ entryWords (pack a b c) (take 3 (drop 3 l)) attributes size₁ index reserved (take 6 (drop 10 l))
-  entry-told a b c attributes size₁ index reserved x y =
-      sym (ap (λ (r : List ℕ). r ++ (take 3 (drop 3 l) ++ (attributes ∷ size₁ ∷ index ∷ reserved ∷ take 6 (drop 10 l)))) (nameWords-pack a b c x y)
-      ∙ ap₂ (λ (o r : List ℕ). (a ∷ b ∷ c ∷ []) ++ (o ++ (attributes ∷ size₁ ∷ index ∷ reserved ∷ r))) three six)
-
--- ---- optional and tail of an entry, and of the first 16 words lent
 
 drop-take : (k n total : ℕ) (l : List ℕ) (m : ℕ) → total ≡ k + n → take m (drop k (take total l)) ≡ take m (take n (drop k l))
 drop-take zero n total l m e = let z : total ≡ n = omega arith in ap (λ (x : ℕ). take m (take x l)) z

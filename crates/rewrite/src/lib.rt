@@ -3,9 +3,9 @@
 ghost use mathlib.Core.Path.{_≡_};
 ghost use mathlib.Core.Bool.{cond};
 ghost use Prim.Native.Nat.{_+_, _≤_};
-ghost use lib.ListN.{length, take, drop};
-ghost use Rattle.disc.specs.Names.{pack};
-ghost use Rattle.disc.specs.Entries.{entryWords};
+ghost use lib.ListN.{length, take};
+ghost use Rattle.disc.specs.Names.{packed};
+ghost use Rattle.disc.specs.Entries.{entryFrom};
 ghost use Rattle.catalog.specs.Catalog.{placeStart, entryAt};
 ghost use Rattle.rewrite.specs.Move.{CanMove, Moved};
 ghost use Rattle.rewrite.specs.Rewrite.{CanRewrite, Rewritten};
@@ -58,28 +58,10 @@ fn source_words(image: &[u16], place: Place, stays: bool, lent: &[u16]) -> Entry
 // The entry of the file as it is to be, with optional and tail from the words given.
 fn new_entry(source: Entry, w: Wanted, index: Sector, reserved: u16) -> Entry
     requires { ⌜ length (source .words) ≡ 16 ⌝ }
-    ensures { λ r. ⌜ r .words ≡ entryWords (pack (w .name .0) (w .name .1) (w .name .2)) (take 3 (drop 3 (source .words))) (w .attributes) (w .size) (index .0) reserved (take 6 (drop 10 (source .words))) ⌝ }
+    ensures { λ r. ⌜ r .words ≡ entryFrom (packed (w .name)) (w .attributes) (w .size) (index .0) reserved (source .words) ⌝ }
 {
-    let name = w.name;
     let old = source.words;
-    let own = [
-        name.0,
-        name.1,
-        name.2,
-        old[3],
-        old[4],
-        old[5],
-        w.attributes,
-        w.size,
-        index.0,
-        reserved,
-        old[10],
-        old[11],
-        old[12],
-        old[13],
-        old[14],
-        old[15],
-    ];
+    let own = catalog::entry_words(w.name, w.attributes, w.size, index, reserved, &old);
     Entry { words: own }
 }
 

@@ -1,5 +1,5 @@
-// The slices of files: the one that is taken next, slices taken and given back with the index block stored whole, whether all that are
-// wanted would fit, their sectors zeroed, and the free ones counted.
+// The slices of files: which one is taken next, slices taken and given back with the index block stored whole, whether there is room for
+// all that are wanted, sectors zeroed, and the free slices counted.
 
 ghost use mathlib.Core.Path.{_≡_};
 ghost use Prim.Native.Nat.{_+_, _*_, _≤_, _<_};
@@ -44,7 +44,7 @@ pub fn next_slice(image: &[u16], words: &[u16], first: Sector, s: u16, slices: u
     Next::At(k)
 }
 
-// Takes it: it is marked used, and put at the end of the block. Nothing is written where the block has no room.
+// Takes the next slice: marks it used and puts it at the end of the block. False where the block has no room for it.
 fn take_one(image: &mut [u16], words: &mut [u16], first: Sector, s: u16, slices: u16) -> bool
     requires { ⌜ CanTake (now image) (now words) (first .0) s slices 1 ⌝ }
     ensures { λ r. ⌜ Taken (now (image .entry)) (now (words .entry)) (first .0) s slices 1 (now (image .exit)) (now (words .exit)) r ⌝ }
@@ -57,7 +57,8 @@ fn take_one(image: &mut [u16], words: &mut [u16], first: Sector, s: u16, slices:
     true
 }
 
-// Takes n slices, one after the other, on a map and in an index block; stops where the block has no room.
+// Takes n slices, one after the other: the one loop for a file's slices on the image and for those that are only tried. It stops, with
+// false, where the block has no room.
 fn take_slices(
     image: &mut [u16],
     words: &mut [u16],
@@ -79,7 +80,7 @@ fn take_slices(
     true
 }
 
-// Whether a catalog and then a file would have room for the slices that they are to take. They take them on a copy of the map, sector 9.
+// Whether a catalog and then a file have room for the slices that they are to take: both take them on a copy of the map, sector 9.
 pub fn fits(
     image: &[u16],
     catalog: Growth,

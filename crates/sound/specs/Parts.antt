@@ -6,7 +6,7 @@ use Prim.Native.Nat.{ℕ, _*_, _-_, _≤_, _<_}
 use lib.ListN.{length, getD}
 use lib.Dec.{T}
 use Rattle.types.specs.declared.State.{State}
-use Rattle.types.specs.State.{areaAt}
+use Rattle.types.specs.State.{areaAt, IsOpen}
 use Rattle.disc.specs.Numbers.{ceilDiv}
 use Rattle.disc.specs.Words.{Holds}
 use Rattle.disc.specs.Names.{isSystem}
@@ -15,7 +15,7 @@ use Rattle.disc.specs.Kit.{Kit, Limits, mapIndexSector}
 use Rattle.disc.specs.Map.{onesInMap}
 use Rattle.disc.specs.Entries.{nameAt, sysEntry, mapEntry}
 use Rattle.sound.specs.Places.{Used, Entered, LegalPlace}
-use Rattle.sound.specs.State.{DistinctAreas, IsOpen, LegalUsers}
+use Rattle.sound.specs.State.{DistinctAreas, LegalUsers}
 
 -- "The image has 256 times N words, laid out as above; the kit is within limits; free sectors equals s times the ones in the
 -- map"; MAP has "the index 1, 1, 9".

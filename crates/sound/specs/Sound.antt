@@ -9,7 +9,7 @@ use lib.ListN.{length}
 use lib.Dec.{T}
 use Rattle.types.specs.declared.Area.{Area}
 use Rattle.types.specs.declared.State.{State}
-use Rattle.types.specs.State.{areaAt}
+use Rattle.types.specs.State.{areaAt, IsOpen}
 use Rattle.disc.specs.Numbers.{ceilDiv, sliceCount}
 use Rattle.disc.specs.Words.{word, Words, Holds}
 use Rattle.disc.specs.Names.{isSystem, SYS, MAP}
@@ -19,7 +19,7 @@ use Rattle.disc.specs.Kit.{Kit, Limits, sysIndexSector, mapIndexSector, kitSect
 use Rattle.disc.specs.Map.{mapBit, onesInMap}
 use Rattle.disc.specs.Entries.{placeWord, placeCount, nameAt, sysEntry, mapEntry}
 use Rattle.sound.specs.Places.{Used, Entered, LegalPlace, IndexBlock, slicesFrom, Booked, LegalFile}
-use Rattle.sound.specs.State.{Shaped, openArea, liveIndex, liveLength, areaName, IsOpen, LegalUsers, DistinctAreas}
+use Rattle.sound.specs.State.{Shaped, openArea, liveIndex, liveLength, areaName, LegalUsers, DistinctAreas}
 
 -- The live index sector, length and slices of the file in place t of an array of places.
 abbrev pub indexOf : State → (ℕ → ℕ → ℕ) → ℕ → ℕ

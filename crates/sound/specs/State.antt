@@ -1,6 +1,6 @@
 -- The open area processes of a state, by name.
 use mathlib.Core.Path.{_≡_}
-use mathlib.Core.Bool.{Bool, true, _&&_, cond}
+use mathlib.Core.Bool.{_&&_, cond}
 use mathlib.Core.List.{List, [], _∷_}
 use mathlib.Core.Option.{Option, none, some}
 use Prim.Native.Nat.{ℕ, _≤_, _<_}
@@ -11,8 +11,8 @@ use Rattle.types.specs.declared.Name.{Name}
 use Rattle.types.specs.declared.User.{User}
 use Rattle.types.specs.declared.Area.{Area}
 use Rattle.types.specs.declared.State.{State}
-use Rattle.types.specs.State.{areaAt, userAt}
-use Rattle.disc.specs.Names.{pack}
+use Rattle.types.specs.State.{areaAt, userAt, isOpen, IsOpen}
+use Rattle.disc.specs.Names.{packed}
 
 -- "Eight area processes, three users on each".
 pub record Shaped (state : State) : Type 0 where
@@ -21,12 +21,12 @@ pub record Shaped (state : State) : Type 0 where
 
 -- The three words of a descriptor's name as one number, as they stand.
 abbrev pub areaName : Area → ℕ
-areaName a = pack (a .name .0) (a .name .1) (a .name .2)
+areaName a = packed (a .name)
 
 -- The first open descriptor of a name.
 abbrev pub firstOpen : ℕ → List Area → Option Area
 firstOpen n [] = none
-firstOpen n (a ∷ l) = cond (a .live && eqb (areaName a) n) (some a) (firstOpen n l)
+firstOpen n (a ∷ l) = cond (isOpen a && eqb (areaName a) n) (some a) (firstOpen n l)
 
 abbrev pub openArea : State → ℕ → Option Area
 openArea state n = firstOpen n (state .areas)
@@ -40,10 +40,7 @@ abbrev pub liveLength : Option Area → ℕ → ℕ
 liveLength none booked = booked
 liveLength (some a) booked = a .length
 
--- Descriptor j is open; user entry u of a descriptor is taken.
-abbrev pub IsOpen : State → ℕ → Type 0
-IsOpen state j = areaAt state j .live ≡ true
-
+-- User entry u of a descriptor is taken.
 abbrev pub IsTaken : Area → ℕ → Type 0
 IsTaken a u = userAt a u .id ≡ 0 → ⊥
 

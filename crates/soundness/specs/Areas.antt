@@ -3,11 +3,11 @@ use mathlib.Core.Path.{_≡_}
 use Prim.Native.Nat.{ℕ, _<_}
 use lib.Dec.{T}
 use Rattle.types.specs.declared.State.{State}
-use Rattle.types.specs.State.{areaAt}
+use Rattle.types.specs.State.{areaAt, IsOpen}
 use Rattle.disc.specs.Names.{isSystem}
 use Rattle.disc.specs.Entries.{nameAt}
 use Rattle.sound.specs.Places.{Used}
-use Rattle.sound.specs.State.{areaName, IsOpen}
+use Rattle.sound.specs.State.{areaName}
 
 -- The name n is entered in one of the first `count` places, and is not SYS or MAP.
 pub record OrdinaryEntered (P : ℕ → ℕ → ℕ) (count n : ℕ) : Type 0 where

@@ -4,7 +4,7 @@ ghost use mathlib.Core.Path.{_≡_};
 ghost use mathlib.Core.List.{[]};
 ghost use Prim.Native.Nat.{_*_};
 ghost use Rattle.disc.specs.Decide.{Decides};
-ghost use Rattle.disc.specs.Names.{pack};
+ghost use Rattle.disc.specs.Names.{packed};
 ghost use Rattle.disc.specs.Entries.{placeCount};
 ghost use Rattle.catalog.specs.Catalog.{sysValue};
 ghost use Rattle.entries.specs.Sys.{placesIn};
@@ -25,7 +25,7 @@ use types::State;
 // Whether a name is entered in SYS, and not SYS or MAP.
 fn name_entered(image: &[u16], g: Geometry, sys: Catalog, name: Name) -> bool
     requires { ⌜ LegalSys (now image) g sys ⌝ }
-    ensures { λ r. ⌜ Decides r (OrdinaryEntered (placesIn (now (image .entry)) g) (placeCount (g .keys) (sys .layers)) (pack (name .0) (name .1) (name .2))) ⌝ }
+    ensures { λ r. ⌜ Decides r (OrdinaryEntered (placesIn (now (image .entry)) g) (placeCount (g .keys) (sys .layers)) (packed name)) ⌝ }
 {
     if name.0 == 0 {
         return false;
@@ -47,7 +47,7 @@ pub fn areas_entered(image: &[u16], g: Geometry, sys: Catalog, state: State) -> 
     let mut j: usize = 0;
     while j < 8 {
         let area = state.areas[j];
-        if area.live && !name_entered(image, g, sys, area.name) {
+        if state::is_open(area) && !name_entered(image, g, sys, area.name) {
             return false;
         }
         j += 1;

@@ -12,6 +12,7 @@ use lib.Seq.{drop-cons, lt-length-set, getD-set-same, getD-set-other}
 use lib.Dec.{ltb}
 use borrow.Author.Tests.{lt-ltb}
 use Rattle.disc.proofs.Compare.{same-or}
+use Rattle.disc.proofs.DecideLaws.{never-true}
 use Rattle.state.specs.declared.Found.the-variants.{At, Absent}
 use Rattle.state.specs.Areas.{firstFrom, anyOf, countOf}
 
@@ -172,6 +173,19 @@ module _ {A : Type 0} (test : A → Bool) where
       go : (b : Bool) → anyOf test l ≡ ltb 0 (countOf test l) → (b || anyOf test l) ≡ ltb 0 (cond b 1 0 + countOf test l)
       go true ih = let e : 1 + countOf test l ≡ suc (countOf test l) = omega arith in rw e (sym (lt-ltb 0 (suc (countOf test l)) (omega arith)))
       go false ih = let e : 0 + countOf test l ≡ countOf test l = omega arith in rw e ih
+
+  -- none passes the test
+  pub count-none : (d : A) (l : List A) → countOf test l ≡ 0 → (v : ℕ) → v < length l → test (getD l v d) ≡ true → ⊥
+  unfolding countOf
+  count-none d [] e v h t = omega arith
+  count-none d (x ∷ l) e zero h t = omega (arith, rw t at e)
+  count-none d (x ∷ l) e (suc v) h t = count-none d l (omega (arith, e)) v (omega arith) t
+
+  pub none-count : (d : A) (l : List A) → ((v : ℕ) → v < length l → test (getD l v d) ≡ true → ⊥) → countOf test l ≡ 0
+  unfolding countOf
+  none-count d [] f = refl
+  none-count d (x ∷ l) f =
+      rw (never-true (test x) (f 0 (omega arith))) (omega (arith, none-count d l (λ v h. f (suc v) (omega arith))))
 
   pub count-most : (l : List A) → countOf test l ≤ length l
   unfolding countOf

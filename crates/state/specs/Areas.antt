@@ -13,8 +13,8 @@ use Rattle.types.specs.declared.Role.the-variants.{Sharing, ExclusiveWriter, Ex
 use Rattle.types.specs.declared.User.{User}
 use Rattle.types.specs.declared.Area.{Area}
 use Rattle.types.specs.declared.State.{State}
-use Rattle.types.specs.State.{vacantUser, vacantArea, userAt}
-use Rattle.disc.specs.Names.{pack}
+use Rattle.types.specs.State.{vacantUser, vacantArea, userAt, isOpen}
+pub use Rattle.disc.specs.Names.{packed}
 use Rattle.state.specs.declared.Found.{Found}
 use Rattle.state.specs.declared.Found.the-variants.{At, Absent}
 use Rattle.state.specs.declared.Kind.{Kind}
@@ -49,21 +49,15 @@ abbrev pub setArea : State → ℕ → Area → State
 setArea state j area = record { unit = state .unit; initialized = state .initialized; areas = set (state .areas) j area }
 
 abbrev pub setUser : Area → ℕ → User → Area
-setUser area u user = record { live = area .live; name = area .name; index = area .index; length = area .length; users = set (area .users) u user }
+setUser area u user =
+    record { live = area .live; name = area .name; index = area .index; length = area .length; users = set (area .users) u user }
 
--- The three words of a name as one number, as they stand.
-abbrev pub packed : Name → ℕ
-packed name = pack (name .0) (name .1) (name .2)
-
--- Is the descriptor open, is it vacant, is it open under name n?
-abbrev pub isLive : Area → Bool
-isLive area = area .live
-
+-- Is the descriptor vacant, is it open under name n?
 abbrev pub isVacant : Area → Bool
 isVacant area = not (area .live)
 
 abbrev pub isNamed : ℕ → Area → Bool
-isNamed n area = area .live && eqb (packed (area .name)) n
+isNamed n area = isOpen area && eqb (packed (area .name)) n
 
 -- "Area messages .. : open? 4800h": the first open descriptor of name n.
 abbrev pub areaNamed : ℕ → State → Found
@@ -87,9 +81,13 @@ pub record VacantFound (state : State) (r : Found) : Type 0 where
   pub first : r ≡ vacantAreaOf state
   pub word : vacantWord r ≡ cond (anyOf isVacant (state .areas)) 0 0x0900
 
--- "Init: no area process?"
-abbrev pub anyOpen : State → Bool
-anyOpen state = anyOf isLive (state .areas)
+-- The state of a unit that is initialized, or that is not; nothing else changes.
+abbrev pub withInitialized : State → Bool → State
+withInitialized state initialized = record { unit = state .unit; initialized = initialized; areas = state .areas }
+
+-- "Init leaves everything standing": the state of a unit that it accepted.
+abbrev pub initialized : State → State
+initialized state = withInitialized state true
 
 -- A created area: "index sector and length are the process's", and it has no user.
 abbrev pub createdArea : Name → Sector → ℕ → Area

@@ -2,8 +2,12 @@
 
 ghost use mathlib.Core.Path.{_≡_};
 ghost use Prim.Native.Nat.{_<_};
-ghost use Rattle.types.specs.State.{areaAt, userAt};
-ghost use Rattle.state.specs.Areas.{setArea, setUser, packed, isNamed, AreaFound, VacantFound, anyOpen, areaOpened, areaClosed, withLive, UserFound, userCount, isKind, isOther, anyOther, RoleRaised, inserted, openedAgain, answered, placed, shutOut, reserved, releasedUser, released, moved};
+ghost use Rattle.types.specs.State.{areaAt, userAt, isOpen, NoneOpen};
+ghost use Rattle.disc.specs.Names.{packed};
+ghost use Rattle.disc.specs.Decide.{Decides};
+ghost use Rattle.state.specs.Areas.{setArea, setUser, isNamed, AreaFound, VacantFound, withInitialized, areaOpened, areaClosed, withLive};
+ghost use Rattle.state.specs.Areas.{UserFound, userCount, isKind, isOther, anyOther, RoleRaised, inserted, openedAgain, answered};
+ghost use Rattle.state.specs.Areas.{placed, shutOut, reserved, releasedUser, released, moved};
 use types::Area;
 use types::Block;
 use types::Name;
@@ -71,12 +75,19 @@ pub fn with_user(area: Area, u: usize, user: User) -> Area
     next
 }
 
+// Is an area process open in the descriptor?
+pub fn is_open(area: Area) -> bool
+    ensures { λ r. ⌜ r ≡ isOpen area ⌝ }
+{
+    area.live
+}
+
 // Is the descriptor open under the name?
 fn is_named(area: Area, name: Name) -> bool
     ensures { λ r. ⌜ r ≡ isNamed (packed name) area ⌝ }
 {
     let own = area.name;
-    area.live && names::same_name(own, name)
+    is_open(area) && names::same_name(own, name)
 }
 
 // The first open descriptor of the name.
@@ -109,19 +120,28 @@ pub fn vacant_area_of(state: State) -> Found
     Found::Absent
 }
 
-// Is an area process open?
-pub fn any_open(state: State) -> bool
-    ensures { λ r. ⌜ r ≡ anyOpen state ⌝ }
+// Is no area process open?
+pub fn none_open(state: State) -> bool
+    ensures { λ r. ⌜ Decides r (NoneOpen state) ⌝ }
 {
     let mut j: usize = 0;
     while j < 8 {
         let area = state.areas[j];
-        if area.live {
-            return true;
+        if is_open(area) {
+            return false;
         }
         j += 1;
     }
-    false
+    true
+}
+
+// The state of a unit that is initialized, or that is not.
+pub fn with_initialized(state: State, initialized: bool) -> State
+    ensures { λ r. ⌜ r ≡ withInitialized state initialized ⌝ }
+{
+    let mut next = state;
+    next.initialized = initialized;
+    next
 }
 
 // Descriptor j opened, with no user.

@@ -1,7 +1,9 @@
--- Values of the declared types: vacant entries and the state of a unit that was not initialized yet.
-use mathlib.Core.Bool.{false}
+-- Values of the declared types: vacant entries and the state of a unit that was not initialized yet; which descriptors are open, and
+-- which unit is known.
+use mathlib.Core.Path.{_≡_}
+use mathlib.Core.Bool.{Bool, true, false}
 use mathlib.Core.List.{[]}
-use Prim.Native.Nat.{ℕ}
+use Prim.Native.Nat.{ℕ, _≤_, _<_}
 use lib.ListN.{getD, replicate}
 use Rattle.types.specs.declared.Role.the-variants.{Sharing}
 use Rattle.types.specs.declared.User.{User}
@@ -36,3 +38,19 @@ areaAt state j = getD (state .areas) j pastArea
 
 abbrev pub userAt : Area → ℕ → User
 userAt area u = getD (area .users) u vacantUser
+
+-- An area process is open in a descriptor; in descriptor j of the state.
+abbrev pub isOpen : Area → Bool
+isOpen area = area .live
+
+abbrev pub IsOpen : State → ℕ → Type 0
+IsOpen state j = isOpen (areaAt state j) ≡ true
+
+-- "No area process".
+abbrev pub NoneOpen : State → Type 0
+NoneOpen state = (j : ℕ) → j < 8 → IsOpen state j → ⊥
+
+-- "Unit known (the state's, 0 to 3)".
+pub record UnitKnown (state : State) (unit : ℕ) : Type 0 where
+  pub number : unit ≡ state .unit
+  pub low : state .unit ≤ 3

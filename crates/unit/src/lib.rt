@@ -3,7 +3,7 @@
 
 ghost use mathlib.Core.Path.{_≡_};
 ghost use Prim.Native.Nat.{_<_};
-ghost use Rattle.disc.specs.Names.{pack, unitIn};
+ghost use Rattle.disc.specs.Names.{packed, unitIn};
 ghost use Rattle.catalog.specs.Catalog.{placeUnused};
 ghost use Rattle.refine.specs.OnDisc.{SomeOnDisc};
 ghost use Rattle.unit.specs.Opened.{NumbersIn, MeantOn, Searchable};
@@ -50,7 +50,7 @@ pub fn open_unit(image: &[u16]) -> Opened
 // The place of a name as it is stored. Unused places have the name 0, and no entry has it.
 pub fn find_name(image: &[u16], o: Opened, name: Name) -> Found
     requires { ⌜ Searchable (now image) o ⌝ }
-    ensures { λ r. ⌜ FindsName (now (image .entry)) o (pack (name .0) (name .1) (name .2)) r ⌝ }
+    ensures { λ r. ⌜ FindsName (now (image .entry)) o (packed name) r ⌝ }
 {
     if names::packed(name) == 0 {
         return Found::Nothing;
@@ -80,7 +80,7 @@ pub fn file_block(image: &[u16], index: Sector) -> IndexBlock
 
 // Whether a name, as it is stored, has an area process.
 pub fn is_open(state: State, name: Name) -> bool
-    ensures { λ r. ⌜ r ≡ nameOpen (pack (name .0) (name .1) (name .2)) state ⌝ }
+    ensures { λ r. ⌜ r ≡ nameOpen (packed name) state ⌝ }
 {
     match state::find_area(state, name) {
         state::Found::At(_) => true,

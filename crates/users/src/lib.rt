@@ -2,9 +2,10 @@
 
 ghost use mathlib.Core.Path.{_≡_};
 ghost use Rattle.disc.specs.Decide.{Decides};
+ghost use Rattle.disc.specs.Names.{packed};
 ghost use Rattle.sound.specs.State.{Shaped, LegalUsers};
 ghost use Rattle.sound.specs.Parts.{SoundUsers};
-ghost use Rattle.state.specs.Areas.{packed, areaNamed};
+ghost use Rattle.state.specs.Areas.{areaNamed};
 ghost use Rattle.state.specs.declared.Found.the-variants.{At};
 ghost use Rattle.users.specs.Rules.{rolesAgree, LegalUser, LegalPair, LegalArea};
 use state::Found;
@@ -116,7 +117,7 @@ pub fn users_sound(state: State) -> bool
     let mut j: usize = 0;
     while j < 8 {
         let area = state.areas[j];
-        if area.live && !area_legal(state, area, j) {
+        if state::is_open(area) && !area_legal(state, area, j) {
             return false;
         }
         j += 1;

@@ -1,16 +1,17 @@
 -- Format and Init of a disc of 20 sectors.
-use mathlib.Core.Path.{_≡_, refl, ap, subst}
-use mathlib.Core.Bool.{false}
+use mathlib.Core.Path.{_≡_, refl, sym, ap, _∙_, subst}
 use mathlib.Core.List.{List, []}
 use Prim.Native.Nat.{ℕ, _<_}
 use native.Mathlib.Omega.{arith}
 use lib.ListN.{length, getD-replicate}
 use Rattle.types.specs.declared.Area.{Area}
 use Rattle.types.specs.declared.Message.the-variants.{Init}
-use Rattle.types.specs.State.{freshState, vacantArea, pastArea, areaAt}
+use Rattle.types.specs.State.{freshState, vacantArea, pastArea, areaAt, isOpen}
 use Rattle.disc.specs.Words.{Words}
 use Rattle.disc.specs.Kit.{Limits}
+use Rattle.disc.proofs.DecideLaws.{true≢false}
 use Rattle.disc.proofs.WordLaws.{words-cons, words-replicate}
+use Rattle.state.specs.Areas.{initialized}
 use Rattle.plain.specs.Questions.{Outcome, answer}
 use Rattle.plain.specs.Good.{Good}
 use Rattle.examples.specs.Paper.{paperUnit}
@@ -18,7 +19,6 @@ use Rattle.sound.specs.State.{Shaped}
 use Rattle.sound.specs.Sound.{SoundUnit}
 use Rattle.refine.specs.Represents.{Represents}
 use Rattle.known.specs.Known.{Known}
-use Rattle.init.specs.Init.{initialized}
 use Rattle.format.specs.declared.Formatted.{Formatted}
 use Rattle.format.specs.Format.{Formattable, formattedBy, uninitialized, FormatAnswer, written}
 use Rattle.format.proofs.FormatUnit.{format-unit, format-sound}
@@ -36,8 +36,8 @@ limits = record { keys-low = omega arith; keys-high = omega arith; slice-low = o
 vacant : (j : ℕ) → j < 8 → areaAt (freshState 0) j ≡ vacantArea
 vacant j h = getD-replicate 8 j vacantArea pastArea h
 
-pub closed : (j : ℕ) → j < 8 → areaAt (freshState 0) j .live ≡ false
-closed j h = ap (λ (a : Area). a .live) (vacant j h)
+pub known : Known (freshState 0) (Init 0)
+known = record { unit = record { number = refl; low = omega arith }; ready = λ j h o. true≢false (sym o ∙ ap isOpen (vacant j h)) }
 
 shaped : Shaped (freshState 0)
 shaped = record { eight = refl; three = λ j h. ap (λ (a : Area). length (a .users)) (vacant j h) }
@@ -49,7 +49,7 @@ record-words =
 
 module _ (disc : List ℕ) (words : Words disc) (size : length disc ≡ 5120) where
   formattable : Formattable disc (freshState 0) (paperRecord 0 0)
-  formattable = record { number = refl; known = omega arith; closed = closed; limits = limits; free = refl; top = refl; size = size }
+  formattable = record { known = known; limits = limits; free = refl; top = refl; size = size }
 
   abbrev image : List ℕ
   image = formattedBy disc (paperRecord 0 0)
@@ -62,9 +62,6 @@ module _ (disc : List ℕ) (words : Words disc) (size : length disc ≡ 5120) wh
 
   sound : SoundUnit image (left .state)
   sound = format-sound words record-words shaped formats refl
-
-  known : Known (left .state) (Init 0)
-  known = record { number = refl; low = omega arith; ready = closed }
 
   inits : Performs image (left .state) (Init 0) [] (performed image (initialized (left .state)) (answer 0 0 0 0) [])
   inits = obeyed known sound (λ p g r. init-obeyed g r known)

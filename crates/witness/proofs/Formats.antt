@@ -1,32 +1,19 @@
 -- Format has a result, whatever it is called with: each of its questions has an answer.
-use mathlib.Core.Path.{_≡_, refl, sym, _∙_}
-use mathlib.Core.Bool.{Bool, true, false}
+use mathlib.Core.Path.{_≡_, refl}
 use mathlib.Core.List.{List}
-use Prim.Native.Nat.{ℕ, zero, suc, _*_, _-_, _%_, _≤_, _<_}
+use Prim.Native.Nat.{ℕ, _*_, _-_, _%_, _≤_}
 use native.Mathlib.Omega.{arith}
 use lib.ListN.{length}
 use Rattle.types.specs.declared.State.{State}
-use Rattle.types.specs.State.{areaAt}
+use Rattle.types.specs.declared.Message.the-variants.{Init}
 use Rattle.disc.specs.Numbers.{ceilDiv, sliceCount}
 use Rattle.disc.specs.Kit.{Limits}
 use Rattle.disc.proofs.Compare.{same-or, below-or}
-use Rattle.disc.proofs.DecideLaws.{true≢false}
 use Rattle.format.specs.Format.{lentUnit, lentKeys, lentSlice, lentSectors, lentFree, lentFirst, lentTop, RecordLent, Formattable, formattedBy, uninitialized, FormatAnswer, notLent, notAllowed, written}
 use Rattle.witness.specs.Total.{FormatOf}
+use Rattle.witness.proofs.Known.{at-most, known-or}
 
 -- ---- a question is answered yes or no
-
-at-most : (a b : ℕ) {C : Type 0} → (a ≤ b → C) → ((a ≤ b → ⊥) → C) → C
-at-most a b f h = below-or b a (λ x. h (λ y. omega arith)) f
-
--- "no area process": the descriptors below c
-closed-or : (state : State) (c : ℕ) {C : Type 0} → (((j : ℕ) → j < c → areaAt state j .live ≡ false) → C) → ((((j : ℕ) → j < c → areaAt state j .live ≡ false) → ⊥) → C) → C
-closed-or state zero f h = f (λ j x. absurd (omega arith))
-closed-or state (suc c) {C} f h = closed-or state c (λ below. last below (areaAt state c .live) refl) (λ n. h (λ all. n (λ j x. all j (omega arith))))
-  where
-    last : ((j : ℕ) → j < c → areaAt state j .live ≡ false) → (b : Bool) → areaAt state c .live ≡ b → C
-    last below true e = h (λ all. true≢false (sym e ∙ all c (omega arith)))
-    last below false e = f (λ j x. same-or j c (λ q. rw q e) (λ d. below j (omega arith)))
 
 limits-or : (H s F N : ℕ) {C : Type 0} → (Limits H s F N → C) → ((Limits H s F N → ⊥) → C) → C
 limits-or H s F N f h =
@@ -43,11 +30,10 @@ record-or bytes lent f h =
 module _ (image : List ℕ) (state : State) (lent : List ℕ) where
   formattable-or : {C : Type 0} → (Formattable image state lent → C) → ((Formattable image state lent → ⊥) → C) → C
   formattable-or f h =
-      same-or (lentUnit lent) (state .unit) (λ a. at-most (state .unit) 3 (λ b. closed-or state 8 (λ c. limits-or (lentKeys lent) (lentSlice lent) (lentFirst lent) (lentSectors lent) (λ d.
+      known-or state (Init (lentUnit lent)) (λ k. limits-or (lentKeys lent) (lentSlice lent) (lentFirst lent) (lentSectors lent) (λ d.
       same-or (lentFree lent) (lentSectors lent - lentFirst lent) (λ e. same-or (lentTop lent) (lentSectors lent) (λ g. same-or (length image) (256 * lentSectors lent) (λ i.
-      f (record { number = a; known = b; closed = c; limits = d; free = e; top = g; size = i }))
-      (λ n. h (λ m. n (m .size)))) (λ n. h (λ m. n (m .top)))) (λ n. h (λ m. n (m .free)))) (λ n. h (λ m. n (m .limits)))) (λ n. h (λ m. n (m .closed)))) (λ n. h (λ m. n (m .known))))
-      (λ n. h (λ m. n (m .number)))
+      f (record { known = k; limits = d; free = e; top = g; size = i }))
+      (λ n. h (λ m. n (m .size)))) (λ n. h (λ m. n (m .top)))) (λ n. h (λ m. n (m .free)))) (λ n. h (λ m. n (m .limits)))) (λ n. h (λ m. n (m .known)))
 
   pub some-format : (bytes : ℕ) → FormatOf FormatAnswer image state bytes lent
   some-format bytes = record-or bytes lent (λ l. formattable-or (allowed l) (illegal l)) short

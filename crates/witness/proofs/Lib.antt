@@ -1,3 +1,4 @@
+pub mod Known
 pub mod Begin
 pub mod Ends
 pub mod Chains

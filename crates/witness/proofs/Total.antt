@@ -1,16 +1,11 @@
 -- Every call on a sound unit has a result, by the contract of the one call; so every list of calls has a run.
-use mathlib.Core.Path.{_≡_, refl, sym, _∙_, subst}
-use mathlib.Core.Bool.{Bool, true, false, not}
+use mathlib.Core.Path.{_≡_, refl, sym, subst}
 use mathlib.Core.List.{List, [], _∷_}
 use Prim.Native.Nat.{ℕ}
-use native.Mathlib.Omega.{arith}
-use lib.ListN.{length}
 use Rattle.types.specs.declared.State.{State}
 use Rattle.types.specs.declared.Message.{Message}
 use Rattle.types.specs.declared.Message.the-variants.{Init, Set, Create, LookUp, Change, Remove, CreateArea, RemoveArea, AreaMessage, UnitDescription, Listing}
 use Rattle.disc.specs.Words.{Words}
-use Rattle.disc.proofs.Compare.{same-or, below-or}
-use Rattle.disc.proofs.DecideLaws.{true≢false}
 use Rattle.plain.specs.Unit.{Plain}
 use Rattle.plain.specs.Questions.{Outcome, answer}
 use Rattle.plain.specs.Reports.{stepListing, stepDescription}
@@ -18,22 +13,19 @@ use Rattle.plain.specs.Step.{Call, step}
 use Rattle.plain.specs.Good.{Good}
 use Rattle.plain.specs.Claims.{LentWords}
 use Rattle.plain.proofs.QuestionLaws.{asks-law, given-law}
-use Rattle.state.specs.Areas.{anyOpen}
-use Rattle.users.proofs.AreaLaws.{none-open}
 use Rattle.sound.specs.Sound.{SoundUnit}
 use Rattle.refine.specs.Represents.{Represents}
 use Rattle.refine.specs.Demands.{Performed, empty, then}
 use Rattle.refine.proofs.SoundRepresents.{sound-represents}
 use Rattle.steps.proofs.Whole.{on-disc}
-use Rattle.known.specs.declared.Class.{Class}
-use Rattle.known.specs.declared.Class.the-variants as class
-use Rattle.known.specs.Known.{classified, unknownWord, unsoundWord, unitMeant, Ready, Known}
+use Rattle.known.specs.Known.{unknownWord, unsoundWord, Known}
 use Rattle.format.specs.Format.{FormatAnswer}
 use Rattle.perform.specs.Perform.{performed, Obeyed, Performs, unknown, unsound, obeyed}
 use Rattle.perform.proofs.ObeyLaws.{meant, stays, create-by, set-by, remove-by, change-by, create-area-by, remove-area-by, area-message-obeyed, init-obeyed}
 use Rattle.demands.specs.Demands.{here, call}
 use Rattle.demands.proofs.Demands.{demand-2}
 use Rattle.witness.specs.Total.{ResultOf, RunOf, Total}
+use Rattle.witness.proofs.Known.{known-or}
 use Rattle.witness.proofs.Files.{create-ends, set-ends, remove-ends}
 use Rattle.witness.proofs.Change.{change-ends}
 use Rattle.witness.proofs.Areas.{create-area-ends, remove-area-ends}
@@ -76,27 +68,6 @@ module _ {image : List ℕ} {state : State} {p : Plain} (g : Good p) (r : Repres
   obeys (UnitDescription unit bytes) k = (_, stays g r (UnitDescription unit bytes) lent (k .ready) (description-left p lent unit bytes) (refl, refl))
   obeys (Listing unit) k = (_, stays g r (Listing unit) lent (k .ready) (listing-left p lent unit) (refl, refl))
 
--- ---- "Unit known": decided
-
-module _ (state : State) (eight : length (state .areas) ≡ 8) where
-  true-or : (b : Bool) {C : Type 0} → (b ≡ true → C) → (b ≡ false → C) → C
-  true-or true f h = f refl
-  true-or false f h = h refl
-
-  initialized-or : {C : Type 0} → (state .initialized ≡ true → C) → ((state .initialized ≡ true → ⊥) → C) → C
-  initialized-or f h = true-or (state .initialized) f (λ e. h (λ t. true≢false (sym t ∙ e)))
-
-  ready-or : (kind : Class) {C : Type 0} → (Ready state kind → C) → ((Ready state kind → ⊥) → C) → C
-  ready-or class.Init f h = let d = none-open state eight in true-or (not (anyOpen state)) (λ e. f (d .yes e)) (λ e. h (d .not e))
-  ready-or class.Catalog f h = initialized-or f h
-  ready-or class.Area f h = initialized-or f h
-  ready-or class.Report f h = initialized-or f h
-
-  known-or : (message : Message) {C : Type 0} → (Known state message → C) → ((Known state message → ⊥) → C) → C
-  known-or message f h = same-or (unitMeant message) (state .unit)
-      (λ e. below-or 3 (state .unit) (λ x. h (λ k. omega (arith, k .low))) (λ x. ready-or (classified message .class) (λ r. f (record { number = e; low = x; ready = r })) (λ n. h (λ k. n (k .ready)))))
-      (λ d. h (λ k. d (k .number)))
-
 -- ---- the one call
 
 module _ (image : List ℕ) (state : State) (message : Message) (lent : List ℕ) where
@@ -124,7 +95,7 @@ module _ (image : List ℕ) (state : State) (message : Message) (lent : List ℕ
       }
 
   some-result : SoundUnit image state → Words lent → ResultOf Performs image state message lent
-  some-result s w = known-or state (s .rules .shaped .eight) message (known-sound s w) no-unit
+  some-result s w = known-or state message (known-sound s w) no-unit
 
   some-always : Words lent → (ResultOf Performs image state message lent → ⊥) → ⊥
   some-always w h = h (no-unit (λ k. h (not-sound k (λ s. h (known-sound s w k)))))

@@ -29,7 +29,7 @@ use Rattle.demands.specs.FormatContract.{FormatContract}
 use Rattle.demands.specs.Demands.{Later, here, call, format}
 use Rattle.demands.proofs.Demands.{the-demands}
 use Rattle.witness.specs.Witness.{witnessCases, Witness, Met}
-use Rattle.witness.proofs.Begin.{closed, record-words, begun, begun-unit}
+use Rattle.witness.proofs.Begin.{known, record-words, begun, begun-unit}
 use Rattle.witness.proofs.Total.{no-unit, not-sound, total}
 
 -- ---- on the plain unit, by computation
@@ -72,7 +72,7 @@ module _ (disc : List ℕ) (words : Words disc) (size : length disc ≡ 5120) wh
 -- ---- the first two questions answered no
 
 another-unit : Known (freshState 0) (Init 1) → ⊥
-another-unit k = omega (arith, k .number)
+another-unit k = omega (arith, k .unit .number)
 
 no-words : SoundUnit [] (freshState 0) → ⊥
 no-words s = omega (arith, s .rules .size, s .rules .limits .some-data)
@@ -84,6 +84,6 @@ met = record {
   zeros = witness (zeroWords (256 * 20)) (words-zeroWords (256 * 20)) (length-zeroWords (256 * 20));
   another = no-unit [] (freshState 0) (Init 1) [] another-unit;
   another-word = refl;
-  unsound = not-sound [] (freshState 0) (Init 0) [] (record { number = refl; low = omega arith; ready = closed }) no-words;
+  unsound = not-sound [] (freshState 0) (Init 0) [] known no-words;
   unsound-word = refl;
 }

@@ -32,9 +32,11 @@ pub record FormatOf (F : FormatContract) (image : List ℕ) (state : State) (byt
 -- "Every call ends with a result word."
 pub record Total (C : Contract) (F : FormatContract) : Type 0 where
   -- on a sound unit every call has a result, and every list of calls a run
-  pub call : (image : List ℕ) (state : State) (message : Message) (lent : List ℕ) → SoundUnit image state → Words lent → ResultOf C image state message lent
+  pub call : (image : List ℕ) (state : State) (message : Message) (lent : List ℕ) → SoundUnit image state → Words lent
+      → ResultOf C image state message lent
   pub list : (image : List ℕ) (state : State) (calls : List Call) → SoundUnit image state → LentWords calls → RunOf C image state calls
   -- on any image and state, sound or not, a call is not without result (which of the two it is, is not decided here: hence the form)
-  pub always : (image : List ℕ) (state : State) (message : Message) (lent : List ℕ) → Words lent → (ResultOf C image state message lent → ⊥) → ⊥
+  pub always : (image : List ℕ) (state : State) (message : Message) (lent : List ℕ) → Words lent → (ResultOf C image state message lent → ⊥)
+      → ⊥
   -- Format has a result, whatever it is called with
   pub format : (image : List ℕ) (state : State) (bytes : ℕ) (lent : List ℕ) → FormatOf F image state bytes lent

@@ -20,7 +20,8 @@ use Rattle.demands.specs.Demands.{Later}
 use Rattle.demands.specs.Paper.{paperRecord}
 use Rattle.witness.specs.Total.{ResultOf, RunOf}
 
--- Format of a disc by the paper's record, and Init of what it left: both answer 0, and image and state are those with which demand 3's list begins.
+-- Format of a disc by the paper's record, and Init of what it left: both answer 0, and image and state are those with which demand 3's
+-- list begins.
 pub record Begun (C : Contract) (F : FormatContract) (disc : List ℕ) : Type 0 where
   pub formatted : List ℕ
   pub format : Formatted

@@ -1,1 +1,1 @@
-// That the demands are claims about something: Format, Init and the one call have results by their contracts. Definitions in specs/, proofs in proofs/.
+// That the demands are claims about something: Format, Init and the one call have results by their contracts.

@@ -10,12 +10,6 @@ use Rattle.alone.proofs.is_first.Tie as tie
 find-requires : tie.Need-find-requires
 find-requires c κs = some-key (c .before .pre .0)
 
-enum-known-place : tie.Need-enum-known-place
-enum-known-place c = search needs
-
-enum-told : tie.Need-enum-told
-enum-told c = search needs
-
 returns : tie.Need-returns
 returns c =
     let f = c .before .before in
@@ -28,9 +22,6 @@ returns-2 c =
     let f = place .before .before in
     let pre = f .before .before .pre in
     fails (found-before (pre .0) (pre .1) (f .find .ensures) (place .place .given .1) (λ a d. c .if1 .taken a))
-
-cast-result : tie.Need-cast-result
-cast-result c = search needs
 
 returns-3 : tie.Need-returns-3
 returns-3 c =
@@ -45,4 +36,4 @@ returns-3 c =
 pub is-first-spec : {M : Type 1} → statement M
 is-first-spec =
     tie.close
-    (tie.spec find-requires enum-known-place enum-told returns returns-2 cast-result returns-3)
+    (tie.spec find-requires (λ c. search needs) (λ c. search needs) returns returns-2 (λ c. search needs) returns-3)

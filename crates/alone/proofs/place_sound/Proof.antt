@@ -61,9 +61,6 @@ returns-2 c =
     let l = legal (named .before) in
     scanned (passed-unused (named .before .before .before .before .pre .5) l (zero-unused (name-of named) l (c .if2 .taken)))
 
-note-requires : tie.Need-note-requires
-note-requires c κs = search needs
-
 returns-3 : tie.Need-returns-3
 returns-3 c =
     let k = c .before in
@@ -107,7 +104,7 @@ place-sound-spec =
     returns
     place-name-requires
     returns-2
-    note-requires
+    (λ c κs. search needs)
     returns-3
     is-first-requires
     returns-4)

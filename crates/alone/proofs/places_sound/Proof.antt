@@ -3,16 +3,10 @@ use borrow.Author.Needs.{needs}
 use Rattle.alone.proofs.places_sound.Statement.{statement}
 use Rattle.alone.proofs.places_sound.Tie as tie
 
-classes-requires : tie.Need-classes-requires
-classes-requires c κs = search needs
-
-stretches-sound-requires : tie.Need-stretches-sound-requires
-stretches-sound-requires c κs = search needs
-
 returns : tie.Need-returns
 returns c =
     let s = c .stretches-sound .ensures in
     record { yes = λ e. let p = s .yes e in (p .legal, p .alone); not = λ e x. s .not e (x .0) (x .1) }
 
 pub places-sound-spec : {M : Type 1} → statement M
-places-sound-spec = tie.close (tie.spec classes-requires stretches-sound-requires returns)
+places-sound-spec = tie.close (tie.spec (λ c κs. search needs) (λ c κs. search needs) returns)

@@ -14,21 +14,6 @@ use Rattle.area_messages.proofs.area_message.Tie as tie
 alone : (c : tie.Else1) → anyOther Exclusive (c .before .before .before .before .before .before .before .before .before .before .args .sender) (c .before .before .area-at .result) ≡ false
 alone c = sym (c .before .any-other .ensures) ∙ c .if1 .left
 
-stored-requires : tie.Need-stored-requires
-stored-requires c κs = search needs
-
-find-area-requires : tie.Need-find-area-requires
-find-area-requires c κs = search needs
-
-enum-known-j : tie.Need-enum-known-j
-enum-known-j c = search needs
-
-enum-told : tie.Need-enum-told
-enum-told c = search needs
-
-reply-requires : tie.Need-reply-requires
-reply-requires c κs = search needs
-
 returns : tie.Need-returns
 returns c =
     let found = c .before .before .before in
@@ -40,12 +25,6 @@ area-at-requires c κs =
     let found = c .before .before .before in
     area-low (c .before .before .before .before .before .before .before .pre .standing .represents .areas) (packed (found .before .stored .result)) (c .before .j .given .0 .0) (sym (found .find-area .ensures .first) ∙ c .before .j .given .1)
 
-any-other-requires : tie.Need-any-other-requires
-any-other-requires c κs = search needs
-
-reply-requires-2 : tie.Need-reply-requires-2
-reply-requires-2 c κs = search needs
-
 returns-2 : tie.Need-returns-2
 returns-2 c =
     let a = c .before .before .before in
@@ -54,9 +33,6 @@ returns-2 c =
     let s = found .before .before .before .before in
     message-reserved (s .args .name) (s .pre) (s .args .sender) (s .args .operation) (found .before .stored .ensures .packed) (found .find-area .ensures .first) (at .j .given .1) (a .area-at .ensures)
     (sym (c .before .before .any-other .ensures) ∙ c .before .if1 .taken) (c .reply2 .ensures)
-
-reply-requires-3 : tie.Need-reply-requires-3
-reply-requires-3 c κs = search needs
 
 returns-3 : tie.Need-returns-3
 returns-3 c =
@@ -67,12 +43,6 @@ returns-3 c =
     let s = found .before .before .before .before in
     message-nobody (s .args .name) (s .pre) (s .args .sender) (s .args .operation) (found .before .stored .ensures .packed) (found .find-area .ensures .first) (at .j .given .1) (a .area-at .ensures) (alone one) (c .before .if2 .taken)
     (c .reply3 .ensures)
-
-is-known-requires : tie.Need-is-known-requires
-is-known-requires c κs = search needs
-
-reply-requires-4 : tie.Need-reply-requires-4
-reply-requires-4 c κs = search needs
 
 returns-4 : tie.Need-returns-4
 returns-4 c =
@@ -94,12 +64,6 @@ operate-requires c κs =
     message-can (s .args .name) (s .pre) (s .args .sender) (s .args .operation) (found .before .stored .ensures .packed) (found .find-area .ensures .first) (at .j .given .1) (a .area-at .ensures)
     (alone one) (c .before .before .before .before .if2 .left)
 
-same-length : tie.Need-same-length
-same-length c = search needs
-
-same-length-2 : tie.Need-same-length-2
-same-length-2 c = search needs
-
 returns-5 : tie.Need-returns-5
 returns-5 c =
     let one = c .before .before .before .before .before .before .before .before .before .before in
@@ -114,22 +78,22 @@ pub area-message-spec : {M : Type 1} → statement M
 area-message-spec =
     tie.close
     (tie.spec
-    stored-requires
-    find-area-requires
-    enum-known-j
-    enum-told
-    reply-requires
+    (λ c κs. search needs)
+    (λ c κs. search needs)
+    (λ c. search needs)
+    (λ c. search needs)
+    (λ c κs. search needs)
     returns
     area-at-requires
-    any-other-requires
-    reply-requires-2
+    (λ c κs. search needs)
+    (λ c κs. search needs)
     returns-2
-    reply-requires-3
+    (λ c κs. search needs)
     returns-3
-    is-known-requires
-    reply-requires-4
+    (λ c κs. search needs)
+    (λ c κs. search needs)
     returns-4
     operate-requires
-    same-length
-    same-length-2
+    (λ c. search needs)
+    (λ c. search needs)
     returns-5)

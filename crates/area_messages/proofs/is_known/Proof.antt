@@ -5,27 +5,6 @@ use Rattle.plain.specs.Step.{isKnown}
 use Rattle.area_messages.proofs.is_known.Statement.{statement}
 use Rattle.area_messages.proofs.is_known.Tie as tie
 
-enum-known-operation : tie.Need-enum-known-operation
-enum-known-operation c = search needs
-
-known-count-requires : tie.Need-known-count-requires
-known-count-requires c κs = search needs
-
-enum-told : tie.Need-enum-told
-enum-told c = search needs
-
-enum-told-2 : tie.Need-enum-told-2
-enum-told-2 c = search needs
-
-enum-known-operation-2 : tie.Need-enum-known-operation-2
-enum-known-operation-2 c = search needs
-
-known-transput-requires : tie.Need-known-transput-requires
-known-transput-requires c κs = search needs
-
-enum-told-3 : tie.Need-enum-told-3
-enum-told-3 c = search needs
-
 returns : tie.Need-returns
 returns c = c .known-count .ensures ∙ sym (ap isKnown (c .before .before .operation .given .1))
 
@@ -45,13 +24,13 @@ pub is-known-spec : {M : Type 1} → statement M
 is-known-spec =
     tie.close
     (tie.spec
-    enum-known-operation
-    known-count-requires
-    enum-told
-    enum-told-2
-    enum-known-operation-2
-    known-transput-requires
-    enum-told-3
+    (λ c. search needs)
+    (λ c κs. search needs)
+    (λ c. search needs)
+    (λ c. search needs)
+    (λ c. search needs)
+    (λ c κs. search needs)
+    (λ c. search needs)
     returns
     returns-2
     returns-3

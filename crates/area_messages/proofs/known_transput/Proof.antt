@@ -12,9 +12,6 @@ returns c = sym (ap knownTransput (c .if1 .taken))
 returns-2 : tie.Need-returns-2
 returns-2 c = sym (ap knownTransput (c .if2 .taken))
 
-is-output-requires : tie.Need-is-output-requires
-is-output-requires c κs = search needs
-
 returns-3 : tie.Need-returns-3
 returns-3 c = c .is-output .ensures ∙ transput-by (c .before .before .before .args .operation) (c .before .before .if1 .left) (c .before .if2 .left)
 
@@ -24,5 +21,5 @@ known-transput-spec =
     (tie.spec
     returns
     returns-2
-    is-output-requires
+    (λ c κs. search needs)
     returns-3)

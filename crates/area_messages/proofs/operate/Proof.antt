@@ -4,9 +4,6 @@ use Rattle.area_messages.proofs.MessageLaws.{operate-low, operate-reser
 use Rattle.area_messages.proofs.operate.Statement.{statement}
 use Rattle.area_messages.proofs.operate.Tie as tie
 
-reserve-count-requires : tie.Need-reserve-count-requires
-reserve-count-requires c κs = search needs
-
 reserve-requires : tie.Need-reserve-requires
 reserve-requires c κs =
     let a = c .before .before .before .before .args in
@@ -22,18 +19,6 @@ area-at-requires c κs =
     let a = c .before .before .before .before .args in
     operate-low (a .image .now) (a .state) (a .o) (a .j) (a .sender) (a .operation) (c .before .before .before .before .pre)
 
-find-user-requires : tie.Need-find-user-requires
-find-user-requires c κs = search needs
-
-enum-known-u : tie.Need-enum-known-u
-enum-known-u c = search needs
-
-enum-told : tie.Need-enum-told
-enum-told c = search needs
-
-reply-requires : tie.Need-reply-requires
-reply-requires c κs = search needs
-
 returns-2 : tie.Need-returns-2
 returns-2 c =
     let found = c .before .before .before in
@@ -48,12 +33,6 @@ user-step-requires c κs =
     let a = found .before .before .before .before .before .before .args in
     operate-seated (a .image .now) (a .state) (a .o) (a .j) (a .sender) (a .operation) (found .before .before .before .reserve-count .ensures) (found .before .before .if1 .left) (found .before .area-at .ensures) (found .find-user .ensures .first) (at .u .given .1) (found .before .before .before .before .before .before .pre)
 
-same-length : tie.Need-same-length
-same-length c = search needs
-
-same-length-2 : tie.Need-same-length-2
-same-length-2 c = search needs
-
 returns-3 : tie.Need-returns-3
 returns-3 c =
     let at = c .before .before .before .before .before .before .before .before in
@@ -66,16 +45,16 @@ pub operate-spec : {M : Type 1} → statement M
 operate-spec =
     tie.close
     (tie.spec
-    reserve-count-requires
+    (λ c κs. search needs)
     reserve-requires
     returns
     area-at-requires
-    find-user-requires
-    enum-known-u
-    enum-told
-    reply-requires
+    (λ c κs. search needs)
+    (λ c. search needs)
+    (λ c. search needs)
+    (λ c κs. search needs)
     returns-2
     user-step-requires
-    same-length
-    same-length-2
+    (λ c. search needs)
+    (λ c. search needs)
     returns-3)

@@ -5,21 +5,6 @@ use Rattle.area_messages.specs.AreaMessages.{reserveWord}
 use Rattle.area_messages.proofs.reserve_count.Statement.{statement}
 use Rattle.area_messages.proofs.reserve_count.Tie as tie
 
-enum-known-operation : tie.Need-enum-known-operation
-enum-known-operation c = search needs
-
-enum-told : tie.Need-enum-told
-enum-told c = search needs
-
-enum-told-2 : tie.Need-enum-told-2
-enum-told-2 c = search needs
-
-enum-told-3 : tie.Need-enum-told-3
-enum-told-3 c = search needs
-
-enum-told-4 : tie.Need-enum-told-4
-enum-told-4 c = search needs
-
 returns : tie.Need-returns
 returns c = sym (ap reserveWord (c .before .operation .given .1))
 
@@ -39,11 +24,11 @@ pub reserve-count-spec : {M : Type 1} → statement M
 reserve-count-spec =
     tie.close
     (tie.spec
-    enum-known-operation
-    enum-told
-    enum-told-2
-    enum-told-3
-    enum-told-4
+    (λ c. search needs)
+    (λ c. search needs)
+    (λ c. search needs)
+    (λ c. search needs)
+    (λ c. search needs)
     returns
     returns-2
     returns-3

@@ -7,25 +7,13 @@ use Rattle.areas.proofs.CreateLaws.{creates-none, creates-system, creat
 use Rattle.areas.proofs.create_area.Statement.{statement}
 use Rattle.areas.proofs.create_area.Tie as tie
 
-stored-requires : tie.Need-stored-requires
-stored-requires c κs = search needs
-
 find-name-requires : tie.Need-find-name-requires
 find-name-requires c κs = searchable (represented-on (c .before .before .pre .standing))
-
-enum-known-place : tie.Need-enum-known-place
-enum-known-place c = search needs
-
-enum-told : tie.Need-enum-told
-enum-told c = search needs
 
 returns : tie.Need-returns
 returns c =
     let f = c .before .before in
     creates-none _ _ (f .before .before .before .pre) (f .before .stored .ensures .packed) (f .find-name .ensures) (c .enum-told .given .1)
-
-is-system-requires : tie.Need-is-system-requires
-is-system-requires c κs = search needs
 
 returns-2 : tie.Need-returns-2
 returns-2 c =
@@ -33,9 +21,6 @@ returns-2 c =
     let place = test .before .before in
     let f = place .before .before in
     creates-system _ _ (f .before .before .before .pre) (f .before .stored .ensures .packed) (f .find-name .ensures) (place .place .given .1) (sym (test .is-system .ensures) ∙ c .if1 .taken)
-
-is-open-requires : tie.Need-is-open-requires
-is-open-requires c κs = search needs
 
 returns-3 : tie.Need-returns-3
 returns-3 c =
@@ -45,15 +30,6 @@ returns-3 c =
     let f = place .before .before in
     creates-open _ _ (f .before .before .before .pre) (f .before .stored .ensures .packed) (f .find-name .ensures) (place .place .given .1)
     (sym (test .is-system .ensures) ∙ live .before .if1 .left) (sym (live .is-open .ensures) ∙ c .if2 .taken)
-
-vacant-area-of-requires : tie.Need-vacant-area-of-requires
-vacant-area-of-requires c κs = search needs
-
-enum-known-j : tie.Need-enum-known-j
-enum-known-j c = search needs
-
-enum-told-2 : tie.Need-enum-told-2
-enum-told-2 c = search needs
 
 returns-4 : tie.Need-returns-4
 returns-4 c =
@@ -66,15 +42,6 @@ returns-4 c =
     creates-full _ _ (f .before .before .before .pre) (f .before .stored .ensures .packed) (f .find-name .ensures) (place .place .given .1)
     (sym (test .is-system .ensures) ∙ live .before .if1 .left) (sym (live .is-open .ensures) ∙ shut .if2 .left)
     (sym (room .vacant-area-of .ensures .first) ∙ c .enum-told2 .given .1)
-
-entry-word-requires : tie.Need-entry-word-requires
-entry-word-requires c κs = search needs
-
-entry-word-requires-2 : tie.Need-entry-word-requires-2
-entry-word-requires-2 c κs = search needs
-
-open-area-requires : tie.Need-open-area-requires
-open-area-requires c κs = search needs
 
 returns-5 : tie.Need-returns-5
 returns-5 c =
@@ -95,20 +62,20 @@ pub create-area-spec : {M : Type 1} → statement M
 create-area-spec =
     tie.close
     (tie.spec
-    stored-requires
+    (λ c κs. search needs)
     find-name-requires
-    enum-known-place
-    enum-told
+    (λ c. search needs)
+    (λ c. search needs)
     returns
-    is-system-requires
+    (λ c κs. search needs)
     returns-2
-    is-open-requires
+    (λ c κs. search needs)
     returns-3
-    vacant-area-of-requires
-    enum-known-j
-    enum-told-2
+    (λ c κs. search needs)
+    (λ c. search needs)
+    (λ c. search needs)
     returns-4
-    entry-word-requires
-    entry-word-requires-2
-    open-area-requires
+    (λ c κs. search needs)
+    (λ c κs. search needs)
+    (λ c κs. search needs)
     returns-5)

@@ -7,25 +7,10 @@ use Rattle.areas.proofs.RemoveLaws.{removes-system, removes-none, area-
 use Rattle.areas.proofs.remove_area.Statement.{statement}
 use Rattle.areas.proofs.remove_area.Tie as tie
 
-stored-requires : tie.Need-stored-requires
-stored-requires c κs = search needs
-
-is-system-requires : tie.Need-is-system-requires
-is-system-requires c κs = search needs
-
 returns : tie.Need-returns
 returns c =
     let test = c .before in
     removes-system _ _ (test .before .before .before .pre) (test .before .stored .ensures .packed) (sym (test .is-system .ensures) ∙ c .if1 .taken)
-
-find-area-requires : tie.Need-find-area-requires
-find-area-requires c κs = search needs
-
-enum-known-j : tie.Need-enum-known-j
-enum-known-j c = search needs
-
-enum-told : tie.Need-enum-told
-enum-told c = search needs
 
 returns-2 : tie.Need-returns-2
 returns-2 c =
@@ -43,9 +28,6 @@ area-at-requires c κs =
     area-inside _ (start .args .name) (start .pre) (test .before .stored .ensures .packed) (sym (test .is-system .ensures) ∙ search .before .if1 .left)
     (sym (search .find-area .ensures .first) ∙ told .j .given .1)
 
-user-count-requires : tie.Need-user-count-requires
-user-count-requires c κs = search needs
-
 returns-3 : tie.Need-returns-3
 returns-3 c =
     let count = c .before in
@@ -61,15 +43,6 @@ find-name-requires c κs =
     let area = c .before .before .before in
     let test = area .before .before .before .before .before .before in
     searchable (represented-on (test .before .before .before .pre .standing))
-
-enum-known-place : tie.Need-enum-known-place
-enum-known-place c = search needs
-
-enum-told-2 : tie.Need-enum-told-2
-enum-told-2 c = search needs
-
-same-length : tie.Need-same-length
-same-length c = search needs
 
 returns-4 : tie.Need-returns-4
 returns-4 c =
@@ -99,12 +72,6 @@ book-requires c κs =
     (sym (search .find-area .ensures .first) ∙ told .j .given .1) (area .area-at .ensures) (sym (count .user-count .ensures) ∙ alone .if2 .left) (f .find-name .ensures)
     (place .place .given .1)
 
-close-area-requires : tie.Need-close-area-requires
-close-area-requires c κs = search needs
-
-same-length-2 : tie.Need-same-length-2
-same-length-2 c = search needs
-
 returns-5 : tie.Need-returns-5
 returns-5 c =
     let booked = c .before .before .before in
@@ -124,22 +91,22 @@ pub remove-area-spec : {M : Type 1} → statement M
 remove-area-spec =
     tie.close
     (tie.spec
-    stored-requires
-    is-system-requires
+    (λ c κs. search needs)
+    (λ c κs. search needs)
     returns
-    find-area-requires
-    enum-known-j
-    enum-told
+    (λ c κs. search needs)
+    (λ c. search needs)
+    (λ c. search needs)
     returns-2
     area-at-requires
-    user-count-requires
+    (λ c κs. search needs)
     returns-3
     find-name-requires
-    enum-known-place
-    enum-told-2
-    same-length
+    (λ c. search needs)
+    (λ c. search needs)
+    (λ c. search needs)
     returns-4
     book-requires
-    close-area-requires
-    same-length-2
+    (λ c κs. search needs)
+    (λ c. search needs)
     returns-5)

@@ -4,19 +4,13 @@ use Rattle.blocks.proofs.BlockLaws.{sector-inside, block-read}
 use Rattle.blocks.proofs.read.Statement.{statement}
 use Rattle.blocks.proofs.read.Tie as tie
 
-sector-of-requires : tie.Need-sector-of-requires
-sector-of-requires c κs = search needs
-
 copy-sector-requires : tie.Need-copy-sector-requires
 copy-sector-requires c κs =
     let s = c .before .before .before .before in
     (s .pre .1, sector-inside (c .before .sector-of .ensures) (s .pre .0))
 
-same-length : tie.Need-same-length
-same-length c = search needs
-
 returns : tie.Need-returns
 returns c = block-read (c .before .before .before .before .sector-of .ensures) (c .before .before .copy-sector .ensures)
 
 pub read-spec : {M : Type 1} → statement M
-read-spec = tie.close (tie.spec sector-of-requires copy-sector-requires same-length returns)
+read-spec = tie.close (tie.spec (λ c κs. search needs) copy-sector-requires (λ c. search needs) returns)

@@ -4,19 +4,13 @@ use Rattle.blocks.proofs.BlockLaws.{sector-inside, block-replaced}
 use Rattle.blocks.proofs.replace.Statement.{statement}
 use Rattle.blocks.proofs.replace.Tie as tie
 
-sector-of-requires : tie.Need-sector-of-requires
-sector-of-requires c κs = search needs
-
 store-sector-requires : tie.Need-store-sector-requires
 store-sector-requires c κs =
     let s = c .before .before .before .before .before in
     (s .pre .1, sector-inside (c .before .sector-of .ensures) (s .pre .0))
 
-same-length : tie.Need-same-length
-same-length c = search needs
-
 returns : tie.Need-returns
 returns c = block-replaced (c .before .before .before .before .sector-of .ensures) (c .before .before .store-sector .ensures)
 
 pub replace-spec : {M : Type 1} → statement M
-replace-spec = tie.close (tie.spec sector-of-requires store-sector-requires same-length returns)
+replace-spec = tie.close (tie.spec (λ c κs. search needs) store-sector-requires (λ c. search needs) returns)

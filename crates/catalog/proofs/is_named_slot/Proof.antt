@@ -9,12 +9,6 @@ use borrow.Author.Needs.{needs}
 use Rattle.catalog.proofs.is_named_slot.Statement.{statement}
 use Rattle.catalog.proofs.is_named_slot.Tie as tie
 
-mul-at : tie.Need-mul-at
-mul-at c = search needs
-
-word-requires : tie.Need-word-requires
-word-requires c κs = search needs
-
 returns : tie.Need-returns
 unfolding slotNamed
 returns c =
@@ -28,21 +22,6 @@ returns c =
     let same = pack-injective (word 0) (word 1) (word 2) (a .name .0) (a .name .1) (a .name .2) (fits _ .fits) (fits _ .fits) (omega arith) (omega arith) z in
     c .if1 .taken (e ∙ same .0)))
 
-add-word : tie.Need-add-word
-add-word c = search needs
-
-word-requires-2 : tie.Need-word-requires-2
-word-requires-2 c κs = search needs
-
-add-word-2 : tie.Need-add-word-2
-add-word-2 c = search needs
-
-word-requires-3 : tie.Need-word-requires-3
-word-requires-3 c κs = search needs
-
-same-name-requires : tie.Need-same-name-requires
-same-name-requires c κs = search needs
-
 returns-2 : tie.Need-returns-2
 unfolding slotNamed
 returns-2 c =
@@ -55,12 +34,12 @@ pub is-named-slot-spec : {M : Type 1} → statement M
 is-named-slot-spec =
     tie.close
     (tie.spec
-    mul-at
-    word-requires
+    (λ c. search needs)
+    (λ c κs. search needs)
     returns
-    add-word
-    word-requires-2
-    add-word-2
-    word-requires-3
-    same-name-requires
+    (λ c. search needs)
+    (λ c κs. search needs)
+    (λ c. search needs)
+    (λ c κs. search needs)
+    (λ c κs. search needs)
     returns-2)

@@ -6,12 +6,6 @@ use borrow.Author.Needs.{needs}
 use Rattle.catalog.proofs.key_sector.Statement.{statement}
 use Rattle.catalog.proofs.key_sector.Tie as tie
 
-key-joined-requires : tie.Need-key-joined-requires
-key-joined-requires c κs = search needs
-
-sector-at-requires : tie.Need-sector-at-requires
-sector-at-requires c κs = search needs
-
 returns : tie.Need-returns
 unfolding keySector
 returns c =
@@ -19,4 +13,4 @@ returns c =
     c .sector-at .ensures ∙ ap (jointSector (a .image .now) (a .c .index .0)) (c .before .key-joined .ensures)
 
 pub key-sector-spec : {M : Type 1} → statement M
-key-sector-spec = tie.close (tie.spec key-joined-requires sector-at-requires returns)
+key-sector-spec = tie.close (tie.spec (λ c κs. search needs) (λ c κs. search needs) returns)

@@ -4,18 +4,6 @@ use borrow.Author.Needs.{needs}
 use Rattle.catalog.proofs.read_entry.Statement.{statement}
 use Rattle.catalog.proofs.read_entry.Tie as tie
 
-cast-read-words : tie.Need-cast-read-words
-cast-read-words c = search needs
-
-mul-read-words : tie.Need-mul-read-words
-mul-read-words c = search needs
-
-read-words-requires : tie.Need-read-words-requires
-read-words-requires c κs = search needs
-
-same-length : tie.Need-same-length
-same-length c = search needs
-
 returns : tie.Need-returns
 returns c =
     let start = c .before .before .before .before .before .before .before in
@@ -23,4 +11,4 @@ returns c =
 
 pub read-entry-spec : {M : Type 1} → statement M
 read-entry-spec =
-    tie.close (tie.spec cast-read-words mul-read-words read-words-requires same-length returns)
+    tie.close (tie.spec (λ c. search needs) (λ c. search needs) (λ c κs. search needs) (λ c. search needs) returns)

@@ -8,20 +8,8 @@ use Rattle.change.proofs.ChangeLaws.{changes-none, changes-short, chang
 use Rattle.change.proofs.change.Statement.{statement}
 use Rattle.change.proofs.change.Tie as tie
 
-stored-requires : tie.Need-stored-requires
-stored-requires c κs = search needs
-
 find-name-requires : tie.Need-find-name-requires
 find-name-requires c κs = searchable (represented-on (c .before .before .before .before .pre .standing))
-
-enum-known-place : tie.Need-enum-known-place
-enum-known-place c = search needs
-
-enum-told : tie.Need-enum-told
-enum-told c = search needs
-
-same-length : tie.Need-same-length
-same-length c = search needs
 
 returns : tie.Need-returns
 returns c =
@@ -29,24 +17,12 @@ returns c =
     let a = f .before .before .before .before .before in
     changes-none _ (a .args .name) (a .args .lent .now) (a .pre) (f .before .before .stored .ensures .packed) (f .find-name .ensures) (c .enum-told .given .1)
 
-same-length-2 : tie.Need-same-length-2
-same-length-2 c = search needs
-
 returns-2 : tie.Need-returns-2
 returns-2 c =
     let place = c .before .before in
     let f = place .before .before in
     let a = f .before .before .before .before .before in
     changes-short _ (a .args .name) (a .args .lent .now) (a .pre) (f .before .before .stored .ensures .packed) (f .find-name .ensures) (place .place .given .1) (c .if1 .taken)
-
-shared-slice-read-gives-entry-only : tie.Need-shared-slice-read-gives-entry-only
-shared-slice-read-gives-entry-only c = search needs
-
-gives-entry-only-requires : tie.Need-gives-entry-only-requires
-gives-entry-only-requires c κs = search needs
-
-same-length-3 : tie.Need-same-length-3
-same-length-3 c = search needs
 
 returns-3 : tie.Need-returns-3
 returns-3 c =
@@ -57,12 +33,6 @@ returns-3 c =
     let a = f .before .before .before .before .before in
     changes-entry-only _ (a .args .name) (a .args .lent .now) (a .pre) (f .before .before .stored .ensures .packed) (f .find-name .ensures) (place .place .given .1) (omega (arith, long .if1 .left)) (sym (bit .gives-entry-only .ensures) ∙ c .if2 .taken)
 
-is-system-requires : tie.Need-is-system-requires
-is-system-requires c κs = search needs
-
-same-length-4 : tie.Need-same-length-4
-same-length-4 c = search needs
-
 returns-4 : tie.Need-returns-4
 returns-4 c =
     let test = c .before in
@@ -71,12 +41,6 @@ returns-4 c =
     let f = place .before .before in
     let a = f .before .before .before .before .before in
     changes-system _ (a .args .name) (a .args .lent .now) (a .pre) (f .before .before .stored .ensures .packed) (f .find-name .ensures) (place .place .given .1) (omega (arith, long .if1 .left)) (sym (test .is-system .ensures) ∙ c .if3 .taken)
-
-is-open-requires : tie.Need-is-open-requires
-is-open-requires c κs = search needs
-
-same-length-5 : tie.Need-same-length-5
-same-length-5 c = search needs
 
 returns-5 : tie.Need-returns-5
 returns-5 c =
@@ -104,9 +68,6 @@ change-file-requires c κs =
     can-change-file _ (a .args .name) (a .args .lent .now) (a .pre) (f .before .before .stored .ensures .packed) (f .find-name .ensures) (place .place .given .1) (omega (arith, long .if1 .left)) (sym (no-bit .before .gives-entry-only .ensures) ∙ no-bit .if2 .left) (sym (test .is-system .ensures) ∙ own .if3 .left)
     (sym (live .is-open .ensures) ∙ shut .if4 .left)
 
-same-length-6 : tie.Need-same-length-6
-same-length-6 c = search needs
-
 returns-6 : tie.Need-returns-6
 returns-6 c =
     let changed = c .before .before in
@@ -126,24 +87,24 @@ pub change-spec : {M : Type 1} → statement M
 change-spec =
     tie.close
     (tie.spec
-    stored-requires
+    (λ c κs. search needs)
     find-name-requires
-    enum-known-place
-    enum-told
-    same-length
+    (λ c. search needs)
+    (λ c. search needs)
+    (λ c. search needs)
     returns
-    same-length-2
+    (λ c. search needs)
     returns-2
-    shared-slice-read-gives-entry-only
-    gives-entry-only-requires
-    same-length-3
+    (λ c. search needs)
+    (λ c κs. search needs)
+    (λ c. search needs)
     returns-3
-    is-system-requires
-    same-length-4
+    (λ c κs. search needs)
+    (λ c. search needs)
     returns-4
-    is-open-requires
-    same-length-5
+    (λ c κs. search needs)
+    (λ c. search needs)
     returns-5
     change-file-requires
-    same-length-6
+    (λ c. search needs)
     returns-6)

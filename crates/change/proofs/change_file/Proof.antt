@@ -10,24 +10,12 @@ use Rattle.change.proofs.change_file.Tie as tie
 words : (c : tie.After-standing) → Words (c .before .before .before .before .args .lent .now)
 words c = record { each = λ k. c .before .before .shared-slice-known .given k .fits }
 
-standing-requires : tie.Need-standing-requires
-standing-requires c κs = search needs
-
-wanted-requires : tie.Need-wanted-requires
-wanted-requires c κs = search needs
-
-layers-for-requires : tie.Need-layers-for-requires
-layers-for-requires c κs = search needs
-
 judged-requires : tie.Need-judged-requires
 judged-requires c κs =
     let lay = c .before in
     let wan = lay .before .before in
     let sta = wan .before in
     can-judge (sta .standing .ensures) (wan .wanted .ensures) (lay .layers-for .ensures) (sta .before .before .before .before .pre .can)
-
-same-length : tie.Need-same-length
-same-length c = search needs
 
 returns : tie.Need-returns
 returns c =
@@ -47,9 +35,6 @@ rewrite-requires c κs =
     let sta = wan .before in
     let start = sta .before .before .before .before in
     can-stay (sta .standing .ensures) (wan .wanted .ensures) (lay .layers-for .ensures) (start .pre .can) (jud .judged .ensures) (asked .if1 .left) (start .pre .size) (words sta) (room .if2 .taken)
-
-same-length-2 : tie.Need-same-length-2
-same-length-2 c = search needs
 
 returns-2 : tie.Need-returns-2
 returns-2 c =
@@ -89,9 +74,6 @@ rewrite-requires-2 c κs =
     let start = sta .before .before .before .before in
     can-change (sta .standing .ensures) (wan .wanted .ensures) (lay .layers-for .ensures) (start .pre .can) (jud .judged .ensures) (asked .if1 .left) (start .pre .size) (words sta) (omega (arith, full .if2 .left)) (grow .grow .ensures)
 
-same-length-3 : tie.Need-same-length-3
-same-length-3 c = search needs
-
 returns-3 : tie.Need-returns-3
 returns-3 c =
     let put = c .before .before in
@@ -113,16 +95,16 @@ pub change-file-spec : {M : Type 1} → statement M
 change-file-spec =
     tie.close
     (tie.spec
-    standing-requires
-    wanted-requires
-    layers-for-requires
+    (λ c κs. search needs)
+    (λ c κs. search needs)
+    (λ c κs. search needs)
     judged-requires
-    same-length
+    (λ c. search needs)
     returns
     rewrite-requires
-    same-length-2
+    (λ c. search needs)
     returns-2
     grow-requires
     rewrite-requires-2
-    same-length-3
+    (λ c. search needs)
     returns-3)

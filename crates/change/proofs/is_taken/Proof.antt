@@ -13,12 +13,6 @@ returns c = let a = c .before .before .before .args in taken-kept (a .image .now
 find-name-requires : tie.Need-find-name-requires
 find-name-requires c κs = searchable (c .before .before .before .pre)
 
-enum-told : tie.Need-enum-told
-enum-told c = search needs
-
-enum-told-2 : tie.Need-enum-told-2
-enum-told-2 c = search needs
-
 returns-2 : tie.Need-returns-2
 returns-2 c =
     let found = c .before .before in
@@ -39,7 +33,7 @@ is-taken-spec =
     (tie.spec
     returns
     find-name-requires
-    enum-told
-    enum-told-2
+    (λ c. search needs)
+    (λ c. search needs)
     returns-2
     returns-3)

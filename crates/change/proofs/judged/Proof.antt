@@ -5,9 +5,6 @@ use Rattle.change.proofs.JudgeLaws.{asked-on, judge-illegal, judge-ente
 use Rattle.change.proofs.judged.Statement.{statement}
 use Rattle.change.proofs.judged.Tie as tie
 
-allowed-requires : tie.Need-allowed-requires
-allowed-requires c κs = search needs
-
 returns : tie.Need-returns
 returns c = record { all = λ p n m f asked lent. judge-illegal asked lent (was-false (c .before .allowed .ensures) (c .if1 .taken)) }
 
@@ -21,9 +18,6 @@ returns-2 c =
     record {
       all = λ p n m f asked lent. judge-entered asked (was-true (ok .before .allowed .ensures) (ok .if1 .left)) lent (taken .is-taken .ensures) (c .if2 .taken);
     }
-
-more-slices-requires : tie.Need-more-slices-requires
-more-slices-requires c κs = search needs
 
 room-requires : tie.Need-room-requires
 room-requires c κs = can-ask (c .before .before .before .before .before .before .pre .asked)
@@ -43,10 +37,10 @@ pub judged-spec : {M : Type 1} → statement M
 judged-spec =
     tie.close
     (tie.spec
-    allowed-requires
+    (λ c κs. search needs)
     returns
     is-taken-requires
     returns-2
-    more-slices-requires
+    (λ c κs. search needs)
     room-requires
     returns-3)

@@ -5,9 +5,6 @@ use Rattle.change.proofs.WantedLaws.{kept-old, kept-new}
 use Rattle.change.proofs.kept_or.Statement.{statement}
 use Rattle.change.proofs.kept_or.Tie as tie
 
-negative-requires : tie.Need-negative-requires
-negative-requires c κs = search needs
-
 returns : tie.Need-returns
 returns c = let a = c .before .before .args in kept-old (a .w) (a .old) (sym (c .before .negative .ensures) ∙ c .if1 .taken)
 
@@ -18,6 +15,6 @@ pub kept-or-spec : {M : Type 1} → statement M
 kept-or-spec =
     tie.close
     (tie.spec
-    negative-requires
+    (λ c κs. search needs)
     returns
     returns-2)

@@ -32,12 +32,6 @@ find-unused-requires c κs =
     let low = some-layers (start .pre) .0 in
     (searchable (start .pre), rw (c .before .before .key .ensures) (mod-lt _ (omega (arith, low))))
 
-enum-told : tie.Need-enum-told
-enum-told c = search needs
-
-enum-told-2 : tie.Need-enum-told-2
-enum-told-2 c = search needs
-
 add-result : tie.Need-add-result
 add-result c =
     let start = c .before .before .before .before .before .before .before .before .before .before in
@@ -73,8 +67,8 @@ layers-for-spec =
     key-requires-2
     returns-2
     find-unused-requires
-    enum-told
-    enum-told-2
+    (λ c. search needs)
+    (λ c. search needs)
     add-result
     returns-3
     returns-4)

@@ -7,9 +7,6 @@ use Rattle.change.proofs.slices_after.Tie as tie
 returns : tie.Need-returns
 returns c = let a = c .before .args in slices-kept (a .s) (a .size) (a .booked) (a .slices) (c .if1 .taken)
 
-need-requires : tie.Need-need-requires
-need-requires c κs = search needs
-
 returns-2 : tie.Need-returns-2
 returns-2 c = let a = c .before .before .args in slices-new (a .s) (a .size) (a .booked) (a .slices) (c .before .if1 .left) (c .need .ensures)
 
@@ -18,5 +15,5 @@ slices-after-spec =
     tie.close
     (tie.spec
     returns
-    need-requires
+    (λ c κs. search needs)
     returns-2)

@@ -5,18 +5,6 @@ use Rattle.change.proofs.StandLaws.{total-fits, stands-as}
 use Rattle.change.proofs.standing.Statement.{statement}
 use Rattle.change.proofs.standing.Tie as tie
 
-entry-word-requires : tie.Need-entry-word-requires
-entry-word-requires c κs = search needs
-
-entry-word-requires-2 : tie.Need-entry-word-requires-2
-entry-word-requires-2 c κs = search needs
-
-entry-word-requires-3 : tie.Need-entry-word-requires-3
-entry-word-requires-3 c κs = search needs
-
-file-block-requires : tie.Need-file-block-requires
-file-block-requires c κs = search needs
-
 slice-total-requires : tie.Need-slice-total-requires
 slice-total-requires c κs =
     let index = c .before in
@@ -37,9 +25,9 @@ pub standing-spec : {M : Type 1} → statement M
 standing-spec =
     tie.close
     (tie.spec
-    entry-word-requires
-    entry-word-requires-2
-    entry-word-requires-3
-    file-block-requires
+    (λ c κs. search needs)
+    (λ c κs. search needs)
+    (λ c κs. search needs)
+    (λ c κs. search needs)
     slice-total-requires
     returns)

@@ -4,27 +4,6 @@ use Rattle.change.proofs.WantedLaws.{moves-told}
 use Rattle.change.proofs.wanted.Statement.{statement}
 use Rattle.change.proofs.wanted.Tie as tie
 
-new-name-requires : tie.Need-new-name-requires
-new-name-requires c κs = search needs
-
-same-name-requires : tie.Need-same-name-requires
-same-name-requires c κs = search needs
-
-shared-slice-read-kept-or : tie.Need-shared-slice-read-kept-or
-shared-slice-read-kept-or c = search needs
-
-kept-or-requires : tie.Need-kept-or-requires
-kept-or-requires c κs = search needs
-
-shared-slice-read-kept-or-2 : tie.Need-shared-slice-read-kept-or-2
-shared-slice-read-kept-or-2 c = search needs
-
-kept-or-requires-2 : tie.Need-kept-or-requires-2
-kept-or-requires-2 c κs = search needs
-
-slices-after-requires : tie.Need-slices-after-requires
-slices-after-requires c κs = search needs
-
 returns : tie.Need-returns
 returns c =
     let size = c .before in
@@ -43,11 +22,11 @@ pub wanted-spec : {M : Type 1} → statement M
 wanted-spec =
     tie.close
     (tie.spec
-    new-name-requires
-    same-name-requires
-    shared-slice-read-kept-or
-    kept-or-requires
-    shared-slice-read-kept-or-2
-    kept-or-requires-2
-    slices-after-requires
+    (λ c κs. search needs)
+    (λ c κs. search needs)
+    (λ c. search needs)
+    (λ c κs. search needs)
+    (λ c. search needs)
+    (λ c κs. search needs)
+    (λ c κs. search needs)
     returns)

@@ -5,18 +5,6 @@ use Rattle.create.proofs.MessageLaws.{creates}
 use Rattle.create.proofs.create.Statement.{statement}
 use Rattle.create.proofs.create.Tie as tie
 
-stored-requires : tie.Need-stored-requires
-stored-requires c κs = search needs
-
-slice-aggregate-new-file : tie.Need-slice-aggregate-new-file
-slice-aggregate-new-file c = search needs
-
-new-file-requires : tie.Need-new-file-requires
-new-file-requires c κs = search needs
-
-same-length : tie.Need-same-length
-same-length c = search needs
-
 returns : tie.Need-returns
 returns c =
     let made = c .before .before in
@@ -27,4 +15,4 @@ returns c =
 pub create-spec : {M : Type 1} → statement M
 create-spec =
     tie.close
-    (tie.spec stored-requires slice-aggregate-new-file new-file-requires same-length returns)
+    (tie.spec (λ c κs. search needs) (λ c. search needs) (λ c κs. search needs) (λ c. search needs) returns)

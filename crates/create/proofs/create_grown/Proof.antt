@@ -5,23 +5,14 @@ use Rattle.create.proofs.PlaceLaws.{asked-of, layers-fit, some-key, gro
 use Rattle.create.proofs.create_grown.Statement.{statement}
 use Rattle.create.proofs.create_grown.Tie as tie
 
-empty-block-requires : tie.Need-empty-block-requires
-empty-block-requires c κs = search needs
-
 add-room : tie.Need-add-room
 add-room c = omega (arith, layers-fit (c .before .before .before .before .before .pre .can))
-
-need-requires : tie.Need-need-requires
-need-requires c κs = search needs
 
 room-requires : tie.Need-room-requires
 room-requires c κs =
     let empty = c .before .before .before in
     let start = empty .before .before .before in
     record { unit = _; slices = _; asked = asked-of (start .pre .can .asked) (empty .empty-block .ensures) }
-
-same-length : tie.Need-same-length
-same-length c = search needs
 
 returns : tie.Need-returns
 returns c =
@@ -55,15 +46,6 @@ find-unused-requires c κs =
     let start = empty .before .before .before in
     grown-search (start .pre .can) (empty .empty-block .ensures) (need .need .ensures) (room .room .ensures) (left .if1 .left) (grew .grow .ensures) (c .key .ensures)
 
-enum-known-place : tie.Need-enum-known-place
-enum-known-place c = search needs
-
-enum-told : tie.Need-enum-told
-enum-told c = search needs
-
-same-length-2 : tie.Need-same-length-2
-same-length-2 c = search needs
-
 -- the new layer has unused places
 returns-2 : tie.Need-returns-2
 returns-2 c =
@@ -95,9 +77,6 @@ write-file-requires c κs =
           (f .find-unused .ensures .1) (place .place .given .1);
     }
 
-same-length-3 : tie.Need-same-length-3
-same-length-3 c = search needs
-
 returns-3 : tie.Need-returns-3
 returns-3 c =
     let file = c .before .before in
@@ -119,19 +98,19 @@ pub create-grown-spec : {M : Type 1} → statement M
 create-grown-spec =
     tie.close
     (tie.spec
-    empty-block-requires
+    (λ c κs. search needs)
     add-room
-    need-requires
+    (λ c κs. search needs)
     room-requires
-    same-length
+    (λ c. search needs)
     returns
     grow-requires
     key-requires
     find-unused-requires
-    enum-known-place
-    enum-told
-    same-length-2
+    (λ c. search needs)
+    (λ c. search needs)
+    (λ c. search needs)
     returns-2
     write-file-requires
-    same-length-3
+    (λ c. search needs)
     returns-3)

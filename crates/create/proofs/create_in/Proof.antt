@@ -4,20 +4,11 @@ use Rattle.create.proofs.PlaceLaws.{asked-of, place-refused, place-writ
 use Rattle.create.proofs.create_in.Statement.{statement}
 use Rattle.create.proofs.create_in.Tie as tie
 
-empty-block-requires : tie.Need-empty-block-requires
-empty-block-requires c κs = search needs
-
-need-requires : tie.Need-need-requires
-need-requires c κs = search needs
-
 room-requires : tie.Need-room-requires
 room-requires c κs =
     let empty = c .before .before in
     let start = empty .before .before .before in
     record { unit = _; slices = _; asked = asked-of (start .pre .can .asked) (empty .empty-block .ensures) }
-
-same-length : tie.Need-same-length
-same-length c = search needs
 
 returns : tie.Need-returns
 returns c =
@@ -35,9 +26,6 @@ write-file-requires c κs =
     let start = empty .before .before .before in
     record { unit = _; can = place-write (start .pre .can) (empty .empty-block .ensures) (need .need .ensures) (room .room .ensures) (left .if1 .left) }
 
-same-length-2 : tie.Need-same-length-2
-same-length-2 c = search needs
-
 returns-2 : tie.Need-returns-2
 returns-2 c =
     let file = c .before .before in
@@ -54,11 +42,11 @@ pub create-in-spec : {M : Type 1} → statement M
 create-in-spec =
     tie.close
     (tie.spec
-    empty-block-requires
-    need-requires
+    (λ c κs. search needs)
+    (λ c κs. search needs)
     room-requires
-    same-length
+    (λ c. search needs)
     returns
     write-file-requires
-    same-length-2
+    (λ c. search needs)
     returns-2)

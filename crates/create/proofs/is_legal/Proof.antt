@@ -4,14 +4,8 @@ use Rattle.create.proofs.LegalLaws.{name-illegal, size-illegal, attribu
 use Rattle.create.proofs.is_legal.Statement.{statement}
 use Rattle.create.proofs.is_legal.Tie as tie
 
-legal-requires : tie.Need-legal-requires
-legal-requires c κs = search needs
-
 returns : tie.Need-returns
 returns c = let a = c .before .before .args in name-illegal _ (a .size) (a .attributes) (c .before .legal .ensures) (c .if1 .taken)
-
-negative-requires : tie.Need-negative-requires
-negative-requires c κs = search needs
 
 returns-2 : tie.Need-returns-2
 returns-2 c =
@@ -19,19 +13,13 @@ returns-2 c =
     let a = one .before .before .args in
     size-illegal _ (a .size) (a .attributes) (one .before .legal .ensures) (one .if1 .left) (c .before .negative .ensures) (c .if2 .taken)
 
-legal-attributes-requires : tie.Need-legal-attributes-requires
-legal-attributes-requires c κs = search needs
-
 returns-3 : tie.Need-returns-3
 returns-3 c =
     let two = c .before .before in
     let one = two .before .before in
     let a = one .before .before .args in
     attributes-illegal _ (a .size) (a .attributes) (one .before .legal .ensures) (one .if1 .left) (two .before .negative .ensures) (two .if2 .left)
-    (c .before .legal-attributes .ensures) (c .if3 .taken)
-
-gives-entry-only-requires : tie.Need-gives-entry-only-requires
-gives-entry-only-requires c κs = search needs
+    (c .before .legal2 .ensures) (c .if3 .taken)
 
 returns-4 : tie.Need-returns-4
 returns-4 c =
@@ -40,17 +28,17 @@ returns-4 c =
     let one = two .before .before in
     let a = one .before .before .args in
     bit-decides _ (a .size) (a .attributes) (one .before .legal .ensures) (one .if1 .left) (two .before .negative .ensures) (two .if2 .left)
-    (three .before .legal-attributes .ensures) (three .if3 .left) (c .gives-entry-only .ensures)
+    (three .before .legal2 .ensures) (three .if3 .left) (c .gives-entry-only .ensures)
 
 pub is-legal-spec : {M : Type 1} → statement M
 is-legal-spec =
     tie.close
     (tie.spec
-    legal-requires
+    (λ c κs. search needs)
     returns
-    negative-requires
+    (λ c κs. search needs)
     returns-2
-    legal-attributes-requires
+    (λ c κs. search needs)
     returns-3
-    gives-entry-only-requires
+    (λ c κs. search needs)
     returns-4)

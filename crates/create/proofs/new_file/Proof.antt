@@ -11,23 +11,8 @@ use Rattle.create.proofs.new_file.Tie as tie
 lent : (c : tie.After-shared-slice-known) → Words (c .before .before .args .words .now)
 lent c = record { each = λ k. omega (arith, c .shared-slice-known .given k) }
 
-is-legal-requires : tie.Need-is-legal-requires
-is-legal-requires c κs = search needs
-
-same-length : tie.Need-same-length
-same-length c = search needs
-
 returns : tie.Need-returns
 returns c = refused-legal _ _ _ _ _ (c .before .is-legal .ensures) (c .before .before .before .before .args .words .now) (c .if1 .taken)
-
-find-name-requires : tie.Need-find-name-requires
-find-name-requires c κs = search needs
-
-enum-told : tie.Need-enum-told
-enum-told c = search needs
-
-enum-told-2 : tie.Need-enum-told-2
-enum-told-2 c = search needs
 
 returns-2 : tie.Need-returns-2
 returns-2 c =
@@ -35,19 +20,10 @@ returns-2 c =
     let left = f .before .before in
     refused-name _ _ _ _ _ (left .before .is-legal .ensures) (left .if1 .left) (f .find-name .ensures) (left .before .before .before .before .args .words .now) (c .enum-told2 .given .1)
 
-key-requires : tie.Need-key-requires
-key-requires c κs = search needs
-
 find-unused-requires : tie.Need-find-unused-requires
 find-unused-requires c κs =
     let start = c .before .before .before .before .before .before .before .before .before .before in
     (searchable (start .pre .0), key-below _ (start .pre .0) (c .key .ensures))
-
-enum-known-place : tie.Need-enum-known-place
-enum-known-place c = search needs
-
-enum-told-3 : tie.Need-enum-told-3
-enum-told-3 c = search needs
 
 create-grown-requires : tie.Need-create-grown-requires
 create-grown-requires c κs =
@@ -64,9 +40,6 @@ create-grown-requires c κs =
       can = grow-for _ _ _ _ _ (left .before .is-legal .ensures) (left .if1 .left) (f .find-name .ensures) (new .enum-told .given .1) (start .pre .1) (lent known) (key .key .ensures)
           (u .find-unused .ensures .1) (told .enum-told3 .given .1) (start .pre .0 .on) (start .pre .0 .numbers);
     }
-
-same-length-2 : tie.Need-same-length-2
-same-length-2 c = search needs
 
 returns-3 : tie.Need-returns-3
 returns-3 c =
@@ -102,9 +75,6 @@ create-in-requires c κs =
           (u .find-unused .ensures .1) (place .place .given .1) (start .pre .0 .on) (start .pre .0 .numbers);
     }
 
-same-length-3 : tie.Need-same-length-3
-same-length-3 c = search needs
-
 returns-4 : tie.Need-returns-4
 returns-4 c =
     let made = c .before .before in
@@ -127,20 +97,20 @@ pub new-file-spec : {M : Type 1} → statement M
 new-file-spec =
     tie.close
     (tie.spec
-    is-legal-requires
+    (λ c κs. search needs)
     returns
-    find-name-requires
-    enum-told
-    enum-told-2
-    same-length
+    (λ c κs. search needs)
+    (λ c. search needs)
+    (λ c. search needs)
+    (λ c. search needs)
     returns-2
-    key-requires
+    (λ c κs. search needs)
     find-unused-requires
-    enum-known-place
-    enum-told-3
+    (λ c. search needs)
+    (λ c. search needs)
     create-grown-requires
-    same-length-2
+    (λ c. search needs)
     returns-3
     create-in-requires
-    same-length-3
+    (λ c. search needs)
     returns-4)

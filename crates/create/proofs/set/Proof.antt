@@ -8,21 +8,6 @@ use Rattle.create.proofs.set.Tie as tie
 returns : tie.Need-returns
 returns c = let start = c .before .before .before in sets-short (start .args .name) (start .args .lent .now) (start .pre) (c .if1 .taken)
 
-stored-requires : tie.Need-stored-requires
-stored-requires c κs = search needs
-
-shared-slice-read-new-file : tie.Need-shared-slice-read-new-file
-shared-slice-read-new-file c = search needs
-
-shared-slice-read-new-file-2 : tie.Need-shared-slice-read-new-file-2
-shared-slice-read-new-file-2 c = search needs
-
-new-file-requires : tie.Need-new-file-requires
-new-file-requires c κs = search needs
-
-same-length : tie.Need-same-length
-same-length c = search needs
-
 returns-2 : tie.Need-returns-2
 returns-2 c =
     let made = c .before .before in
@@ -36,9 +21,9 @@ set-spec =
     tie.close
     (tie.spec
     returns
-    stored-requires
-    shared-slice-read-new-file
-    shared-slice-read-new-file-2
-    new-file-requires
-    same-length
+    (λ c κs. search needs)
+    (λ c. search needs)
+    (λ c. search needs)
+    (λ c κs. search needs)
+    (λ c. search needs)
     returns-2)

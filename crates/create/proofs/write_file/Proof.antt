@@ -5,12 +5,6 @@ use Rattle.create.proofs.FileLaws.{reserved-small, can-take, can-zero, 
 use Rattle.create.proofs.write_file.Statement.{statement}
 use Rattle.create.proofs.write_file.Tie as tie
 
-need-requires : tie.Need-need-requires
-need-requires c κs = search needs
-
-empty-block-requires : tie.Need-empty-block-requires
-empty-block-requires c κs = search needs
-
 take-more-requires : tie.Need-take-more-requires
 take-more-requires c κs =
     let empty = c .before in
@@ -23,9 +17,6 @@ zero-sectors-requires c κs =
     let empty = took .before .before in
     let need = empty .before in
     can-zero (need .before .before .before .pre .can) (empty .empty-block .ensures) (need .need .ensures) (took .take-more .ensures)
-
-block-sector-requires : tie.Need-block-sector-requires
-block-sector-requires c κs = search needs
 
 mul-enter : tie.Need-mul-enter
 mul-enter c =
@@ -51,9 +42,6 @@ count-free-requires c κs =
     can-count (need .before .before .before .pre .can) (empty .empty-block .ensures) (need .need .ensures) (took .take-more .ensures) (zeroed .zero-sectors .ensures)
     (told .block-sector .ensures) (entered .enter .ensures)
 
-same-length : tie.Need-same-length
-same-length c = search needs
-
 returns : tie.Need-returns
 returns c =
     let counted = c .before .before in
@@ -73,13 +61,13 @@ pub write-file-spec : {M : Type 1} → statement M
 write-file-spec =
     tie.close
     (tie.spec
-    need-requires
-    empty-block-requires
+    (λ c κs. search needs)
+    (λ c κs. search needs)
     take-more-requires
     zero-sectors-requires
-    block-sector-requires
+    (λ c κs. search needs)
     mul-enter
     enter-requires
     count-free-requires
-    same-length
+    (λ c. search needs)
     returns)

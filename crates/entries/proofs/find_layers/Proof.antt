@@ -18,40 +18,16 @@ full c =
     let keys = sectors .before .before .args .g .keys in
     c .sys .ensures ∙ ap (λ (n : ℕ). sysValue keys (n / keys)) (sectors .sys-sectors .ensures)
 
-sys-sectors-requires : tie.Need-sys-sectors-requires
-sys-sectors-requires c κs = search needs
-
-div-sys : tie.Need-div-sys
-div-sys c = search needs
-
-sys-requires : tie.Need-sys-requires
-sys-requires c κs = search needs
-
-sys-name-requires : tie.Need-sys-name-requires
-sys-name-requires c κs = search needs
-
 find-requires : tie.Need-find-requires
 find-requires c κs =
     let sys = c .before in
     omega (arith, ap (λ (x : Catalog). x .keys) (sys .sys .ensures), sys .before .before .before .pre .unit .limits .keys-low)
-
-enum-known-place : tie.Need-enum-known-place
-enum-known-place c = search needs
-
-enum-told : tie.Need-enum-told
-enum-told c = search needs
 
 returns : tie.Need-returns
 returns c =
     let f = c .before .before in
     let sys = f .before .before in
     layers-none (sys .before .before .before .pre) (full sys) (f .before .sys-name .ensures .packed) (f .find .ensures) (c .enum-told .given .1)
-
-entry-word-requires : tie.Need-entry-word-requires
-entry-word-requires c κs = search needs
-
-div-layers : tie.Need-div-layers
-div-layers c = search needs
 
 mul-if1 : tie.Need-mul-if1
 mul-if1 c = omega (arith, div-mul-le-self (c .entry-word .result) (c .before .before .before .before .before .before .before .before .before .args .g .keys))
@@ -64,26 +40,11 @@ returns-2 c =
     let sys = f .before .before in
     layers-part (sys .before .before .before .pre) (full sys) (f .before .sys-name .ensures .packed) (f .find .ensures) (place .place .given .1) (word .entry-word .ensures) refl (c .if1 .taken)
 
-cast-ceil-div : tie.Need-cast-ceil-div
-cast-ceil-div c = search needs
-
-cast-ceil-div-2 : tie.Need-cast-ceil-div-2
-cast-ceil-div-2 c = search needs
-
-ceil-div-requires : tie.Need-ceil-div-requires
-ceil-div-requires c κs = search needs
-
-cast-if2 : tie.Need-cast-if2
-cast-if2 c = search needs
-
 mul-if2 : tie.Need-mul-if2
 mul-if2 c =
     let word = c .before .before .before .before in
     let s = word .before .before .before .before .before .before .before .before .before .args .g .slice in
     omega (arith, ap (λ (x : ℕ). x * s) (c .before .ceil-div .ensures), div-mul-le-self (word .entry-word .result + (s - 1)) s)
-
-cast-if2-2 : tie.Need-cast-if2-2
-cast-if2-2 c = search needs
 
 returns-3 : tie.Need-returns-3
 returns-3 c =
@@ -110,23 +71,23 @@ pub find-layers-spec : {M : Type 1} → statement M
 find-layers-spec =
     tie.close
     (tie.spec
-    sys-sectors-requires
-    div-sys
-    sys-requires
-    sys-name-requires
+    (λ c κs. search needs)
+    (λ c. search needs)
+    (λ c κs. search needs)
+    (λ c κs. search needs)
     find-requires
-    enum-known-place
-    enum-told
+    (λ c. search needs)
+    (λ c. search needs)
     returns
-    entry-word-requires
-    div-layers
+    (λ c κs. search needs)
+    (λ c. search needs)
     mul-if1
     returns-2
-    cast-ceil-div
-    cast-ceil-div-2
-    ceil-div-requires
-    cast-if2
+    (λ c. search needs)
+    (λ c. search needs)
+    (λ c κs. search needs)
+    (λ c. search needs)
     mul-if2
-    cast-if2-2
+    (λ c. search needs)
     returns-3
     returns-4)

@@ -6,23 +6,10 @@ use native.Mathlib.Nat.{mul-le-mul, mul-add-mod-self-right, mod-eq-of-lt}
 use native.Mathlib.Omega.{arith}
 use borrow.Author.Needs.{needs}
 use Rattle.disc.specs.Names.{pack, keyOf}
-use Rattle.disc.proofs.DecideLaws.{holds}
+use Rattle.disc.proofs.DecideLaws.{holds, decides-eq}
 use Rattle.disc.proofs.NameLaws.{key-pack}
-use Rattle.kit.proofs.KitLaws.{decides-eq}
 use Rattle.entries.proofs.has_key.Statement.{statement}
 use Rattle.entries.proofs.has_key.Tie as tie
-
-wrapping-add-u16-requires : tie.Need-wrapping-add-u16-requires
-wrapping-add-u16-requires c κs = search needs
-
-wrapping-add-u16-requires-2 : tie.Need-wrapping-add-u16-requires-2
-wrapping-add-u16-requires-2 c κs = search needs
-
-cast-quotient : tie.Need-cast-quotient
-cast-quotient c = search needs
-
-cast-quotient-2 : tie.Need-cast-quotient-2
-cast-quotient-2 c = search needs
 
 -- the key, by a quotient that shows it
 key-is : (x y z H quotient : ℕ) → y < 65536 → z < 65536 → {sum key : ℕ} → sum ≡ (x + y + z) % 65536 → quotient * H + key ≡ sum → key < H → keyOf H (pack x y z) ≡ key
@@ -47,32 +34,17 @@ small c =
 mul-quotient : tie.Need-mul-quotient
 mul-quotient c = record { fits = omega (arith, small c .0) }
 
-cast-quotient-3 : tie.Need-cast-quotient-3
-cast-quotient-3 c = search needs
-
-div-quotient : tie.Need-div-quotient
-div-quotient c = search needs
-
-cast-if1 : tie.Need-cast-if1
-cast-if1 c = search needs
-
 mul-if1 : tie.Need-mul-if1
 mul-if1 c = record { fits = omega (arith, small c .1) }
 
 add-if1 : tie.Need-add-if1
 add-if1 c = record { fits = omega (arith, small c .1) }
 
-cast-if1-2 : tie.Need-cast-if1-2
-cast-if1-2 c = search needs
-
 returns : tie.Need-returns
 returns c =
     let a = c .before .before .before .before .args in
     let sum = c .before .before .wrapping-add-u162 .result in
     holds (sym (key-is (a .name .0) (a .name .1) (a .name .2) (a .expected .catalog .keys) (sum * a .expected .inverse / 2147483648) (omega arith) (omega arith) {sum = sum} (omega arith) (c .if1 .taken) (omega arith)))
-
-key-requires : tie.Need-key-requires
-key-requires c κs = search needs
 
 returns-2 : tie.Need-returns-2
 returns-2 c =
@@ -83,17 +55,17 @@ pub has-key-spec : {M : Type 1} → statement M
 has-key-spec =
     tie.close
     (tie.spec
-    wrapping-add-u16-requires
-    wrapping-add-u16-requires-2
-    cast-quotient
-    cast-quotient-2
+    (λ c κs. search needs)
+    (λ c κs. search needs)
+    (λ c. search needs)
+    (λ c. search needs)
     mul-quotient
-    cast-quotient-3
-    div-quotient
-    cast-if1
+    (λ c. search needs)
+    (λ c. search needs)
+    (λ c. search needs)
     mul-if1
     add-if1
-    cast-if1-2
+    (λ c. search needs)
     returns
-    key-requires
+    (λ c κs. search needs)
     returns-2)

@@ -5,28 +5,10 @@ use Rattle.entries.proofs.PlaceLaws.{judged-sys, judged-map, other-name
 use Rattle.entries.proofs.named_legal.Statement.{statement}
 use Rattle.entries.proofs.named_legal.Tie as tie
 
-sys-name-requires : tie.Need-sys-name-requires
-sys-name-requires c κs = search needs
-
-same-name-requires : tie.Need-same-name-requires
-same-name-requires c κs = search needs
-
-is-entry-requires : tie.Need-is-entry-requires
-is-entry-requires c κs = search needs
-
 returns : tie.Need-returns
 returns c =
     let same = c .before .before in
     judged-sys (same .before .before .before .pre .2) (same .same-name .ensures) (same .before .before .before .args .expected) (same .before .sys-name .ensures) (c .before .if1 .taken) (c .is-entry .ensures)
-
-map-name-requires : tie.Need-map-name-requires
-map-name-requires c κs = search needs
-
-same-name-requires-2 : tie.Need-same-name-requires-2
-same-name-requires-2 c κs = search needs
-
-is-entry-requires-2 : tie.Need-is-entry-requires-2
-is-entry-requires-2 c κs = search needs
 
 returns-2 : tie.Need-returns-2
 returns-2 c =
@@ -46,12 +28,12 @@ pub named-legal-spec : {M : Type 1} → statement M
 named-legal-spec =
     tie.close
     (tie.spec
-    sys-name-requires
-    same-name-requires
-    is-entry-requires
+    (λ c κs. search needs)
+    (λ c κs. search needs)
+    (λ c κs. search needs)
     returns
-    map-name-requires
-    same-name-requires-2
-    is-entry-requires-2
+    (λ c κs. search needs)
+    (λ c κs. search needs)
+    (λ c κs. search needs)
     returns-2
     returns-3)

@@ -7,17 +7,11 @@ use borrow.Author.Needs.{needs}
 use Rattle.entries.proofs.next_key.Statement.{statement}
 use Rattle.entries.proofs.next_key.Tie as tie
 
-add-if1 : tie.Need-add-if1
-add-if1 c = search needs
-
 returns : tie.Need-returns
 returns c = sym (ap (λ (n : ℕ). n % c .before .args .keys) (c .if1 .taken) ∙ mod-self (c .before .args .keys))
-
-add-result : tie.Need-add-result
-add-result c = search needs
 
 returns-2 : tie.Need-returns-2
 returns-2 c = sym (mod-eq-of-lt (omega arith))
 
 pub next-key-spec : {M : Type 1} → statement M
-next-key-spec = tie.close (tie.spec add-if1 returns add-result returns-2)
+next-key-spec = tie.close (tie.spec (λ c. search needs) returns (λ c. search needs) returns-2)

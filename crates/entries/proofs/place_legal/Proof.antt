@@ -5,17 +5,8 @@ use Rattle.entries.proofs.PlaceLaws.{first-used, judged-unused, judged-
 use Rattle.entries.proofs.place_legal.Statement.{statement}
 use Rattle.entries.proofs.place_legal.Tie as tie
 
-place-name-requires : tie.Need-place-name-requires
-place-name-requires c κs = search needs
-
-is-unused-requires : tie.Need-is-unused-requires
-is-unused-requires c κs = search needs
-
 returns : tie.Need-returns
 returns c = judged-unused (c .before .before .before .place-name .ensures) (c .before .if1 .taken) (c .is-unused .ensures)
-
-legal-by-requires : tie.Need-legal-by-requires
-legal-by-requires c κs = search needs
 
 returns-2 : tie.Need-returns-2
 returns-2 c =
@@ -23,17 +14,11 @@ returns-2 c =
     let n = first .before .before .place-name .ensures in
     fails (judged-name n (first-used n (first .if1 .left)) (c .before .legal-by .ensures) (c .if2 .taken))
 
-has-key-requires : tie.Need-has-key-requires
-has-key-requires c κs = search needs
-
 returns-3 : tie.Need-returns-3
 returns-3 c =
     let first = c .before .before .before .before in
     let n = first .before .before .place-name .ensures in
     fails (judged-key n (first-used n (first .if1 .left)) (refutes _ (c .before .has-key .ensures) (c .if3 .taken)))
-
-system-legal-requires : tie.Need-system-legal-requires
-system-legal-requires c κs = search needs
 
 returns-4 : tie.Need-returns-4
 returns-4 c =
@@ -47,12 +32,12 @@ pub place-legal-spec : {M : Type 1} → statement M
 place-legal-spec =
     tie.close
     (tie.spec
-    place-name-requires
-    is-unused-requires
+    (λ c κs. search needs)
+    (λ c κs. search needs)
     returns
-    legal-by-requires
+    (λ c κs. search needs)
     returns-2
-    has-key-requires
+    (λ c κs. search needs)
     returns-3
-    system-legal-requires
+    (λ c κs. search needs)
     returns-4)

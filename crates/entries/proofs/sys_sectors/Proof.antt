@@ -16,9 +16,6 @@ total c =
     let a = start .args in
     c .sector-total-at .ensures ∙ read-sectors (a .image .now) (a .g .first .0) (a .g .slice) 6 (sysSlices (a .image .now) (a .g)) (sys-few (start .pre)) (start .pre .index .pairs)
 
-sector-total-at-requires : tie.Need-sector-total-at-requires
-sector-total-at-requires c κs = search needs
-
 cast-result : tie.Need-cast-result
 cast-result c = let sys = c .before .before .pre in omega (arith, total c, sys-small sys, sys .unit .limits .sectors)
 
@@ -26,4 +23,4 @@ returns : tie.Need-returns
 returns c = total c
 
 pub sys-sectors-spec : {M : Type 1} → statement M
-sys-sectors-spec = tie.close (tie.spec sector-total-at-requires cast-result returns)
+sys-sectors-spec = tie.close (tie.spec (λ c κs. search needs) cast-result returns)

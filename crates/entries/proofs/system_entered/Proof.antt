@@ -14,17 +14,8 @@ use Rattle.entries.proofs.system_entered.Tie as tie
 all : (c : tie.Start) → 16 * c .args .expected .size ≡ placeCount (c .args .g .keys) (c .args .expected .catalog .layers)
 all c = ap (λ (n : ℕ). 16 * n) (c .pre .0 .whole)
 
-sys-name-requires : tie.Need-sys-name-requires
-sys-name-requires c κs = search needs
-
 find-requires : tie.Need-find-requires
 find-requires c κs = some-key (c .before .before .before .pre .0 .catalog)
-
-enum-told : tie.Need-enum-told
-enum-told c = search needs
-
-enum-told-2 : tie.Need-enum-told-2
-enum-told-2 c = search needs
 
 returns : tie.Need-returns
 returns c =
@@ -32,17 +23,8 @@ returns c =
     let start = f .before .before .before .before in
     fails (λ n. not-met (start .pre .0 .catalog) (all start) (f .before .sys-name .ensures .packed) (f .find .ensures) (lit< tt) (n .places) (c .enum-told2 .given .1) (n .sysMet))
 
-map-name-requires : tie.Need-map-name-requires
-map-name-requires c κs = search needs
-
 find-requires-2 : tie.Need-find-requires-2
 find-requires-2 c κs = some-key (c .before .before .before .before .before .before .before .pre .0 .catalog)
-
-enum-told-3 : tie.Need-enum-told-3
-enum-told-3 c = search needs
-
-enum-told-4 : tie.Need-enum-told-4
-enum-told-4 c = search needs
 
 returns-2 : tie.Need-returns-2
 returns-2 c =
@@ -66,14 +48,14 @@ pub system-entered-spec : {M : Type 1} → statement M
 system-entered-spec =
     tie.close
     (tie.spec
-    sys-name-requires
+    (λ c κs. search needs)
     find-requires
-    enum-told
-    enum-told-2
+    (λ c. search needs)
+    (λ c. search needs)
     returns
-    map-name-requires
+    (λ c κs. search needs)
     find-requires-2
-    enum-told-3
-    enum-told-4
+    (λ c. search needs)
+    (λ c. search needs)
     returns-2
     returns-3)

@@ -6,15 +6,6 @@ use Rattle.entries.proofs.PlaceLaws.{ordinary, other-first}
 use Rattle.entries.proofs.system_legal.Statement.{statement}
 use Rattle.entries.proofs.system_legal.Tie as tie
 
-begins-as-system-requires : tie.Need-begins-as-system-requires
-begins-as-system-requires c κs = search needs
-
-named-legal-requires : tie.Need-named-legal-requires
-named-legal-requires c κs = search needs
-
-returns : tie.Need-returns
-returns c = search needs
-
 returns-2 : tie.Need-returns-2
 returns-2 c =
     let n = c .before .before .before .pre .2 in
@@ -22,4 +13,4 @@ returns-2 c =
     holds (ordinary (λ e. omega (arith, other .0, n .first, n .second-word, n .third-word)) (λ e. omega (arith, other .1, n .first, n .second-word, n .third-word)))
 
 pub system-legal-spec : {M : Type 1} → statement M
-system-legal-spec = tie.close (tie.spec begins-as-system-requires named-legal-requires returns returns-2)
+system-legal-spec = tie.close (tie.spec (λ c κs. search needs) (λ c κs. search needs) (λ c. search needs) returns-2)

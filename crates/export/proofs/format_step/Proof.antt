@@ -9,18 +9,6 @@ use Rattle.export.proofs.CallLaws.{formats}
 use Rattle.export.proofs.format_step.Statement.{statement}
 use Rattle.export.proofs.format_step.Tie as tie
 
-state-of-requires : tie.Need-state-of-requires
-state-of-requires c κs = search needs
-
-format-requires : tie.Need-format-requires
-format-requires c κs = search needs
-
-remirror-requires : tie.Need-remirror-requires
-remirror-requires c κs = search needs
-
-same-length : tie.Need-same-length
-same-length c = search needs
-
 returns : tie.Need-returns
 returns c =
     let f = c .before .before .before .before .format in
@@ -29,5 +17,4 @@ returns c =
     (c .remirror .ensures) (f .ensures)
 
 pub format-step-spec : {M : Type 1} → statement M
-format-step-spec =
-    tie.close (tie.spec state-of-requires format-requires remirror-requires same-length returns)
+format-step-spec = tie.close (tie.spec (λ c κs. search needs) (λ c κs. search needs) (λ c κs. search needs) (λ c. search needs) returns)

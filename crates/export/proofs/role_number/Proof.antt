@@ -4,9 +4,6 @@ use borrow.Author.Tests.{lt-ltb, le-ltb}
 use Rattle.export.proofs.role_number.Statement.{statement}
 use Rattle.export.proofs.role_number.Tie as tie
 
-lowest-number-requires : tie.Need-lowest-number-requires
-lowest-number-requires c κs = search needs
-
 returns : tie.Need-returns
 returns c = rw (← c .before .lowest-number .ensures) (simp (lt-ltb _ 2 (c .if1 .taken)))
 
@@ -17,4 +14,4 @@ returns-3 : tie.Need-returns-3
 returns-3 c = rw (← c .before .before .lowest-number .ensures) (simp (le-ltb _ 2 (c .before .if1 .left), le-ltb _ 2 (c .if2 .left)))
 
 pub role-number-spec : {M : Type 1} → statement M
-role-number-spec = tie.close (tie.spec lowest-number-requires returns returns-2 returns-3)
+role-number-spec = tie.close (tie.spec (λ c κs. search needs) returns returns-2 returns-3)

@@ -3,11 +3,8 @@ use borrow.Author.Needs.{needs}
 use Rattle.export.proofs.user_of.Statement.{statement}
 use Rattle.export.proofs.user_of.Tie as tie
 
-role-of-requires : tie.Need-role-of-requires
-role-of-requires c κs = search needs
-
 returns : tie.Need-returns
 returns c = rw (c .role-of .ensures)
 
 pub user-of-spec : {M : Type 1} → statement M
-user-of-spec = tie.close (tie.spec role-of-requires returns)
+user-of-spec = tie.close (tie.spec (λ c κs. search needs) returns)

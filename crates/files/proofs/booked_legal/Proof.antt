@@ -3,16 +3,12 @@ use mathlib.Core.Path.{_≡_, sym, ap, _∙_}
 use Prim.Native.Nat.{ℕ, _/_}
 use native.Mathlib.Nat.{div-mul-le-self}
 use native.Mathlib.Omega.{arith}
-use Rattle.disc.proofs.DecideLaws.{fails, refutes, grants}
-use Rattle.kit.proofs.KitLaws.{decides-eq}
+use Rattle.disc.proofs.DecideLaws.{fails, refutes, grants, decides-eq}
 use Rattle.sound.specs.Places.{indexIf}
 use Rattle.files.proofs.FileLaws.{index-some, booked-own, booked-whole, booked-covered, booked-index, booked-is}
 use borrow.Author.Needs.{needs}
 use Rattle.files.proofs.booked_legal.Statement.{statement}
 use Rattle.files.proofs.booked_legal.Tie as tie
-
-div-own : tie.Need-div-own
-div-own c = search needs
 
 mul-if1 : tie.Need-mul-if1
 mul-if1 c = let a = c .before .before .before .args in omega (arith, div-mul-le-self (a .entry .reserved) (a .s))
@@ -25,9 +21,6 @@ returns-2 c = fails (λ b. omega (arith, booked-own (c .before .before .before .
 
 returns-3 : tie.Need-returns-3
 returns-3 c = fails (λ b. omega (arith, b .length-low))
-
-covered-requires : tie.Need-covered-requires
-covered-requires c κs = search needs
 
 returns-4 : tie.Need-returns-4
 returns-4 c = fails (λ b. refutes _ (c .before .covered .ensures) (c .if4 .taken) (booked-covered (c .before .before .before .before .before .before .before .before .before .before .before .pre) b))
@@ -56,12 +49,12 @@ pub booked-legal-spec : {M : Type 1} → statement M
 booked-legal-spec =
     tie.close
     (tie.spec
-    div-own
+    (λ c. search needs)
     mul-if1
     returns
     returns-2
     returns-3
-    covered-requires
+    (λ c κs. search needs)
     returns-4
     returns-5
     returns-6)

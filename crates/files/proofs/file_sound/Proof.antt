@@ -9,15 +9,6 @@ use borrow.Author.Needs.{needs}
 use Rattle.files.proofs.file_sound.Statement.{statement}
 use Rattle.files.proofs.file_sound.Tie as tie
 
-entry-at-requires : tie.Need-entry-at-requires
-entry-at-requires c κs = search needs
-
-live-index-requires : tie.Need-live-index-requires
-live-index-requires c κs = search needs
-
-own-index-requires : tie.Need-own-index-requires
-own-index-requires c κs = search needs
-
 returns : tie.Need-returns
 returns c =
     let own = c .before .before in
@@ -26,9 +17,6 @@ returns c =
     let a = entry .before .before .args in
     file-refused (entryAt (a .image .now) (a .at)) (a .live) (index .live-index .ensures ∙ ap (λ (e : Entry). indexBy (a .live) (e .index .0)) (entry .entry-at .ensures))
     (own .own-index .ensures) (not-true _ (c .if1 .taken))
-
-numbers-legal-requires : tie.Need-numbers-legal-requires
-numbers-legal-requires c κs = search needs
 
 returns-2 : tie.Need-returns-2
 returns-2 c =
@@ -44,9 +32,9 @@ pub file-sound-spec : {M : Type 1} → statement M
 file-sound-spec =
     tie.close
     (tie.spec
-    entry-at-requires
-    live-index-requires
-    own-index-requires
+    (λ c κs. search needs)
+    (λ c κs. search needs)
+    (λ c κs. search needs)
     returns
-    numbers-legal-requires
+    (λ c κs. search needs)
     returns-2)

@@ -12,15 +12,6 @@ use borrow.Author.Needs.{needs}
 use Rattle.files.proofs.files_sound.Statement.{statement}
 use Rattle.files.proofs.files_sound.Tie as tie
 
-flatten-requires : tie.Need-flatten-requires
-flatten-requires c κs = search needs
-
-open-upto-requires : tie.Need-open-upto-requires
-open-upto-requires c κs = search needs
-
-fill-cells-requires : tie.Need-fill-cells-requires
-fill-cells-requires c κs = search needs
-
 mul-stretches-sound : tie.Need-mul-stretches-sound
 mul-stretches-sound c =
     let flat = c .before .before .before .before .before .before in
@@ -34,9 +25,6 @@ stretches-sound-requires c κs =
     let flat = upto .before .before in
     let pre = flat .before .before .before .before .before .pre in
     (pre .0, upto .open-upto .ensures .eight, fill .fill-cells .ensures, ordinary-known (pre .1))
-
-unmark-all-requires : tie.Need-unmark-all-requires
-unmark-all-requires c κs = search needs
 
 returns : tie.Need-returns
 returns c =
@@ -63,11 +51,11 @@ pub files-sound-spec : {M : Type 1} → statement M
 files-sound-spec =
     tie.close
     (tie.spec
-    flatten-requires
-    open-upto-requires
-    fill-cells-requires
+    (λ c κs. search needs)
+    (λ c κs. search needs)
+    (λ c κs. search needs)
     mul-stretches-sound
     stretches-sound-requires
-    unmark-all-requires
+    (λ c κs. search needs)
     returns
     returns-2)

@@ -12,35 +12,20 @@ use borrow.Author.Needs.{needs}
 use Rattle.files.proofs.numbers_legal.Statement.{statement}
 use Rattle.files.proofs.numbers_legal.Tie as tie
 
-legal-attributes-requires : tie.Need-legal-attributes-requires
-legal-attributes-requires c κs = search needs
-
 returns : tie.Need-returns
-returns c = fails (λ n. T-not (sym (c .before .legal-attributes .ensures) ∙ not-true _ (c .if1 .taken)) (n .allowed))
-
-legal-with-requires : tie.Need-legal-with-requires
-legal-with-requires c κs = search needs
+returns c = fails (λ n. T-not (sym (c .before .legal .ensures) ∙ not-true _ (c .if1 .taken)) (n .allowed))
 
 returns-2 : tie.Need-returns-2
 returns-2 c = fails (λ n. T-not (sym (c .before .legal-with .ensures) ∙ not-true _ (c .if2 .taken)) (n .entryOnly))
 
-live-length-requires : tie.Need-live-length-requires
-live-length-requires c κs = search needs
-
 returns-3 : tie.Need-returns-3
 returns-3 c = fails (λ n. omega (arith, n .short, c .before .live-length .ensures))
-
-covered-requires : tie.Need-covered-requires
-covered-requires c κs = search needs
 
 returns-4 : tie.Need-returns-4
 returns-4 c =
     let size = c .before .before .before in
     let a = size .before .before .before .before .before .args in
     fails (λ n. refutes _ (c .before .covered .ensures) (c .if4 .taken) (subst (λ (m : ℕ). need (a .s) m ≤ a .slices) (sym (size .live-length .ensures)) (n .covered)))
-
-booked-legal-requires : tie.Need-booked-legal-requires
-booked-legal-requires c κs = search needs
 
 returns-5 : tie.Need-returns-5
 returns-5 c =
@@ -50,11 +35,8 @@ returns-5 c =
     let first = with .before .before in
     let a = first .before .args in
     let e = size .live-length .ensures in
-    numbers-open (T-of (sym (first .legal-attributes .ensures) ∙ not-false _ (with .before .if1 .left))) (T-of (sym (with .legal-with .ensures) ∙ not-false _ (size .before .if2 .left)))
+    numbers-open (T-of (sym (first .legal .ensures) ∙ not-false _ (with .before .if1 .left))) (T-of (sym (with .legal-with .ensures) ∙ not-false _ (size .before .if2 .left)))
     (omega (arith, e)) (subst (λ (n : ℕ). need (a .s) n ≤ a .slices) e (grants _ (covered .covered .ensures) (c .before .before .if4 .left))) (c .before .if5 .taken) (c .booked-legal .ensures)
-
-cast-result : tie.Need-cast-result
-cast-result c = search needs
 
 mul-result : tie.Need-mul-result
 mul-result c =
@@ -71,23 +53,23 @@ returns-6 c =
     let first = with .before .before in
     let a = first .before .args in
     let e = size .live-length .ensures in
-    numbers-closed (T-of (sym (first .legal-attributes .ensures) ∙ not-false _ (with .before .if1 .left))) (T-of (sym (with .legal-with .ensures) ∙ not-false _ (size .before .if2 .left)))
+    numbers-closed (T-of (sym (first .legal .ensures) ∙ not-false _ (with .before .if1 .left))) (T-of (sym (with .legal-with .ensures) ∙ not-false _ (size .before .if2 .left)))
     (omega (arith, e)) (subst (λ (n : ℕ). need (a .s) n ≤ a .slices) e (grants _ (covered .covered .ensures) (c .before .before .if4 .left))) (c .before .if5 .left)
 
 pub numbers-legal-spec : {M : Type 1} → statement M
 numbers-legal-spec =
     tie.close
     (tie.spec
-    legal-attributes-requires
+    (λ c κs. search needs)
     returns
-    legal-with-requires
+    (λ c κs. search needs)
     returns-2
-    live-length-requires
+    (λ c κs. search needs)
     returns-3
-    covered-requires
+    (λ c κs. search needs)
     returns-4
-    booked-legal-requires
+    (λ c κs. search needs)
     returns-5
-    cast-result
+    (λ c. search needs)
     mul-result
     returns-6)

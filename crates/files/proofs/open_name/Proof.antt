@@ -6,16 +6,16 @@ use borrow.Author.Needs.{needs}
 use Rattle.files.proofs.open_name.Statement.{statement}
 use Rattle.files.proofs.open_name.Tie as tie
 
-packed-requires : tie.Need-packed-requires
-packed-requires c κs = search needs
-
 returns : tie.Need-returns
 returns c =
-    let a = c .before .before .args .area in
-    c .packed .ensures ∙ sym (ap (λ (b : Bool). cond b (areaName a) 0) (c .before .if1 .taken))
+    let test = c .before .before in
+    let a = test .before .args .area in
+    c .packed .ensures ∙ sym (ap (λ (b : Bool). cond b (areaName a) 0) (sym (test .is-open .ensures) ∙ c .before .if1 .taken))
 
 returns-2 : tie.Need-returns-2
-returns-2 c = search needs
+returns-2 c =
+    let a = c .before .before .args .area in
+    sym (ap (λ (b : Bool). cond b (areaName a) 0) (sym (c .before .is-open .ensures) ∙ c .if1 .left))
 
 pub open-name-spec : {M : Type 1} → statement M
-open-name-spec = tie.close (tie.spec packed-requires returns returns-2)
+open-name-spec = tie.close (tie.spec (λ c κs. search needs) (λ c κs. search needs) returns returns-2)

@@ -10,9 +10,6 @@ use Rattle.files.proofs.own_index.Tie as tie
 returns : tie.Need-returns
 returns c = own-none _ (c .if1 .taken) refl refl
 
-is-data-sector-requires : tie.Need-is-data-sector-requires
-is-data-sector-requires c κs = search needs
-
 returns-2 : tie.Need-returns-2
 returns-2 c =
     let s = c .before .before .before .before .before in
@@ -29,4 +26,4 @@ returns-3 c = own-some (c .before .before .before .before .before .before .befor
 
 pub own-index-spec : {M : Type 1} → statement M
 own-index-spec =
-    tie.close (tie.spec returns is-data-sector-requires returns-2 mark-index-requires returns-3)
+    tie.close (tie.spec returns (λ c κs. search needs) returns-2 mark-index-requires returns-3)

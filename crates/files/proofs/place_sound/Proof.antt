@@ -4,25 +4,13 @@ use borrow.Author.Needs.{needs}
 use Rattle.files.proofs.place_sound.Statement.{statement}
 use Rattle.files.proofs.place_sound.Tie as tie
 
-name-at-requires : tie.Need-name-at-requires
-name-at-requires c κs = search needs
-
 returns : tie.Need-returns
 returns c = place-unused (c .before .name-at .result) (c .before .name-at .ensures) (c .if1 .taken)
-
-is-system-number-requires : tie.Need-is-system-number-requires
-is-system-number-requires c κs = search needs
 
 returns-2 : tie.Need-returns-2
 returns-2 c =
     let name = c .before .before .before in
     place-system (name .name-at .result) (name .name-at .ensures) (c .before .is-system-number .ensures) (c .if2 .taken)
-
-live-of-requires : tie.Need-live-of-requires
-live-of-requires c κs = search needs
-
-file-sound-requires : tie.Need-file-sound-requires
-file-sound-requires c κs = search needs
 
 returns-3 : tie.Need-returns-3
 returns-3 c =
@@ -35,10 +23,10 @@ pub place-sound-spec : {M : Type 1} → statement M
 place-sound-spec =
     tie.close
     (tie.spec
-    name-at-requires
+    (λ c κs. search needs)
     returns
-    is-system-number-requires
+    (λ c κs. search needs)
     returns-2
-    live-of-requires
-    file-sound-requires
+    (λ c κs. search needs)
+    (λ c κs. search needs)
     returns-3)

@@ -5,17 +5,8 @@ use borrow.Author.Needs.{needs}
 use Rattle.files.proofs.plain_file.Statement.{statement}
 use Rattle.files.proofs.plain_file.Tie as tie
 
-entry-at-requires : tie.Need-entry-at-requires
-entry-at-requires c κs = search needs
-
-plain-numbers-requires : tie.Need-plain-numbers-requires
-plain-numbers-requires c κs = search needs
-
 returns : tie.Need-returns
 returns c = closed-left _
-
-mark-single-requires : tie.Need-mark-single-requires
-mark-single-requires c κs = search needs
 
 returns-2 : tie.Need-returns-2
 returns-2 c =
@@ -28,4 +19,4 @@ returns-2 c =
 pub plain-file-spec : {M : Type 1} → statement M
 plain-file-spec =
     tie.close
-    (tie.spec entry-at-requires plain-numbers-requires returns mark-single-requires returns-2)
+    (tie.spec (λ c κs. search needs) (λ c κs. search needs) returns (λ c κs. search needs) returns-2)

@@ -9,14 +9,8 @@ use Rattle.files.proofs.plain_numbers.Tie as tie
 returns : tie.Need-returns
 returns c = fails (λ p. omega (arith, p .short))
 
-entry-only-requires : tie.Need-entry-only-requires
-entry-only-requires c κs = search needs
-
 returns-2 : tie.Need-returns-2
 returns-2 c = fails (λ p. true≢false (sym (c .if2 .taken) ∙ c .before .entry-only .ensures ∙ p .slices))
-
-legal-attributes-requires : tie.Need-legal-attributes-requires
-legal-attributes-requires c κs = search needs
 
 returns-3 : tie.Need-returns-3
 returns-3 c =
@@ -24,13 +18,13 @@ returns-3 c =
     record {
       yes = λ e.
           record {
-            allowed = sym (c .legal-attributes .ensures) ∙ e;
+            allowed = sym (c .legal .ensures) ∙ e;
             slices = sym (else2 .before .entry-only .ensures) ∙ else2 .if2 .left;
             short = omega (arith, else2 .before .before .if1 .left);
           };
-      not = λ e p. true≢false (sym (p .allowed) ∙ sym (c .legal-attributes .ensures) ∙ e);
+      not = λ e p. true≢false (sym (p .allowed) ∙ sym (c .legal .ensures) ∙ e);
     }
 
 pub plain-numbers-spec : {M : Type 1} → statement M
 plain-numbers-spec =
-    tie.close (tie.spec returns entry-only-requires returns-2 legal-attributes-requires returns-3)
+    tie.close (tie.spec returns (λ c κs. search needs) returns-2 (λ c κs. search needs) returns-3)

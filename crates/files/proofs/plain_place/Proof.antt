@@ -6,23 +6,8 @@ use borrow.Author.Needs.{needs}
 use Rattle.files.proofs.plain_place.Statement.{statement}
 use Rattle.files.proofs.plain_place.Tie as tie
 
-add-if1 : tie.Need-add-if1
-add-if1 c = search needs
-
-mul-if1 : tie.Need-mul-if1
-mul-if1 c = search needs
-
-shared-slice-read-if1 : tie.Need-shared-slice-read-if1
-shared-slice-read-if1 c = search needs
-
-name-at-requires : tie.Need-name-at-requires
-name-at-requires c κs = search needs
-
 returns : tie.Need-returns
 returns c = plain-unused (c .name-at .result) (c .name-at .ensures) (eqb-true _ _)
-
-plain-file-requires : tie.Need-plain-file-requires
-plain-file-requires c κs = search needs
 
 returns-2 : tie.Need-returns-2
 returns-2 c =
@@ -34,10 +19,10 @@ pub plain-place-spec : {M : Type 1} → statement M
 plain-place-spec =
     tie.close
     (tie.spec
-    add-if1
-    mul-if1
-    shared-slice-read-if1
-    name-at-requires
+    (λ c. search needs)
+    (λ c. search needs)
+    (λ c. search needs)
+    (λ c κs. search needs)
     returns
-    plain-file-requires
+    (λ c κs. search needs)
     returns-2)

@@ -23,18 +23,6 @@ met c =
     places-passed (a .image .now) (a .g) (lives s) (placesFrom (a .image .now) (a .at)) (s .pre .1) (c .plain-run .result)
     (c .plain-run .ensures .marking (lives s) (live-cell (a .names .now) (a .indexes .now) (a .lengths .now) (s .pre .4)))
 
-plain-run-requires : tie.Need-plain-run-requires
-plain-run-requires c κs = search needs
-
-mul-rest-sound : tie.Need-mul-rest-sound
-mul-rest-sound c = search needs
-
-add-rest-sound : tie.Need-add-rest-sound
-add-rest-sound c = search needs
-
-sub-rest-sound : tie.Need-sub-rest-sound
-sub-rest-sound c = search needs
-
 rest-sound-requires : tie.Need-rest-sound-requires
 rest-sound-requires c κs =
     let run = c .before in
@@ -54,9 +42,9 @@ pub run-sound-spec : {M : Type 1} → statement M
 run-sound-spec =
     tie.close
     (tie.spec
-    plain-run-requires
-    mul-rest-sound
-    add-rest-sound
-    sub-rest-sound
+    (λ c κs. search needs)
+    (λ c. search needs)
+    (λ c. search needs)
+    (λ c. search needs)
     rest-sound-requires
     returns)

@@ -22,12 +22,6 @@ returns c = notLent (λ r. c .if1 .taken (r .count)) (record { word = refl; same
 returns-2 : tie.Need-returns-2
 returns-2 c = notLent (λ r. let n = r .words in omega arith) (record { word = refl; same = refl; kept = refl })
 
-accepts-requires : tie.Need-accepts-requires
-accepts-requires c κs = search needs
-
-same-length : tie.Need-same-length
-same-length c = search needs
-
 returns-3 : tie.Need-returns-3
 returns-3 c =
     notAllowed (lent (c .before .before .before)) (refutes _ (c .before .accepts .ensures) (c .if3 .taken)) (record { word = refl; same = refl; kept = refl })
@@ -43,12 +37,6 @@ write-catalog-requires c κs =
     let l = a .lent .now in
     (lent (c .before .before .before .before .before .before .before .before) .words, f .limits, length-written (a .image .now) _ (lentKeys l) (lentSlice l) (lentFirst l) (lentSectors l) (getD l 7 0) (getD l 8 0) (c .before .before .before .write-system .ensures) ∙ f .size)
 
-not-initialized-requires : tie.Need-not-initialized-requires
-not-initialized-requires c κs = search needs
-
-same-length-2 : tie.Need-same-length-2
-same-length-2 c = search needs
-
 returns-4 : tie.Need-returns-4
 returns-4 c =
     let system = c .before .before .before .before .before .before .before in
@@ -57,7 +45,7 @@ returns-4 c =
     written (lent (system .before .before .before .before .before)) (fine (system .before .before)) (record {
       word = refl;
       whole = format-written (a .image .now) _ _ (lentKeys l) (lentSlice l) (lentFirst l) (lentSectors l) (getD l 7 0) (getD l 8 0) (system .write-system .ensures) (c .before .before .before .write-catalog .ensures);
-      left = c .not-initialized .ensures;
+      left = c .with-initialized .ensures;
     })
 
 pub format-spec : {M : Type 1} → statement M
@@ -66,11 +54,11 @@ format-spec =
     (tie.spec
     returns
     returns-2
-    accepts-requires
-    same-length
+    (λ c κs. search needs)
+    (λ c. search needs)
     returns-3
     write-system-requires
     write-catalog-requires
-    not-initialized-requires
-    same-length-2
+    (λ c κs. search needs)
+    (λ c. search needs)
     returns-4)

@@ -1,5 +1,5 @@
 -- `format::map_place` meets its contract. Assumes nothing.
-use Rattle.format.proofs.EntryLaws.{place-second, place-first}
+use Rattle.format.proofs.PlaceLaws.{place-second, place-first}
 use Rattle.format.proofs.map_place.Statement.{statement}
 use Rattle.format.proofs.map_place.Tie as tie
 

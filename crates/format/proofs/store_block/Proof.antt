@@ -4,18 +4,6 @@ use Rattle.format.proofs.BlockLaws.{block-stores}
 use Rattle.format.proofs.store_block.Statement.{statement}
 use Rattle.format.proofs.store_block.Tie as tie
 
-store-words-requires : tie.Need-store-words-requires
-store-words-requires c κs = search needs
-
-sub-clear-words : tie.Need-sub-clear-words
-sub-clear-words c = search needs
-
-clear-words-requires : tie.Need-clear-words-requires
-clear-words-requires c κs = search needs
-
-same-length : tie.Need-same-length
-same-length c = search needs
-
 returns : tie.Need-returns
 returns c =
     let a = c .before .before .before .before .before .before .before .before .before .before .args in
@@ -24,4 +12,4 @@ returns c =
 pub store-block-spec : {M : Type 1} → statement M
 store-block-spec =
     tie.close
-    (tie.spec store-words-requires sub-clear-words clear-words-requires same-length returns)
+    (tie.spec (λ c κs. search needs) (λ c. search needs) (λ c κs. search needs) (λ c. search needs) returns)

@@ -6,16 +6,10 @@ use Rattle.disc.proofs.NumberLaws.{ceilDiv-le}
 use Rattle.format.proofs.sys_slices.Statement.{statement}
 use Rattle.format.proofs.sys_slices.Tie as tie
 
-ceil-div-requires : tie.Need-ceil-div-requires
-ceil-div-requires c κs = search needs
-
 cast-result : tie.Need-cast-result
 cast-result c =
     let a = c .before .args in
     omega (arith, c .ceil-div .ensures, ceilDiv-le (a .keys) (a .slice) (a .keys) (omega arith) .1 (le-mul-of-pos-right (a .keys) (omega arith)))
 
-returns : tie.Need-returns
-returns c = search needs
-
 pub sys-slices-spec : {M : Type 1} → statement M
-sys-slices-spec = tie.close (tie.spec ceil-div-requires cast-result returns)
+sys-slices-spec = tie.close (tie.spec (λ c κs. search needs) cast-result (λ c. search needs))

@@ -10,30 +10,6 @@ use borrow.Author.Needs.{needs}
 use Rattle.format.proofs.write_catalog.Statement.{statement}
 use Rattle.format.proofs.write_catalog.Tie as tie
 
-shared-slice-read-keys : tie.Need-shared-slice-read-keys
-shared-slice-read-keys c = search needs
-
-shared-slice-read-slice : tie.Need-shared-slice-read-slice
-shared-slice-read-slice c = search needs
-
-shared-slice-read-reserved : tie.Need-shared-slice-read-reserved
-shared-slice-read-reserved c = search needs
-
-sys-name-requires : tie.Need-sys-name-requires
-sys-name-requires c κs = search needs
-
-map-name-requires : tie.Need-map-name-requires
-map-name-requires c κs = search needs
-
-key-requires : tie.Need-key-requires
-key-requires c κs = search needs
-
-key-requires-2 : tie.Need-key-requires-2
-key-requires-2 c κs = search needs
-
-sys-slices-requires : tie.Need-sys-slices-requires
-sys-slices-requires c κs = search needs
-
 mul-reserved : tie.Need-mul-reserved
 mul-reserved c =
     let start = c .before .before .before .before .before .before .before .before .before .before in
@@ -41,20 +17,11 @@ mul-reserved c =
     let lim = start .pre .1 in
     part-fits (lentKeys l) (lentSlice l) (lentFirst l) (lentSectors l) lim (omega arith)
 
-cast-clear-words : tie.Need-cast-clear-words
-cast-clear-words c = search needs
-
-mul-clear-words : tie.Need-mul-clear-words
-mul-clear-words c = search needs
-
 clear-words-requires : tie.Need-clear-words-requires
 clear-words-requires c κs =
     let start = c .before .before .before .before .before .before .before .before .before .before .before in
     let l = start .args .lent .now in
     omega (arith, sys-end (lentKeys l) (lentSlice l) (lentFirst l) (lentSectors l) (start .pre .1))
-
-sector-after-requires : tie.Need-sector-after-requires
-sector-after-requires c κs = search needs
 
 -- the sectors of SYS's and of MAP's key
 sys-sector : (c : tie.After-sector-after) → (c .sector-after .result .0 ≡ lentFirst (c .before .before .before .before .before .before .before .before .before .before .before .before .before .before .before .before .args .lent .now) + c .before .before .before .before .before .before .before .before .key .result) × (lentFirst (c .before .before .before .before .before .before .before .before .before .before .before .before .before .before .before .before .args .lent .now) + c .before .before .before .before .before .before .before .before .key .result < lentSectors (c .before .before .before .before .before .before .before .before .before .before .before .before .before .before .before .before .args .lent .now))
@@ -80,20 +47,11 @@ map-sector c =
 enter-requires : tie.Need-enter-requires
 enter-requires c κs = let q = sys-sector c in omega arith
 
-sector-after-requires-2 : tie.Need-sector-after-requires-2
-sector-after-requires-2 c κs = search needs
-
-map-place-requires : tie.Need-map-place-requires
-map-place-requires c κs = search needs
-
 enter-requires-2 : tie.Need-enter-requires-2
 enter-requires-2 c κs =
     let key = c .before .before .before .before .before .before .before .before .before .before .before .before .before in
     let q = map-sector (c .before) in
     omega (arith, c .map-place .ensures, same-le (compare (key .key2 .result) (key .before .key .result)))
-
-same-length : tie.Need-same-length
-same-length c = search needs
 
 returns : tie.Need-returns
 returns c =
@@ -113,22 +71,22 @@ pub write-catalog-spec : {M : Type 1} → statement M
 write-catalog-spec =
     tie.close
     (tie.spec
-    shared-slice-read-keys
-    shared-slice-read-slice
-    shared-slice-read-reserved
-    sys-name-requires
-    map-name-requires
-    key-requires
-    key-requires-2
-    sys-slices-requires
+    (λ c. search needs)
+    (λ c. search needs)
+    (λ c. search needs)
+    (λ c κs. search needs)
+    (λ c κs. search needs)
+    (λ c κs. search needs)
+    (λ c κs. search needs)
+    (λ c κs. search needs)
     mul-reserved
-    cast-clear-words
-    mul-clear-words
+    (λ c. search needs)
+    (λ c. search needs)
     clear-words-requires
-    sector-after-requires
+    (λ c κs. search needs)
     enter-requires
-    sector-after-requires-2
-    map-place-requires
+    (λ c κs. search needs)
+    (λ c κs. search needs)
     enter-requires-2
-    same-length
+    (λ c. search needs)
     returns)

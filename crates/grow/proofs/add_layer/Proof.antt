@@ -5,9 +5,6 @@ use Rattle.grow.proofs.GrowLaws.{layers-small, from-small, slice-low, h
 use Rattle.grow.proofs.add_layer.Statement.{statement}
 use Rattle.grow.proofs.add_layer.Tie as tie
 
-read-block-requires : tie.Need-read-block-requires
-read-block-requires c κs = search needs
-
 add-sys-more : tie.Need-add-sys-more
 add-sys-more c = omega (arith, layers-small (c .before .before .before .before .pre .can))
 
@@ -39,9 +36,6 @@ zero-sectors-requires c κs =
     let can = read .before .before .before .pre .can in
     can-zero can (read .read-block .ensures) (more-is can (read .read-block .ensures) (more .sys-more .ensures)) (took .take-at .ensures)
 
-same-length : tie.Need-same-length
-same-length c = search needs
-
 returns : tie.Need-returns
 returns c =
     let zeroed = c .before .before in
@@ -57,12 +51,12 @@ pub add-layer-spec : {M : Type 1} → statement M
 add-layer-spec =
     tie.close
     (tie.spec
-    read-block-requires
+    (λ c κs. search needs)
     add-sys-more
     sys-more-requires
     cast-more
     take-at-requires
     mul-zero-sectors
     zero-sectors-requires
-    same-length
+    (λ c. search needs)
     returns)

@@ -7,21 +7,6 @@ use Rattle.grow.proofs.GrowLaws.{layers-small, blocks-small, reserved-s
 use Rattle.grow.proofs.grow.Statement.{statement}
 use Rattle.grow.proofs.grow.Tie as tie
 
-sys-name-requires : tie.Need-sys-name-requires
-sys-name-requires c κs = search needs
-
-find-name-requires : tie.Need-find-name-requires
-find-name-requires c κs = search needs
-
-enum-known-place : tie.Need-enum-known-place
-enum-known-place c = search needs
-
-enum-told : tie.Need-enum-told
-enum-told c = search needs
-
-same-length : tie.Need-same-length
-same-length c = search needs
-
 -- SYS is entered
 returns : tie.Need-returns
 returns c =
@@ -30,12 +15,6 @@ returns c =
 
 add-layers : tie.Need-add-layers
 add-layers c = omega (arith, layers-small (c .before .before .before .before .before .before .before .before .pre .can))
-
-add-layer-requires : tie.Need-add-layer-requires
-add-layer-requires c κs = search needs
-
-sys-slices-for-requires : tie.Need-sys-slices-for-requires
-sys-slices-for-requires c κs = search needs
 
 cast-reserved : tie.Need-cast-reserved
 cast-reserved c =
@@ -70,12 +49,6 @@ count-free-requires c κs =
     can-count (start .pre .can) (f .before .sys-name .ensures .packed) (f .find-name .ensures) (place .place .given .1) (added .add-layer .ensures) (entered .enter-sys .ensures) refl
     (ap (λ (n : ℕ). start .args .o .slice * n) (counted .sys-slices-for .ensures))
 
-same-length-2 : tie.Need-same-length-2
-same-length-2 c = search needs
-
-with-layers-requires : tie.Need-with-layers-requires
-with-layers-requires c κs = search needs
-
 returns-2 : tie.Need-returns-2
 returns-2 c =
     let free = c .before .before .before in
@@ -97,20 +70,20 @@ pub grow-spec : {M : Type 1} → statement M
 grow-spec =
     tie.close
     (tie.spec
-    sys-name-requires
-    find-name-requires
-    enum-known-place
-    enum-told
-    same-length
+    (λ c κs. search needs)
+    (λ c κs. search needs)
+    (λ c. search needs)
+    (λ c. search needs)
+    (λ c. search needs)
     returns
     add-layers
-    add-layer-requires
-    sys-slices-for-requires
+    (λ c κs. search needs)
+    (λ c κs. search needs)
     cast-reserved
     mul-reserved
     mul-enter-sys
     enter-sys-requires
     count-free-requires
-    with-layers-requires
-    same-length-2
+    (λ c κs. search needs)
+    (λ c. search needs)
     returns-2)

@@ -6,24 +6,12 @@ use borrow.Author.Needs.{needs}
 use Rattle.grow.proofs.sys_slices_for.Statement.{statement}
 use Rattle.grow.proofs.sys_slices_for.Tie as tie
 
-cast-ceil-div : tie.Need-cast-ceil-div
-cast-ceil-div c = search needs
-
 mul-ceil-div : tie.Need-mul-ceil-div
 mul-ceil-div c =
     let a = c .before .args in
     let h : a .layers ≤ 65535 = omega arith in
     omega (arith, mul-le-mul-left (a .o .catalog .keys) h)
 
-cast-ceil-div-2 : tie.Need-cast-ceil-div-2
-cast-ceil-div-2 c = search needs
-
-ceil-div-requires : tie.Need-ceil-div-requires
-ceil-div-requires c κs = search needs
-
-returns : tie.Need-returns
-returns c = search needs
-
 pub sys-slices-for-spec : {M : Type 1} → statement M
 sys-slices-for-spec =
-    tie.close (tie.spec cast-ceil-div mul-ceil-div cast-ceil-div-2 ceil-div-requires returns)
+    tie.close (tie.spec (λ c. search needs) mul-ceil-div (λ c. search needs) (λ c κs. search needs) (λ c. search needs))

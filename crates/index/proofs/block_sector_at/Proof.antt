@@ -5,16 +5,10 @@ use borrow.Author.Needs.{needs}
 use Rattle.index.proofs.block_sector_at.Statement.{statement}
 use Rattle.index.proofs.block_sector_at.Tie as tie
 
-joined-of-requires : tie.Need-joined-of-requires
-joined-of-requires c κs = search needs
-
-sector-at-requires : tie.Need-sector-at-requires
-sector-at-requires c κs = search needs
-
 returns : tie.Need-returns
 returns c =
     let a = c .before .before .before .args in
     c .sector-at .ensures ∙ ap (jointSector (a .image .now) (a .q .0)) (c .before .joined-of .ensures)
 
 pub block-sector-at-spec : {M : Type 1} → statement M
-block-sector-at-spec = tie.close (tie.spec joined-of-requires sector-at-requires returns)
+block-sector-at-spec = tie.close (tie.spec (λ c κs. search needs) (λ c κs. search needs) returns)

@@ -7,19 +7,10 @@ use borrow.Author.Needs.{needs}
 use Rattle.index.proofs.first_slice_at.Statement.{statement}
 use Rattle.index.proofs.first_slice_at.Tie as tie
 
-pair-count-requires : tie.Need-pair-count-requires
-pair-count-requires c κs = search needs
-
 returns : tie.Need-returns
 returns c =
     let a = c .before .before .before .args in
     first-none (a .first .0) (a .s) (a .image .now) (a .q .0) _ (c .before .pair-count .ensures) (c .if1 .taken)
-
-pair-start-requires : tie.Need-pair-start-requires
-pair-start-requires c κs = search needs
-
-slice-from-requires : tie.Need-slice-from-requires
-slice-from-requires c κs = search needs
 
 returns-2 : tie.Need-returns-2
 returns-2 c =
@@ -31,8 +22,8 @@ pub first-slice-at-spec : {M : Type 1} → statement M
 first-slice-at-spec =
     tie.close
     (tie.spec
-    pair-count-requires
+    (λ c κs. search needs)
     returns
-    pair-start-requires
-    slice-from-requires
+    (λ c κs. search needs)
+    (λ c κs. search needs)
     returns-2)

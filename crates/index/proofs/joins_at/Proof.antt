@@ -9,31 +9,10 @@ use borrow.Author.Needs.{needs}
 use Rattle.index.proofs.joins_at.Statement.{statement}
 use Rattle.index.proofs.joins_at.Tie as tie
 
-pair-count-requires : tie.Need-pair-count-requires
-pair-count-requires c κs = search needs
-
-cast-n : tie.Need-cast-n
-cast-n c = search needs
-
 returns : tie.Need-returns
 returns c =
     let a = c .before .before .before .args in
     joins-none (a .first .0) (a .s) (a .image .now) (a .q .0) _ (c .before .pair-count .ensures) (a .k .0) (c .if1 .taken)
-
-sub-pair-length : tie.Need-sub-pair-length
-sub-pair-length c = search needs
-
-pair-length-requires : tie.Need-pair-length-requires
-pair-length-requires c κs = search needs
-
-sub-pair-start : tie.Need-sub-pair-start
-sub-pair-start c = search needs
-
-pair-start-requires : tie.Need-pair-start-requires
-pair-start-requires c κs = search needs
-
-follows-requires : tie.Need-follows-requires
-follows-requires c κs = search needs
 
 returns-2 : tie.Need-returns-2
 returns-2 c =
@@ -46,12 +25,12 @@ pub joins-at-spec : {M : Type 1} → statement M
 joins-at-spec =
     tie.close
     (tie.spec
-    pair-count-requires
-    cast-n
+    (λ c κs. search needs)
+    (λ c. search needs)
     returns
-    sub-pair-length
-    pair-length-requires
-    sub-pair-start
-    pair-start-requires
-    follows-requires
+    (λ c. search needs)
+    (λ c κs. search needs)
+    (λ c. search needs)
+    (λ c κs. search needs)
+    (λ c κs. search needs)
     returns-2)

@@ -13,12 +13,6 @@ mul-sector-at c =
     let h : a .j ≤ 65535 = omega arith in
     omega (arith, mul-le-mul-left (a .s) h)
 
-sector-at-requires : tie.Need-sector-at-requires
-sector-at-requires c κs = search needs
-
-slice-from-requires : tie.Need-slice-from-requires
-slice-from-requires c κs = search needs
-
 returns : tie.Need-returns
 returns c =
     let a = c .before .before .before .args in
@@ -26,4 +20,4 @@ returns c =
 
 pub slice-number-at-spec : {M : Type 1} → statement M
 slice-number-at-spec =
-    tie.close (tie.spec mul-sector-at sector-at-requires slice-from-requires returns)
+    tie.close (tie.spec mul-sector-at (λ c κs. search needs) (λ c κs. search needs) returns)

@@ -6,12 +6,6 @@ use borrow.Author.Needs.{needs}
 use Rattle.index.proofs.slice_total_at.Statement.{statement}
 use Rattle.index.proofs.slice_total_at.Tie as tie
 
-sector-total-at-requires : tie.Need-sector-total-at-requires
-sector-total-at-requires c κs = search needs
-
-div-result : tie.Need-div-result
-div-result c = search needs
-
 cast-result : tie.Need-cast-result
 cast-result c =
     let s = c .before .before .args .s in
@@ -21,4 +15,4 @@ returns : tie.Need-returns
 returns c = ap (λ (n : ℕ). n / c .before .before .args .s) (c .sector-total-at .ensures)
 
 pub slice-total-at-spec : {M : Type 1} → statement M
-slice-total-at-spec = tie.close (tie.spec sector-total-at-requires div-result cast-result returns)
+slice-total-at-spec = tie.close (tie.spec (λ c κs. search needs) (λ c. search needs) cast-result returns)

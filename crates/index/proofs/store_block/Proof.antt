@@ -8,16 +8,10 @@ use borrow.Author.Needs.{needs}
 use Rattle.index.proofs.store_block.Statement.{statement}
 use Rattle.index.proofs.store_block.Tie as tie
 
-store-sector-requires : tie.Need-store-sector-requires
-store-sector-requires c κs = search needs
-
-same-length : tie.Need-same-length
-same-length c = search needs
-
 returns : tie.Need-returns
 returns c =
     let a = c .before .before .before .before .before .before .before .before .args in
     c .before .before .store-sector .ensures ∙ ap (store (a .image .now) (a .q .0 * 256)) (take-all 256 (a .t3 .words) (omega arith))
 
 pub store-block-spec : {M : Type 1} → statement M
-store-block-spec = tie.close (tie.spec store-sector-requires same-length returns)
+store-block-spec = tie.close (tie.spec (λ c κs. search needs) (λ c. search needs) returns)

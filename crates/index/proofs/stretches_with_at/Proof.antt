@@ -4,19 +4,10 @@ use borrow.Author.Needs.{needs}
 use Rattle.index.proofs.stretches_with_at.Statement.{statement}
 use Rattle.index.proofs.stretches_with_at.Tie as tie
 
-pair-count-requires : tie.Need-pair-count-requires
-pair-count-requires c κs = search needs
-
-joins-at-requires : tie.Need-joins-at-requires
-joins-at-requires c κs = search needs
-
 returns : tie.Need-returns
 returns c =
     let a = c .before .before .before .before .args in
     with-joined (a .first .0) (a .s) (a .image .now) (a .q .0) _ (c .before .before .pair-count .ensures) (a .k .0) _ (c .before .joins-at .ensures) (c .if1 .taken)
-
-add-result : tie.Need-add-result
-add-result c = search needs
 
 returns-2 : tie.Need-returns-2
 returns-2 c =
@@ -25,4 +16,4 @@ returns-2 c =
 
 pub stretches-with-at-spec : {M : Type 1} → statement M
 stretches-with-at-spec =
-    tie.close (tie.spec pair-count-requires joins-at-requires returns add-result returns-2)
+    tie.close (tie.spec (λ c κs. search needs) (λ c κs. search needs) returns (λ c. search needs) returns-2)

@@ -6,9 +6,9 @@ use native.Mathlib.Omega.{arith}
 use mir.Facts.{fits-widen}
 use Rattle.disc.specs.Words.{word}
 use Rattle.disc.specs.Kit.{kitSector}
-use Rattle.disc.proofs.DecideLaws.{fails, refutes, grants}
+use Rattle.disc.proofs.DecideLaws.{fails, refutes, grants, decides-eq}
 use Rattle.kit.specs.Geometry.{UnitOf}
-use Rattle.kit.proofs.KitLaws.{decides-eq, sound-unit, sound-kit, kit-top, kit-free, unit-long}
+use Rattle.kit.proofs.KitLaws.{sound-unit, sound-kit, kit-top, kit-free, unit-long}
 use borrow.Author.Needs.{needs}
 use Rattle.kit.proofs.kit_sound.Statement.{statement}
 use Rattle.kit.proofs.kit_sound.Tie as tie
@@ -21,31 +21,13 @@ unit c = record {
   slices = c .before .before .before .before .geometry-of .ensures .slices;
 }
 
-geometry-of-requires : tie.Need-geometry-of-requires
-geometry-of-requires c κs = search needs
-
-within-limits-requires : tie.Need-within-limits-requires
-within-limits-requires c κs = search needs
-
 returns : tie.Need-returns
 returns c = fails (λ k. refutes _ (c .before .within-limits .ensures) (c .if1 .taken) (sound-unit (c .before .before .geometry-of .ensures) k .limits))
-
-cast-if2 : tie.Need-cast-if2
-cast-if2 c = search needs
-
-mul-if2 : tie.Need-mul-if2
-mul-if2 c = search needs
 
 returns-2 : tie.Need-returns-2
 returns-2 c =
     let g = c .before .before .before .before .geometry-of in
     fails (λ k. c .if2 .taken (sound-unit (g .ensures) k .size ∙ mul-comm 256 (g .result .sectors)))
-
-add-if3 : tie.Need-add-if3
-add-if3 c = search needs
-
-mul-if3 : tie.Need-mul-if3
-mul-if3 c = search needs
 
 shared-slice-read-if3 : tie.Need-shared-slice-read-if3
 shared-slice-read-if3 c = omega (arith, unit-long (unit (c .before)))
@@ -59,26 +41,14 @@ map-index-requires c κs = omega (arith, unit-long (unit (c .before .before .bef
 returns-4 : tie.Need-returns-4
 returns-4 c = fails (λ k. refutes _ (c .before .map-index .ensures) (c .if4 .taken) (k .mapIndex))
 
-add-result : tie.Need-add-result
-add-result c = search needs
-
-mul-result : tie.Need-mul-result
-mul-result c = search needs
-
 shared-slice-read-result : tie.Need-shared-slice-read-result
 shared-slice-read-result c = omega (arith, unit-long (unit (c .before .before .before .before .before .before)))
 
 cast-result : tie.Need-cast-result
 cast-result c = fits-widen tt (c .shared-slice-known3 .given _)
 
-cast-result-2 : tie.Need-cast-result-2
-cast-result-2 c = search needs
-
 count-free-requires : tie.Need-count-free-requires
 count-free-requires c κs = unit-long (unit (c .before .before .before .before .before .before .before))
-
-cast-result-3 : tie.Need-cast-result-3
-cast-result-3 c = search needs
 
 mul-result-2 : tie.Need-mul-result-2
 mul-result-2 c =
@@ -98,24 +68,24 @@ pub kit-sound-spec : {M : Type 1} → statement M
 kit-sound-spec =
     tie.close
     (tie.spec
-    geometry-of-requires
-    within-limits-requires
+    (λ c κs. search needs)
+    (λ c κs. search needs)
     returns
-    cast-if2
-    mul-if2
+    (λ c. search needs)
+    (λ c. search needs)
     returns-2
-    add-if3
-    mul-if3
+    (λ c. search needs)
+    (λ c. search needs)
     shared-slice-read-if3
     returns-3
     map-index-requires
     returns-4
-    add-result
-    mul-result
+    (λ c. search needs)
+    (λ c. search needs)
     shared-slice-read-result
     cast-result
-    cast-result-2
+    (λ c. search needs)
     count-free-requires
-    cast-result-3
+    (λ c. search needs)
     mul-result-2
     returns-5)

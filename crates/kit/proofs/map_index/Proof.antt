@@ -2,38 +2,17 @@
 use native.Mathlib.Omega.{arith}
 use Rattle.disc.specs.Words.{word}
 use Rattle.disc.specs.Kit.{mapIndexSector}
-use Rattle.disc.proofs.DecideLaws.{fails}
-use Rattle.kit.proofs.KitLaws.{decides-eq, holds-three}
+use Rattle.disc.proofs.DecideLaws.{fails, decides-eq}
+use Rattle.kit.proofs.KitLaws.{holds-three}
 use borrow.Author.Needs.{needs}
 use Rattle.kit.proofs.map_index.Statement.{statement}
 use Rattle.kit.proofs.map_index.Tie as tie
 
-shared-slice-read-if1 : tie.Need-shared-slice-read-if1
-shared-slice-read-if1 c = search needs
-
 returns : tie.Need-returns
 returns c = fails (λ h. c .if1 .taken (h .at 0 (omega arith) (omega arith)))
 
-add-if2 : tie.Need-add-if2
-add-if2 c = search needs
-
-mul-if2 : tie.Need-mul-if2
-mul-if2 c = search needs
-
-shared-slice-read-if2 : tie.Need-shared-slice-read-if2
-shared-slice-read-if2 c = search needs
-
 returns-2 : tie.Need-returns-2
 returns-2 c = fails (λ h. c .if2 .taken (h .at 1 (omega arith) (omega arith)))
-
-add-result : tie.Need-add-result
-add-result c = search needs
-
-mul-result : tie.Need-mul-result
-mul-result c = search needs
-
-shared-slice-read-result : tie.Need-shared-slice-read-result
-shared-slice-read-result c = search needs
 
 returns-3 : tie.Need-returns-3
 returns-3 c =
@@ -44,13 +23,13 @@ pub map-index-spec : {M : Type 1} → statement M
 map-index-spec =
     tie.close
     (tie.spec
-    shared-slice-read-if1
+    (λ c. search needs)
     returns
-    add-if2
-    mul-if2
-    shared-slice-read-if2
+    (λ c. search needs)
+    (λ c. search needs)
+    (λ c. search needs)
     returns-2
-    add-result
-    mul-result
-    shared-slice-read-result
+    (λ c. search needs)
+    (λ c. search needs)
+    (λ c. search needs)
     returns-3)

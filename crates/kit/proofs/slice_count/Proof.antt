@@ -16,11 +16,5 @@ returns-2 c =
     let e : a .sectors - a .first .0 ≡ 0 = omega arith in
     sym (ap (λ (n : ℕ). n / a .slice) e ∙ zero-div (a .slice))
 
-div-result : tie.Need-div-result
-div-result c = search needs
-
-returns-3 : tie.Need-returns-3
-returns-3 c = search needs
-
 pub slice-count-spec : {M : Type 1} → statement M
-slice-count-spec = tie.close (tie.spec returns returns-2 div-result returns-3)
+slice-count-spec = tie.close (tie.spec returns returns-2 (λ c. search needs) (λ c. search needs))

@@ -2,8 +2,8 @@
 use Prim.Native.Nat.{_-_}
 use native.Mathlib.Nat.{div-mul-le-self}
 use native.Mathlib.Omega.{arith}
-use Rattle.disc.proofs.DecideLaws.{fails}
-use Rattle.kit.proofs.KitLaws.{decides-le, product-whole, whole-product, enough, enough-only}
+use Rattle.disc.proofs.DecideLaws.{fails, decides-le}
+use Rattle.kit.proofs.KitLaws.{product-whole, whole-product, enough, enough-only}
 use borrow.Author.Needs.{needs}
 use Rattle.kit.proofs.within_limits.Statement.{statement}
 use Rattle.kit.proofs.within_limits.Tie as tie
@@ -28,12 +28,6 @@ returns-6 c = fails (λ l. omega arith)
 
 returns-7 : tie.Need-returns-7
 returns-7 c = fails (λ l. omega arith)
-
-sub-data : tie.Need-sub-data
-sub-data c = search needs
-
-div-slices : tie.Need-div-slices
-div-slices c = search needs
 
 mul-if8 : tie.Need-mul-if8
 mul-if8 c =
@@ -80,8 +74,8 @@ within-limits-spec =
     returns-5
     returns-6
     returns-7
-    sub-data
-    div-slices
+    (λ c. search needs)
+    (λ c. search needs)
     mul-if8
     returns-8
     returns-9

@@ -4,8 +4,6 @@ use mathlib.Core.Bool.{Bool, true}
 use borrow.Author.Needs.{needs}
 use Rattle.disc.specs.Decide.{Decides}
 use Rattle.disc.proofs.DecideLaws.{true≢false}
-use Rattle.state.proofs.ShapeLaws.{areas-length}
-use Rattle.users.proofs.AreaLaws.{none-open}
 use Rattle.known.proofs.ready.Statement.{statement}
 use Rattle.known.proofs.ready.Tie as tie
 
@@ -22,10 +20,7 @@ ready-spec =
     (λ c. search needs)
     (λ c. search needs)
     (λ c. search needs)
-    (λ c.
-    let start = c .before .before .before in
-    let state = start .args .state in
-    rw (c .before .enum-told .given .1, c .any-open .ensures) (none-open state (areas-length state _ (start .good .0))))
+    (λ c. rw (c .before .enum-told .given .1) (c .none-open .ensures))
     (λ c. rw (c .enum-told2 .given .1) (itself _))
     (λ c. rw (c .enum-told3 .given .1) (itself _))
     (λ c. rw (c .enum-told4 .given .1) (itself _)))

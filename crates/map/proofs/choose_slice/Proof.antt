@@ -8,20 +8,11 @@ use Rattle.map.proofs.AnswerLaws.{chosen-answers}
 use Rattle.map.proofs.choose_slice.Statement.{statement}
 use Rattle.map.proofs.choose_slice.Tie as tie
 
-add-t6 : tie.Need-add-t6
-add-t6 c = search needs
-
-is-free-requires : tie.Need-is-free-requires
-is-free-requires c κs = search needs
-
 returns : tie.Need-returns
 returns c =
     let start = c .before .before .before .before .before .before in
     chosen-answers (start .args .image .now) (start .args .slices) (start .args .last .0) (start .pre .0)
     (answer-next _ _ _ (c .before .before .before .if1 .taken) (free-test _ _ (sym (c .before .is-free .ensures) ∙ c .if2 .taken)))
-
-lowest-free-requires : tie.Need-lowest-free-requires
-lowest-free-requires c κs = search needs
 
 returns-2 : tie.Need-returns-2
 returns-2 c =
@@ -35,4 +26,4 @@ returns-2 c =
 
 pub choose-slice-spec : {M : Type 1} → statement M
 choose-slice-spec =
-    tie.close (tie.spec add-t6 is-free-requires returns lowest-free-requires returns-2)
+    tie.close (tie.spec (λ c. search needs) (λ c κs. search needs) returns (λ c κs. search needs) returns-2)

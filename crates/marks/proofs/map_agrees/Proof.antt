@@ -25,12 +25,6 @@ edge c =
     let a = c .before .before .before .before .before .before .before .before .before .args in
     omega (arith, c .before .shared-slice-known2 .given (mapSector * 256 + a .g .slices / 16))
 
-cast-full : tie.Need-cast-full
-cast-full c = search needs
-
-filled-requires : tie.Need-filled-requires
-filled-requires c κs = search needs
-
 returns : tie.Need-returns
 returns c =
     let a = c .before .before .before .before .args in
@@ -46,35 +40,8 @@ returns-2 c =
     agree-full (a .image .now) (a .marks .now) (a .g .slices) all (words f) (few f) is once (c .if2 .taken)
     (grants _ (f .filled .ensures) (c .before .if1 .left)))
 
-cast-bit-word : tie.Need-cast-bit-word
-cast-bit-word c = search needs
-
-bit-word-requires : tie.Need-bit-word-requires
-bit-word-requires c κs = search needs
-
-cast-past : tie.Need-cast-past
-cast-past c = search needs
-
-mul-past : tie.Need-mul-past
-mul-past c = search needs
-
-add-if3 : tie.Need-add-if3
-add-if3 c = search needs
-
-mul-if3 : tie.Need-mul-if3
-mul-if3 c = search needs
-
-shared-slice-read-if3 : tie.Need-shared-slice-read-if3
-shared-slice-read-if3 c = search needs
-
 cast-if3 : tie.Need-cast-if3
 cast-if3 c = fits-widen tt (c .shared-slice-known2 .given _)
-
-mul-packed : tie.Need-mul-packed
-mul-packed c = search needs
-
-packed-requires : tie.Need-packed-requires
-packed-requires c κs = search needs
 
 add-if3-2 : tie.Need-add-if3-2
 add-if3-2 c = omega (arith, edge c)
@@ -92,12 +59,6 @@ returns-3 c =
     (agree-edge (a .image .now) (a .marks .now) (a .g .slices) all (words f) (few f) is once
     _ _ _ refl (c .before .packed .ensures .0) (c .before .before .before .bit-word .ensures) (omega (arith, few f, e .if2 .left)) sound))
 
-add-cleared : tie.Need-add-cleared
-add-cleared c = search needs
-
-cleared-requires : tie.Need-cleared-requires
-cleared-requires c κs = search needs
-
 returns-4 : tie.Need-returns-4
 returns-4 c =
     let e = c .before .before .before .before .before .before in
@@ -112,23 +73,23 @@ pub map-agrees-spec : {M : Type 1} → statement M
 map-agrees-spec =
     tie.close
     (tie.spec
-    cast-full
-    filled-requires
+    (λ c. search needs)
+    (λ c κs. search needs)
     returns
     returns-2
-    cast-bit-word
-    bit-word-requires
-    cast-past
-    mul-past
-    add-if3
-    mul-if3
-    shared-slice-read-if3
+    (λ c. search needs)
+    (λ c κs. search needs)
+    (λ c. search needs)
+    (λ c. search needs)
+    (λ c. search needs)
+    (λ c. search needs)
+    (λ c. search needs)
     cast-if3
-    mul-packed
-    packed-requires
+    (λ c. search needs)
+    (λ c κs. search needs)
     add-if3-2
     add-if3-3
     returns-3
-    add-cleared
-    cleared-requires
+    (λ c. search needs)
+    (λ c κs. search needs)
     returns-4)

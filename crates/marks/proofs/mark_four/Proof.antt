@@ -18,39 +18,15 @@ refused l j above below taken =
     let s = l .before in
     four-refused (s .args .marks .now) (s .args .from) (s .args .count) (l .lesser .result) _ (s .pre .0) (s .pre .1) refl (l .lesser .ensures .1) (l .lesser .ensures .2) j above below taken
 
-sub-last : tie.Need-sub-last
-sub-last c = search needs
-
-add-last : tie.Need-add-last
-add-last c = search needs
-
-add-lesser : tie.Need-add-lesser
-add-lesser c = search needs
-
-lesser-requires : tie.Need-lesser-requires
-lesser-requires c κs = search needs
-
-element-copy-out-if1 : tie.Need-element-copy-out-if1
-element-copy-out-if1 c = search needs
-
 returns : tie.Need-returns
 returns c =
     let l = c .before .before in
     refused l (l .before .args .from) (omega arith) (omega arith) (c .if1 .taken)
 
-add-if2 : tie.Need-add-if2
-add-if2 c = search needs
-
-element-copy-out-if2 : tie.Need-element-copy-out-if2
-element-copy-out-if2 c = search needs
-
 returns-2 : tie.Need-returns-2
 returns-2 c =
     let l = c .before .before .before .before in
     refused l (l .before .args .from + 1) (omega arith) (omega arith) (c .if2 .taken)
-
-element-copy-out-if3 : tie.Need-element-copy-out-if3
-element-copy-out-if3 c = search needs
 
 returns-3 : tie.Need-returns-3
 returns-3 c =
@@ -61,28 +37,10 @@ returns-3 c =
     (λ h. omega (arith, l .lesser .ensures .1 h)) in
     refused l (l .lesser .result) above (omega arith) (c .if3 .taken)
 
-element-copy-out-if4 : tie.Need-element-copy-out-if4
-element-copy-out-if4 c = search needs
-
 returns-4 : tie.Need-returns-4
 returns-4 c =
     let l = c .before .before .before .before .before .before .before .before in
     refused l _ (omega arith) (omega arith) (c .if4 .taken)
-
-element-write-marks : tie.Need-element-write-marks
-element-write-marks c = search needs
-
-add-marks : tie.Need-add-marks
-add-marks c = search needs
-
-element-write-marks-2 : tie.Need-element-write-marks-2
-element-write-marks-2 c = search needs
-
-element-write-marks-3 : tie.Need-element-write-marks-3
-element-write-marks-3 c = search needs
-
-element-write-marks-4 : tie.Need-element-write-marks-4
-element-write-marks-4 c = search needs
 
 returns-5 : tie.Need-returns-5
 returns-5 c =
@@ -98,22 +56,22 @@ pub mark-four-spec : {M : Type 1} → statement M
 mark-four-spec =
     tie.close
     (tie.spec
-    sub-last
-    add-last
-    add-lesser
-    lesser-requires
-    element-copy-out-if1
+    (λ c. search needs)
+    (λ c. search needs)
+    (λ c. search needs)
+    (λ c κs. search needs)
+    (λ c. search needs)
     returns
-    add-if2
-    element-copy-out-if2
+    (λ c. search needs)
+    (λ c. search needs)
     returns-2
-    element-copy-out-if3
+    (λ c. search needs)
     returns-3
-    element-copy-out-if4
+    (λ c. search needs)
     returns-4
-    element-write-marks
-    add-marks
-    element-write-marks-2
-    element-write-marks-3
-    element-write-marks-4
+    (λ c. search needs)
+    (λ c. search needs)
+    (λ c. search needs)
+    (λ c. search needs)
+    (λ c. search needs)
     returns-5)

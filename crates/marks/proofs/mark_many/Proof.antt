@@ -5,14 +5,8 @@ use borrow.Author.Needs.{needs}
 use Rattle.marks.proofs.mark_many.Statement.{statement}
 use Rattle.marks.proofs.mark_many.Tie as tie
 
-is-free-requires : tie.Need-is-free-requires
-is-free-requires c κs = search needs
-
 returns : tie.Need-returns
 returns c = run-refused _ _ (refutes _ (c .before .is-free .ensures) (c .if1 .taken))
-
-set-run-requires : tie.Need-set-run-requires
-set-run-requires c κs = search needs
 
 returns-2 : tie.Need-returns-2
 returns-2 c =
@@ -20,4 +14,4 @@ returns-2 c =
     run-done _ _ (grants _ (else1 .before .is-free .ensures) (else1 .if1 .left)) (c .set-run .ensures)
 
 pub mark-many-spec : {M : Type 1} → statement M
-mark-many-spec = tie.close (tie.spec is-free-requires returns set-run-requires returns-2)
+mark-many-spec = tie.close (tie.spec (λ c κs. search needs) returns (λ c κs. search needs) returns-2)

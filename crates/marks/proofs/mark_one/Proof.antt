@@ -4,17 +4,11 @@ use borrow.Author.Needs.{needs}
 use Rattle.marks.proofs.mark_one.Statement.{statement}
 use Rattle.marks.proofs.mark_one.Tie as tie
 
-element-copy-out-if1 : tie.Need-element-copy-out-if1
-element-copy-out-if1 c = search needs
-
 returns : tie.Need-returns
 returns c = one-refused _ (c .if1 .taken)
-
-element-write-marks : tie.Need-element-write-marks
-element-write-marks c = search needs
 
 returns-2 : tie.Need-returns-2
 returns-2 c = one-done _ (c .if1 .left)
 
 pub mark-one-spec : {M : Type 1} → statement M
-mark-one-spec = tie.close (tie.spec element-copy-out-if1 returns element-write-marks returns-2)
+mark-one-spec = tie.close (tie.spec (λ c. search needs) returns (λ c. search needs) returns-2)

@@ -32,12 +32,6 @@ run c = run-from (from-is (found c)) (c .mark-slices .ensures)
 returns : tie.Need-returns
 returns c = refuse-pair _ _ _ (λ held marked whole once. omega (arith, whole .low))
 
-slice-of-requires : tie.Need-slice-of-requires
-slice-of-requires c κs = search needs
-
-starts-at-requires : tie.Need-starts-at-requires
-starts-at-requires c κs = search needs
-
 returns-2 : tie.Need-returns-2
 returns-2 c =
     let k = c .before .before in
@@ -47,12 +41,6 @@ returns-2 c =
     let e : a .start .0 ≡ sliceStart (a .g .first .0) (a .g .slice) (k .slice-of .result .0) = omega (arith, back, whole .low) in
     refutes _ (c .before .starts-at .ensures) (c .if2 .taken) e)
 
-cast-slice : tie.Need-cast-slice
-cast-slice c = search needs
-
-div-count : tie.Need-div-count
-div-count c = search needs
-
 mul-if3 : tie.Need-mul-if3
 mul-if3 c = let a = entry (c .before .before .before) .args in omega (arith, div-mul-le-self (a .sectors) (a .g .slice))
 
@@ -60,15 +48,6 @@ returns-3 : tie.Need-returns-3
 returns-3 c =
     let a = entry (c .before .before .before .before) .args in
     refuse-pair _ _ _ (λ held marked whole once. c .if3 .taken (whole-product (a .sectors) (a .g .slice) (whole .whole)))
-
-cast-if4 : tie.Need-cast-if4
-cast-if4 c = search needs
-
-sub-if4 : tie.Need-sub-if4
-sub-if4 c = search needs
-
-cast-if4-2 : tie.Need-cast-if4-2
-cast-if4-2 c = search needs
 
 add-if4 : tie.Need-add-if4
 add-if4 c =
@@ -86,12 +65,6 @@ returns-5 c =
     let a = entry (c .before .before .before .before .before .before .before .before) .args in
     refuse-pair _ _ _ (λ held marked whole once. omega (arith, some-count (a .g) (a .sectors) (a .start .0) whole, c .if5 .taken))
 
-cast-mark-slices : tie.Need-cast-mark-slices
-cast-mark-slices c = search needs
-
-mark-slices-requires : tie.Need-mark-slices-requires
-mark-slices-requires c κs = search needs
-
 returns-6 : tie.Need-returns-6
 returns-6 c =
     let m = c .before in
@@ -100,9 +73,6 @@ returns-6 c =
     let fits = m .before .before .before .if4 .left in
     refuse-pair _ _ _ (λ held marked whole once.
     run-marking _ _ (omega (arith, from-is k, fits, s .pre .1, s .pre .0 .slices-high)) (run m) (s .args .g .slices) held (omega (arith, from-is k, fits)) marked .not (not-true _ (c .if6 .taken)) tt once)
-
-cast-result : tie.Need-cast-result
-cast-result c = search needs
 
 returns-7 : tie.Need-returns-7
 returns-7 c =
@@ -122,21 +92,21 @@ mark-pair-spec =
     tie.close
     (tie.spec
     returns
-    slice-of-requires
-    starts-at-requires
+    (λ c κs. search needs)
+    (λ c κs. search needs)
     returns-2
-    cast-slice
-    div-count
+    (λ c. search needs)
+    (λ c. search needs)
     mul-if3
     returns-3
-    cast-if4
-    sub-if4
-    cast-if4-2
+    (λ c. search needs)
+    (λ c. search needs)
+    (λ c. search needs)
     add-if4
     returns-4
     returns-5
-    cast-mark-slices
-    mark-slices-requires
+    (λ c. search needs)
+    (λ c κs. search needs)
     returns-6
-    cast-result
+    (λ c. search needs)
     returns-7)

@@ -65,9 +65,6 @@ returns c = single-left _ _ _ _ (λ file. omega (arith, file .slices .low))
 slice-by-requires : tie.Need-slice-by-requires
 slice-by-requires c κs = (c .if1 .left, few (c .before .before .before .before .before))
 
-starts-at-requires : tie.Need-starts-at-requires
-starts-at-requires c κs = search needs
-
 returns-2 : tie.Need-returns-2
 returns-2 c =
     let k = c .before .before in
@@ -80,12 +77,6 @@ returns-2 c =
 
 slices-by-requires : tie.Need-slices-by-requires
 slices-by-requires c κs = few (entry (c .before .before))
-
-cast-count : tie.Need-cast-count
-cast-count c = search needs
-
-cast-if3 : tie.Need-cast-if3
-cast-if3 c = search needs
 
 mul-if3 : tie.Need-mul-if3
 mul-if3 c =
@@ -108,18 +99,6 @@ returns-4 c =
     single-left _ _ _ _ (λ file.
     omega (arith, c .if4 .taken, guessed-count n file, single-count (a .image .now) (a .g) (a .q .0) (a .sectors) (s .pre .0) file .1))
 
-cast-if5 : tie.Need-cast-if5
-cast-if5 c = search needs
-
-sub-if5 : tie.Need-sub-if5
-sub-if5 c = search needs
-
-cast-if5-2 : tie.Need-cast-if5-2
-cast-if5-2 c = search needs
-
-add-if5 : tie.Need-add-if5
-add-if5 c = search needs
-
 returns-5 : tie.Need-returns-5
 returns-5 c =
     let n = c .before .before .before .before .before .before in
@@ -133,12 +112,6 @@ one-pair-requires c κs = omega (arith, entry (slice (counted c)) .pre .0 .size,
 
 returns-6 : tie.Need-returns-6
 returns-6 c = single-left _ _ _ _ (λ file. refutes _ (c .before .one-pair .ensures) (c .if6 .taken) (file .pair))
-
-cast-mark-slices : tie.Need-cast-mark-slices
-cast-mark-slices c = search needs
-
-mark-slices-requires : tie.Need-mark-slices-requires
-mark-slices-requires c κs = search needs
 
 returns-7 : tie.Need-returns-7
 returns-7 c =
@@ -155,21 +128,21 @@ mark-single-spec =
     (tie.spec
     returns
     slice-by-requires
-    starts-at-requires
+    (λ c κs. search needs)
     returns-2
     slices-by-requires
-    cast-count
-    cast-if3
+    (λ c. search needs)
+    (λ c. search needs)
     mul-if3
     returns-3
     returns-4
-    cast-if5
-    sub-if5
-    cast-if5-2
-    add-if5
+    (λ c. search needs)
+    (λ c. search needs)
+    (λ c. search needs)
+    (λ c. search needs)
     returns-5
     one-pair-requires
     returns-6
-    cast-mark-slices
-    mark-slices-requires
+    (λ c. search needs)
+    (λ c κs. search needs)
     returns-7)

@@ -5,12 +5,6 @@ use Rattle.names.proofs.RangeLaws.{classed}
 use Rattle.names.proofs.classes.Statement.{statement}
 use Rattle.names.proofs.classes.Tie as tie
 
-array-write-table : tie.Need-array-write-table
-array-write-table c = search needs
-
-class-range-requires : tie.Need-class-range-requires
-class-range-requires c κs = search needs
-
 class-range-requires-2 : tie.Need-class-range-requires-2
 class-range-requires-2 c κs = (omega arith, omega arith, c .before .class-range .ensures .size)
 
@@ -22,4 +16,4 @@ returns c =
     classed (c .before .before .before .before .class-range .ensures) (c .before .before .class-range2 .ensures) (c .class-range3 .ensures)
 
 pub classes-spec : {M : Type 1} → statement M
-classes-spec = tie.close (tie.spec array-write-table class-range-requires class-range-requires-2 class-range-requires-3 returns)
+classes-spec = tie.close (tie.spec (λ c. search needs) (λ c κs. search needs) class-range-requires-2 class-range-requires-3 returns)

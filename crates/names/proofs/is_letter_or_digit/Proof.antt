@@ -5,9 +5,6 @@ use borrow.Author.Tests.{le-leb, lt-leb}
 use Rattle.names.proofs.is_letter_or_digit.Statement.{statement}
 use Rattle.names.proofs.is_letter_or_digit.Tie as tie
 
-is-letter-requires : tie.Need-is-letter-requires
-is-letter-requires c κs = search needs
-
 returns : tie.Need-returns
 returns c = rw (sym (c .before .is-letter .ensures) ∙ c .if1 .taken)
 
@@ -18,4 +15,4 @@ returns-3 : tie.Need-returns-3
 returns-3 c = rw (sym (c .before .before .is-letter .ensures) ∙ c .before .if1 .left, le-leb _ _ (c .if2 .left))
 
 pub is-letter-or-digit-spec : {M : Type 1} → statement M
-is-letter-or-digit-spec = tie.close (tie.spec is-letter-requires returns returns-2 returns-3)
+is-letter-or-digit-spec = tie.close (tie.spec (λ c κs. search needs) returns returns-2 returns-3)

@@ -8,9 +8,6 @@ use Rattle.disc.specs.Names.{SYS, MAP, isSystem}
 use Rattle.names.proofs.is_system.Statement.{statement}
 use Rattle.names.proofs.is_system.Tie as tie
 
-packed-requires : tie.Need-packed-requires
-packed-requires c κs = search needs
-
 returns : tie.Need-returns
 returns c =
     let n = c .before .packed .result in
@@ -24,4 +21,4 @@ returns-2 c =
     e ∙ ap isSystem (c .before .packed .ensures)
 
 pub is-system-spec : {M : Type 1} → statement M
-is-system-spec = tie.close (tie.spec packed-requires returns returns-2)
+is-system-spec = tie.close (tie.spec (λ c κs. search needs) returns returns-2)

@@ -48,58 +48,25 @@ left3 c = left2 (c .before .before) ∙ goes-2 (number3 c) (was-true (c .before 
 left4 : (c : tie.Else4) → whole4 c ≡ rest4 (number4 c)
 left4 c = left3 (c .before .before) ∙ goes-3 (number4 c) (was-true (c .before .is-letter-or-digit3 .ensures) (c .if4 .left))
 
-packed-requires : tie.Need-packed-requires
-packed-requires c κs = search needs
-
-cast-is-letter : tie.Need-cast-is-letter
-cast-is-letter c = search needs
-
-is-letter-requires : tie.Need-is-letter-requires
-is-letter-requires c κs = search needs
-
 returns : tie.Need-returns
 returns c =
     let n = c .before .before .packed in
     sym (begins-not (n .result) (was-false (c .before .is-letter .ensures) (c .if1 .taken))) ∙ ap legalName (n .ensures)
-
-cast-is-letter-or-digit : tie.Need-cast-is-letter-or-digit
-cast-is-letter-or-digit c = search needs
-
-is-letter-or-digit-requires : tie.Need-is-letter-or-digit-requires
-is-letter-or-digit-requires c κs = search needs
 
 returns-2 : tie.Need-returns-2
 returns-2 c =
     let b = c .before .before in
     sym (left1 b ∙ stops-1 (number1 b) (was-false (c .before .is-letter-or-digit .ensures) (c .if2 .taken)))
 
-cast-is-letter-or-digit-2 : tie.Need-cast-is-letter-or-digit-2
-cast-is-letter-or-digit-2 c = search needs
-
-is-letter-or-digit-requires-2 : tie.Need-is-letter-or-digit-requires-2
-is-letter-or-digit-requires-2 c κs = search needs
-
 returns-3 : tie.Need-returns-3
 returns-3 c =
     let b = c .before .before in
     sym (left2 b ∙ stops-2 (number2 b) (was-false (c .before .is-letter-or-digit2 .ensures) (c .if3 .taken)))
 
-cast-is-letter-or-digit-3 : tie.Need-cast-is-letter-or-digit-3
-cast-is-letter-or-digit-3 c = search needs
-
-is-letter-or-digit-requires-3 : tie.Need-is-letter-or-digit-requires-3
-is-letter-or-digit-requires-3 c κs = search needs
-
 returns-4 : tie.Need-returns-4
 returns-4 c =
     let b = c .before .before in
     sym (left3 b ∙ stops-3 (number3 b) (was-false (c .before .is-letter-or-digit3 .ensures) (c .if4 .taken)))
-
-cast-is-letter-or-digit-4 : tie.Need-cast-is-letter-or-digit-4
-cast-is-letter-or-digit-4 c = search needs
-
-is-letter-or-digit-requires-4 : tie.Need-is-letter-or-digit-requires-4
-is-letter-or-digit-requires-4 c κs = search needs
 
 returns-5 : tie.Need-returns-5
 returns-5 c =
@@ -115,20 +82,20 @@ pub legal-spec : {M : Type 1} → statement M
 legal-spec =
     tie.close
     (tie.spec
-    packed-requires
-    cast-is-letter
-    is-letter-requires
+    (λ c κs. search needs)
+    (λ c. search needs)
+    (λ c κs. search needs)
     returns
-    cast-is-letter-or-digit
-    is-letter-or-digit-requires
+    (λ c. search needs)
+    (λ c κs. search needs)
     returns-2
-    cast-is-letter-or-digit-2
-    is-letter-or-digit-requires-2
+    (λ c. search needs)
+    (λ c κs. search needs)
     returns-3
-    cast-is-letter-or-digit-3
-    is-letter-or-digit-requires-3
+    (λ c. search needs)
+    (λ c κs. search needs)
     returns-4
-    cast-is-letter-or-digit-4
-    is-letter-or-digit-requires-4
+    (λ c. search needs)
+    (λ c κs. search needs)
     returns-5
     returns-6)

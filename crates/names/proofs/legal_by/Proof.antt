@@ -39,36 +39,6 @@ returns c =
     let a = c .before .before .args .name in
     sym (not-letter (a .0) (a .1) (a .2) (omega arith) (omega arith) (letter-low (a .0 / 256) (c .if1 .taken)))
 
-cast-first : tie.Need-cast-first
-cast-first c = search needs
-
-element-copy-out-first : tie.Need-element-copy-out-first
-element-copy-out-first c = search needs
-
-cast-second : tie.Need-cast-second
-cast-second c = search needs
-
-element-copy-out-second : tie.Need-element-copy-out-second
-element-copy-out-second c = search needs
-
-cast-third : tie.Need-cast-third
-cast-third c = search needs
-
-element-copy-out-third : tie.Need-element-copy-out-third
-element-copy-out-third c = search needs
-
-cast-fourth : tie.Need-cast-fourth
-cast-fourth c = search needs
-
-element-copy-out-fourth : tie.Need-element-copy-out-fourth
-element-copy-out-fourth c = search needs
-
-cast-fifth : tie.Need-cast-fifth
-cast-fifth c = search needs
-
-element-copy-out-fifth : tie.Need-element-copy-out-fifth
-element-copy-out-fifth c = search needs
-
 returns-2 : tie.Need-returns-2
 returns-2 c =
     let test = c .before .before .before .before .before .before .before .before .before .before in
@@ -105,16 +75,16 @@ legal-by-spec =
     tie.close
     (tie.spec
     returns
-    cast-first
-    element-copy-out-first
-    cast-second
-    element-copy-out-second
-    cast-third
-    element-copy-out-third
-    cast-fourth
-    element-copy-out-fourth
-    cast-fifth
-    element-copy-out-fifth
+    (λ c. search needs)
+    (λ c. search needs)
+    (λ c. search needs)
+    (λ c. search needs)
+    (λ c. search needs)
+    (λ c. search needs)
+    (λ c. search needs)
+    (λ c. search needs)
+    (λ c. search needs)
+    (λ c. search needs)
     returns-2
     returns-3
     returns-4

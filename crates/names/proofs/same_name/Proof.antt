@@ -3,14 +3,8 @@ use borrow.Author.Needs.{needs}
 use Rattle.names.proofs.same_name.Statement.{statement}
 use Rattle.names.proofs.same_name.Tie as tie
 
-packed-requires : tie.Need-packed-requires
-packed-requires c κs = search needs
-
-packed-requires-2 : tie.Need-packed-requires-2
-packed-requires-2 c κs = search needs
-
 returns : tie.Need-returns
 returns c = rw (c .before .packed .ensures, c .packed2 .ensures)
 
 pub same-name-spec : {M : Type 1} → statement M
-same-name-spec = tie.close (tie.spec packed-requires packed-requires-2 returns)
+same-name-spec = tie.close (tie.spec (λ c κs. search needs) (λ c κs. search needs) returns)

@@ -4,9 +4,6 @@ use borrow.Author.Needs.{needs}
 use Rattle.numbers.proofs.bit.Statement.{statement}
 use Rattle.numbers.proofs.bit.Tie as tie
 
-bit-word-requires : tie.Need-bit-word-requires
-bit-word-requires c κs = search needs
-
 div-result : tie.Need-div-result
 div-result c = rw (c .bit-word .ensures) (pow-pos _)
 
@@ -14,4 +11,4 @@ returns : tie.Need-returns
 returns c = rw (c .bit-word .ensures)
 
 pub bit-spec : {M : Type 1} → statement M
-bit-spec = tie.close (tie.spec bit-word-requires div-result returns)
+bit-spec = tie.close (tie.spec (λ c κs. search needs) div-result returns)

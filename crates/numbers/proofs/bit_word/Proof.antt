@@ -7,17 +7,8 @@ use borrow.Author.Needs.{needs}
 use Rattle.numbers.proofs.bit_word.Statement.{statement}
 use Rattle.numbers.proofs.bit_word.Tie as tie
 
-sub-result : tie.Need-sub-result
-sub-result c = search needs
-
-cast-result : tie.Need-cast-result
-cast-result c = search needs
-
-shl-result : tie.Need-shl-result
-shl-result c = search needs
-
 returns : tie.Need-returns
 returns c = shl-exact 1 _ 16 (omega arith) (omega arith) ∙ one-mul _
 
 pub bit-word-spec : {M : Type 1} → statement M
-bit-word-spec = tie.close (tie.spec sub-result cast-result shl-result returns)
+bit-word-spec = tie.close (tie.spec (λ c. search needs) (λ c. search needs) (λ c. search needs) returns)

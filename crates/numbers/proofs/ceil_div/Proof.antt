@@ -14,12 +14,6 @@ returns c =
     let b = c .before .args .b in
     sym (ap (λ (n : ℕ). ceilDiv n b) (c .if1 .taken) ∙ ceilDiv-none b (omega arith))
 
-sub-result : tie.Need-sub-result
-sub-result c = search needs
-
-div-result : tie.Need-div-result
-div-result c = search needs
-
 add-result : tie.Need-add-result
 add-result c = omega (arith, div-le-self (c .before .args .a - 1) (c .before .args .b))
 
@@ -27,4 +21,4 @@ returns-2 : tie.Need-returns-2
 returns-2 c = sym (ceilDiv-some _ _ (omega arith) (omega arith))
 
 pub ceil-div-spec : {M : Type 1} → statement M
-ceil-div-spec = tie.close (tie.spec returns sub-result div-result add-result returns-2)
+ceil-div-spec = tie.close (tie.spec returns (λ c. search needs) (λ c. search needs) add-result returns-2)

@@ -8,15 +8,6 @@ use Rattle.disc.proofs.NameLaws.{key-pack}
 use Rattle.numbers.proofs.key.Statement.{statement}
 use Rattle.numbers.proofs.key.Tie as tie
 
-wrapping-add-u16-requires : tie.Need-wrapping-add-u16-requires
-wrapping-add-u16-requires c κs = search needs
-
-wrapping-add-u16-requires-2 : tie.Need-wrapping-add-u16-requires-2
-wrapping-add-u16-requires-2 c κs = search needs
-
-rem-result : tie.Need-rem-result
-rem-result c = search needs
-
 by-sums : (a b c h : ℕ) {first second : ℕ} → b < 65536 → c < 65536 → first ≡ (a + b) % 65536 → second ≡ (first + c) % 65536
     → second % h ≡ keyOf h (pack a b c)
 by-sums a b c h p q e f = sym (key-pack a b c h p q ∙ ap (λ (x : ℕ). x % h) (omega arith))
@@ -25,4 +16,4 @@ returns : tie.Need-returns
 returns c = by-sums _ _ _ _ (search needs) (search needs) (c .before .wrapping-add-u16 .ensures) (c .wrapping-add-u162 .ensures)
 
 pub key-spec : {M : Type 1} → statement M
-key-spec = tie.close (tie.spec wrapping-add-u16-requires wrapping-add-u16-requires-2 rem-result returns)
+key-spec = tie.close (tie.spec (λ c κs. search needs) (λ c κs. search needs) (λ c. search needs) returns)

@@ -21,8 +21,5 @@ add-result c = omega (arith, product c)
 add-result-2 : tie.Need-add-result-2
 add-result-2 c = omega (arith, product c)
 
-returns : tie.Need-returns
-returns c = search needs
-
 pub key-joined-spec : {M : Type 1} → statement M
-key-joined-spec = tie.close (tie.spec mul-result add-result add-result-2 returns)
+key-joined-spec = tie.close (tie.spec mul-result add-result add-result-2 (λ c. search needs))

@@ -8,28 +8,16 @@ use borrow.Author.Needs.{needs}
 use Rattle.numbers.proofs.last_slice_of.Statement.{statement}
 use Rattle.numbers.proofs.last_slice_of.Tie as tie
 
-div-t6 : tie.Need-div-t6
-div-t6 c = search needs
-
 returns : tie.Need-returns
 returns c =
     let a = c .before .before .before .args in
     let none : (a .q .0 - a .first .0) / a .s ≡ 0 = div-eq-of-lt (omega arith) in
     omega arith
 
-div-t8 : tie.Need-div-t8
-div-t8 c = search needs
-
-div-t9 : tie.Need-div-t9
-div-t9 c = search needs
-
 add-t10 : tie.Need-add-t10
 add-t10 c =
     let a = c .before .before .before .before .before .args in
     omega (arith, quotient-lt (a .q .0 - a .first .0) (a .s) 32768 (omega arith) (omega arith), quotient-lt (a .length) (a .s) 32768 (omega arith) (omega arith))
 
-returns-2 : tie.Need-returns-2
-returns-2 c = search needs
-
 pub last-slice-of-spec : {M : Type 1} → statement M
-last-slice-of-spec = tie.close (tie.spec div-t6 returns div-t8 div-t9 add-t10 returns-2)
+last-slice-of-spec = tie.close (tie.spec (λ c. search needs) returns (λ c. search needs) (λ c. search needs) add-t10 (λ c. search needs))

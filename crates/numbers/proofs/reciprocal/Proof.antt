@@ -6,9 +6,6 @@ use Rattle.disc.proofs.NumberLaws.{quotient-lt}
 use Rattle.numbers.proofs.reciprocal.Statement.{statement}
 use Rattle.numbers.proofs.reciprocal.Tie as tie
 
-div-result : tie.Need-div-result
-div-result c = search needs
-
 add-result : tie.Need-add-result
 add-result c = omega (arith, quotient-lt 65536 (c .args .s) 32769 (omega arith) (omega arith))
 
@@ -16,4 +13,4 @@ returns : tie.Need-returns
 returns c = (refl, omega (arith, quotient-lt 65536 (c .args .s) 32769 (omega arith) (omega arith)))
 
 pub reciprocal-spec : {M : Type 1} → statement M
-reciprocal-spec = tie.close (tie.spec div-result add-result returns)
+reciprocal-spec = tie.close (tie.spec (λ c. search needs) add-result returns)

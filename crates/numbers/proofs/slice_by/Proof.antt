@@ -5,15 +5,6 @@ use borrow.Author.Needs.{needs}
 use Rattle.numbers.proofs.slice_by.Statement.{statement}
 use Rattle.numbers.proofs.slice_by.Tie as tie
 
-sub-slices-by : tie.Need-sub-slices-by
-sub-slices-by c = search needs
-
-slices-by-requires : tie.Need-slices-by-requires
-slices-by-requires c κs = search needs
-
-add-t6 : tie.Need-add-t6
-add-t6 c = search needs
-
 returns : tie.Need-returns
 returns c = (
   (omega arith, omega arith),
@@ -21,4 +12,4 @@ returns c = (
 )
 
 pub slice-by-spec : {M : Type 1} → statement M
-slice-by-spec = tie.close (tie.spec sub-slices-by slices-by-requires add-t6 returns)
+slice-by-spec = tie.close (tie.spec (λ c. search needs) (λ c κs. search needs) (λ c. search needs) returns)

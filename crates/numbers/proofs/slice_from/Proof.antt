@@ -13,11 +13,5 @@ returns c =
     let none : (a .q .0 - a .first .0) / a .s ≡ 0 = div-eq-of-lt (omega arith) in
     omega arith
 
-slice-of-requires : tie.Need-slice-of-requires
-slice-of-requires c κs = search needs
-
-returns-2 : tie.Need-returns-2
-returns-2 c = search needs
-
 pub slice-from-spec : {M : Type 1} → statement M
-slice-from-spec = tie.close (tie.spec returns slice-of-requires returns-2)
+slice-from-spec = tie.close (tie.spec returns (λ c κs. search needs) (λ c. search needs))

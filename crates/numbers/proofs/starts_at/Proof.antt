@@ -7,24 +7,12 @@ use borrow.Author.Tests.{eqb-true, eqb-false}
 use Rattle.numbers.proofs.starts_at.Statement.{statement}
 use Rattle.numbers.proofs.starts_at.Tie as tie
 
-sub-result : tie.Need-sub-result
-sub-result c = search needs
-
-cast-result : tie.Need-cast-result
-cast-result c = search needs
-
 mul-result : tie.Need-mul-result
 mul-result c =
     let a = c .before .args in
     let n : a .k .0 - 1 ≤ 65534 = omega arith in
     let m : a .s ≤ 65535 = omega arith in
     omega (arith, mul-le-mul n m)
-
-sub-result-2 : tie.Need-sub-result-2
-sub-result-2 c = search needs
-
-cast-result-2 : tie.Need-cast-result-2
-cast-result-2 c = search needs
 
 returns : tie.Need-returns
 returns c =
@@ -37,4 +25,4 @@ returns c =
 
 pub starts-at-spec : {M : Type 1} → statement M
 starts-at-spec =
-    tie.close (tie.spec sub-result cast-result mul-result sub-result-2 cast-result-2 returns)
+    tie.close (tie.spec (λ c. search needs) (λ c. search needs) mul-result (λ c. search needs) (λ c. search needs) returns)

@@ -12,12 +12,6 @@ count-free-requires c κs =
     let took = c .before .before .before in
     can-count (took .before .before .before .pre .can) (took .take-more .ensures)
 
-block-sector-requires : tie.Need-block-sector-requires
-block-sector-requires c κs = search needs
-
-same-length : tie.Need-same-length
-same-length c = search needs
-
 returns : tie.Need-returns
 returns c =
     let counted = c .before .before .before in
@@ -27,4 +21,4 @@ returns c =
 pub extend-spec : {M : Type 1} → statement M
 extend-spec =
     tie.close
-    (tie.spec take-more-requires count-free-requires block-sector-requires same-length returns)
+    (tie.spec take-more-requires count-free-requires (λ c κs. search needs) (λ c. search needs) returns)

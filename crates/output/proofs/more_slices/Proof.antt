@@ -4,15 +4,6 @@ use borrow.Author.Tests.{lt-ltb, le-ltb}
 use Rattle.output.proofs.more_slices.Statement.{statement}
 use Rattle.output.proofs.more_slices.Tie as tie
 
-slice-total-requires : tie.Need-slice-total-requires
-slice-total-requires c κs = search needs
-
-add-need : tie.Need-add-need
-add-need c = search needs
-
-need-requires : tie.Need-need-requires
-need-requires c κs = search needs
-
 returns : tie.Need-returns
 returns c =
     let few = c .if1 .taken in
@@ -25,4 +16,4 @@ returns-2 c =
 
 pub more-slices-spec : {M : Type 1} → statement M
 more-slices-spec =
-    tie.close (tie.spec slice-total-requires add-need need-requires returns returns-2)
+    tie.close (tie.spec (λ c κs. search needs) (λ c. search needs) (λ c κs. search needs) returns returns-2)

@@ -12,9 +12,6 @@ words c = record { each = λ k. c .shared-slice-known .given k .fits }
 prepare-requires : tie.Need-prepare-requires
 prepare-requires c κs = c .before .before .before .pre .0
 
-same-length : tie.Need-same-length
-same-length c = search needs
-
 returns : tie.Need-returns
 returns c =
     let prepared = c .before .before .before .before in
@@ -31,9 +28,6 @@ replace-requires c κs =
     let s = prepared .before .before .before .before in
     (block-ready (prepared .prepare .ensures) (a .before .if1 .left) (a .area-at .ensures) (s .pre .0), s .pre .1)
 
-same-length-2 : tie.Need-same-length-2
-same-length-2 c = search needs
-
 returns-2 : tie.Need-returns-2
 returns-2 c =
     let stored = c .before .before in
@@ -47,9 +41,9 @@ output-spec =
     tie.close
     (tie.spec
     prepare-requires
-    same-length
+    (λ c. search needs)
     returns
     area-at-requires
     replace-requires
-    same-length-2
+    (λ c. search needs)
     returns-2)

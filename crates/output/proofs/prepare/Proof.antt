@@ -28,23 +28,14 @@ returns c =
 attributes-of-requires : tie.Need-attributes-of-requires
 attributes-of-requires c κs = searches (c .before .before .before .before .before .pre)
 
-bit-requires : tie.Need-bit-requires
-bit-requires c κs = search needs
-
 refused-at-requires : tie.Need-refused-at-requires
 refused-at-requires c κs = position-asks (c .before .before .before .before .before .before .before .before .pre) .0
-
-same-length : tie.Need-same-length
-same-length c = search needs
 
 returns-2 : tie.Need-returns-2
 returns-2 c =
     let attributes = c .before .before .before in
     let end = attributes .before .before in
     prepares-fixed (end .before .before .area-at .ensures) (end .if1 .left) (attributes .attributes-of .ensures) (sym (c .before .before .bit .ensures) ∙ not-true _ (c .before .if2 .taken)) (c .refused-at .ensures)
-
-file-block-requires : tie.Need-file-block-requires
-file-block-requires c κs = search needs
 
 more-slices-requires : tie.Need-more-slices-requires
 more-slices-requires c κs =
@@ -56,9 +47,6 @@ room-word-requires c κs = room-asks (c .before .before .before .before .before 
 
 refused-at-requires-2 : tie.Need-refused-at-requires-2
 refused-at-requires-2 c κs = position-asks (c .before .before .before .before .before .before .before .before .before .before .before .before .before .before .pre) .0
-
-same-length-2 : tie.Need-same-length-2
-same-length-2 c = search needs
 
 returns-3 : tie.Need-returns-3
 returns-3 c =
@@ -93,26 +81,11 @@ add-with-live c =
     let s = c .before .before .before .before .before .before .before .before .before .before .before .before .before .before .before .before .before .before .before in
     record { fits = omega (arith, position-asks (s .pre) .1) }
 
-with-position-requires : tie.Need-with-position-requires
-with-position-requires c κs = search needs
-
 add-with-live-2 : tie.Need-add-with-live-2
 add-with-live-2 c =
     let block = c .before .before .before .before .before .before .before .before .before .before in
     let a = block .before .before .before .before .before .before .before .before in
     record { fits = omega (arith, more-asks (a .area-at .ensures) (a .before .before .pre) (block .file-block .ensures .1) .2) }
-
-with-live-requires : tie.Need-with-live-requires
-with-live-requires c κs = search needs
-
-with-area-requires : tie.Need-with-area-requires
-with-area-requires c κs = search needs
-
-reply-requires : tie.Need-reply-requires
-reply-requires c κs = search needs
-
-same-length-3 : tie.Need-same-length-3
-same-length-3 c = search needs
 
 returns-4 : tie.Need-returns-4
 returns-4 c =
@@ -135,22 +108,22 @@ prepare-spec =
     transferred-requires
     returns
     attributes-of-requires
-    bit-requires
+    (λ c κs. search needs)
     refused-at-requires
-    same-length
+    (λ c. search needs)
     returns-2
-    file-block-requires
+    (λ c κs. search needs)
     more-slices-requires
     room-word-requires
     refused-at-requires-2
-    same-length-2
+    (λ c. search needs)
     returns-3
     extend-requires
     add-with-live
-    with-position-requires
+    (λ c κs. search needs)
     add-with-live-2
-    with-live-requires
-    with-area-requires
-    reply-requires
-    same-length-3
+    (λ c κs. search needs)
+    (λ c κs. search needs)
+    (λ c κs. search needs)
+    (λ c. search needs)
     returns-4)

@@ -10,15 +10,6 @@ use Rattle.perform.specs.Perform.{unknown, unsound, obeyed}
 use Rattle.perform.proofs.perform.Statement.{statement}
 use Rattle.perform.proofs.perform.Tie as tie
 
-known-requires : tie.Need-known-requires
-known-requires c κs = search needs
-
-unknown-word-requires : tie.Need-unknown-word-requires
-unknown-word-requires c κs = search needs
-
-word-alone-requires : tie.Need-word-alone-requires
-word-alone-requires c κs = search needs
-
 returns : tie.Need-returns
 returns c =
     unknown (refutes _ (c .before .before .before .known .ensures) (c .before .before .if1 .taken)) (record {
@@ -27,18 +18,6 @@ returns c =
       same-state = c .word-alone .ensures .1;
       same-lent = refl;
     })
-
-sound-requires : tie.Need-sound-requires
-sound-requires c κs = search needs
-
-unsound-word-requires : tie.Need-unsound-word-requires
-unsound-word-requires c κs = search needs
-
-word-alone-requires-2 : tie.Need-word-alone-requires-2
-word-alone-requires-2 c κs = search needs
-
-same-length : tie.Need-same-length
-same-length c = search needs
 
 returns-2 : tie.Need-returns-2
 returns-2 c =
@@ -62,12 +41,6 @@ obey-requires c κs =
       standing = record { unit = x .0; good = x .1; represents = x .2; numbers = c .before .before .open-unit .ensures .all (x .0) (on-disc (x .1) (x .2)) };
     }
 
-same-length-2 : tie.Need-same-length-2
-same-length-2 c = search needs
-
-same-length-3 : tie.Need-same-length-3
-same-length-3 c = search needs
-
 returns-3 : tie.Need-returns-3
 returns-3 c =
     obeyed (grants _ (c .before .before .before .before .before .before .before .before .before .before .before .before .before .known .ensures) (c .before .before .before .before .before .before .before .before .before .before .before .before .if1 .left)) (grants _ (c .before .before .before .before .before .before .before .before .before .before .sound .ensures) (c .before .before .before .before .before .before .before .before .before .if2 .left))
@@ -77,17 +50,17 @@ pub perform-spec : {M : Type 1} → statement M
 perform-spec =
     tie.close
     (tie.spec
-    known-requires
-    unknown-word-requires
-    word-alone-requires
+    (λ c κs. search needs)
+    (λ c κs. search needs)
+    (λ c κs. search needs)
     returns
-    sound-requires
-    unsound-word-requires
-    word-alone-requires-2
-    same-length
+    (λ c κs. search needs)
+    (λ c κs. search needs)
+    (λ c κs. search needs)
+    (λ c. search needs)
     returns-2
     open-unit-requires
     obey-requires
-    same-length-2
-    same-length-3
+    (λ c. search needs)
+    (λ c. search needs)
     returns-3)

@@ -4,12 +4,6 @@ use Rattle.remove.proofs.DropLaws.{drop-room, slices-fit, can-give-all,
 use Rattle.remove.proofs.drop_file.Statement.{statement}
 use Rattle.remove.proofs.drop_file.Tie as tie
 
-entry-word-requires : tie.Need-entry-word-requires
-entry-word-requires c κs = search needs
-
-file-block-requires : tie.Need-file-block-requires
-file-block-requires c κs = search needs
-
 slice-total-requires : tie.Need-slice-total-requires
 slice-total-requires c κs =
     let read = c .before .before in
@@ -35,9 +29,6 @@ count-free-requires c κs =
     let read = block .before .before in
     can-count (read .before .before .before .pre .can) (read .entry-word .ensures) (block .file-block .ensures .1) (cleared .clear-place .ensures) (counted .slice-total .ensures) (given .free-slices .ensures)
 
-same-length : tie.Need-same-length
-same-length c = search needs
-
 returns : tie.Need-returns
 returns c =
     let free = c .before .before in
@@ -55,11 +46,11 @@ pub drop-file-spec : {M : Type 1} → statement M
 drop-file-spec =
     tie.close
     (tie.spec
-    entry-word-requires
-    file-block-requires
+    (λ c κs. search needs)
+    (λ c κs. search needs)
     slice-total-requires
     clear-place-requires
     free-slices-requires
     count-free-requires
-    same-length
+    (λ c. search needs)
     returns)

@@ -8,31 +8,13 @@ use Rattle.remove.proofs.RemoveLaws.{removes-none, removes-system, remo
 use Rattle.remove.proofs.remove.Statement.{statement}
 use Rattle.remove.proofs.remove.Tie as tie
 
-stored-requires : tie.Need-stored-requires
-stored-requires c κs = search needs
-
 find-name-requires : tie.Need-find-name-requires
 find-name-requires c κs = searchable (represented-on (c .before .before .before .pre .standing))
-
-enum-known-place : tie.Need-enum-known-place
-enum-known-place c = search needs
-
-enum-told : tie.Need-enum-told
-enum-told c = search needs
-
-same-length : tie.Need-same-length
-same-length c = search needs
 
 returns : tie.Need-returns
 returns c =
     let f = c .before .before in
     removes-none _ _ (f .before .before .before .before .pre) (f .before .before .stored .ensures .packed) (f .find-name .ensures) (c .enum-told .given .1)
-
-is-system-requires : tie.Need-is-system-requires
-is-system-requires c κs = search needs
-
-same-length-2 : tie.Need-same-length-2
-same-length-2 c = search needs
 
 returns-2 : tie.Need-returns-2
 returns-2 c =
@@ -40,12 +22,6 @@ returns-2 c =
     let place = test .before .before in
     let f = place .before .before in
     removes-system _ _ (f .before .before .before .before .pre) (f .before .before .stored .ensures .packed) (f .find-name .ensures) (place .place .given .1) (sym (test .is-system .ensures) ∙ c .if1 .taken)
-
-is-open-requires : tie.Need-is-open-requires
-is-open-requires c κs = search needs
-
-same-length-3 : tie.Need-same-length-3
-same-length-3 c = search needs
 
 returns-3 : tie.Need-returns-3
 returns-3 c =
@@ -55,15 +31,6 @@ returns-3 c =
     let f = place .before .before in
     removes-open _ _ (f .before .before .before .before .pre) (f .before .before .stored .ensures .packed) (f .find-name .ensures) (place .place .given .1)
     (sym (test .is-system .ensures) ∙ live .before .if1 .left) (sym (live .is-open .ensures) ∙ c .if2 .taken)
-
-entry-word-requires : tie.Need-entry-word-requires
-entry-word-requires c κs = search needs
-
-bit-requires : tie.Need-bit-requires
-bit-requires c κs = search needs
-
-same-length-4 : tie.Need-same-length-4
-same-length-4 c = search needs
 
 returns-4 : tie.Need-returns-4
 returns-4 c =
@@ -91,9 +58,6 @@ drop-file-requires c κs =
     can-drop _ (start .args .name) (start .pre) (f .before .before .stored .ensures .packed) (f .find-name .ensures) (place .place .given .1)
     (sym (test .is-system .ensures) ∙ live .before .if1 .left) (sym (live .is-open .ensures) ∙ shut .if2 .left)
 
-same-length-5 : tie.Need-same-length-5
-same-length-5 c = search needs
-
 returns-5 : tie.Need-returns-5
 returns-5 c =
     let dropped = c .before .before in
@@ -113,22 +77,22 @@ pub remove-spec : {M : Type 1} → statement M
 remove-spec =
     tie.close
     (tie.spec
-    stored-requires
+    (λ c κs. search needs)
     find-name-requires
-    enum-known-place
-    enum-told
-    same-length
+    (λ c. search needs)
+    (λ c. search needs)
+    (λ c. search needs)
     returns
-    is-system-requires
-    same-length-2
+    (λ c κs. search needs)
+    (λ c. search needs)
     returns-2
-    is-open-requires
-    same-length-3
+    (λ c κs. search needs)
+    (λ c. search needs)
     returns-3
-    entry-word-requires
-    bit-requires
-    same-length-4
+    (λ c κs. search needs)
+    (λ c κs. search needs)
+    (λ c. search needs)
     returns-4
     drop-file-requires
-    same-length-5
+    (λ c. search needs)
     returns-5)

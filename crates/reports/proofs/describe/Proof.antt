@@ -5,14 +5,8 @@ use Rattle.reports.proofs.DescriptionLaws.{describes-bytes, describes-s
 use Rattle.reports.proofs.describe.Statement.{statement}
 use Rattle.reports.proofs.describe.Tie as tie
 
-refused-requires : tie.Need-refused-requires
-refused-requires c κs = search needs
-
 returns : tie.Need-returns
 returns c = rw (c .refused .ensures) (describes-bytes _ _ _ _ (c .before .before .before .before .pre) (c .before .if1 .taken))
-
-refused-requires-2 : tie.Need-refused-requires-2
-refused-requires-2 c κs = search needs
 
 returns-2 : tie.Need-returns-2
 returns-2 c = rw (c .refused2 .ensures) (describes-short _ _ _ _ (c .before .before .before .before .before .pre) (c .before .before .if1 .left) (c .before .if2 .taken))
@@ -21,9 +15,6 @@ store-description-requires : tie.Need-store-description-requires
 store-description-requires c κs =
     let start = c .before .before .before .before .before in
     (known-low (start .pre .opened .unit) _ (start .pre .meant), c .before .if2 .left)
-
-same-length : tie.Need-same-length
-same-length c = search needs
 
 returns-3 : tie.Need-returns-3
 returns-3 c =
@@ -35,10 +26,10 @@ pub describe-spec : {M : Type 1} → statement M
 describe-spec =
     tie.close
     (tie.spec
-    refused-requires
+    (λ c κs. search needs)
     returns
-    refused-requires-2
+    (λ c κs. search needs)
     returns-2
     store-description-requires
-    same-length
+    (λ c. search needs)
     returns-3)

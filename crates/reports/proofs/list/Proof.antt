@@ -5,45 +5,21 @@ use Rattle.reports.proofs.ListingLaws.{can-read, lists-short, lists-can
 use Rattle.reports.proofs.list.Statement.{statement}
 use Rattle.reports.proofs.list.Tie as tie
 
-cast-blocks : tie.Need-cast-blocks
-cast-blocks c = search needs
-
-cast-blocks-2 : tie.Need-cast-blocks-2
-cast-blocks-2 c = search needs
-
 mul-blocks : tie.Need-mul-blocks
 mul-blocks c = omega (arith, can-read (c .before .before .before .before .pre .meant .opened) .few)
 
 count-entries-requires : tie.Need-count-entries-requires
 count-entries-requires c κs = can-read (c .before .before .before .before .pre .meant .opened)
 
-cast-if1 : tie.Need-cast-if1
-cast-if1 c = search needs
-
-mul-if1 : tie.Need-mul-if1
-mul-if1 c = search needs
-
-refused-requires : tie.Need-refused-requires
-refused-requires c κs = search needs
-
 returns : tie.Need-returns
 returns c =
     let count = c .before .before in
     rw (c .refused .ensures) (lists-short _ (count .count-entries .ensures) (c .before .if1 .taken))
 
-cast-note-entries : tie.Need-cast-note-entries
-cast-note-entries c = search needs
-
-mul-note-entries : tie.Need-mul-note-entries
-mul-note-entries c = search needs
-
 note-entries-requires : tie.Need-note-entries-requires
 note-entries-requires c κs =
     let count = c .before .before in
     (can-read (count .before .before .before .before .before .pre .meant .opened), omega (arith, c .before .if1 .left, count .count-entries .ensures .words))
-
-cast-by-name : tie.Need-cast-by-name
-cast-by-name c = search needs
 
 by-name-requires : tie.Need-by-name-requires
 by-name-requires c κs =
@@ -52,9 +28,6 @@ by-name-requires c κs =
     let count = left .before in
     let start = count .before .before .before .before .before in
     lists-can _ (count .count-entries .ensures) (left .if1 .left) (noted .note-entries .ensures) (omega arith) (start .pre .meant .opened)
-
-same-length : tie.Need-same-length
-same-length c = search needs
 
 returns-2 : tie.Need-returns-2
 returns-2 c =
@@ -67,18 +40,18 @@ pub list-spec : {M : Type 1} → statement M
 list-spec =
     tie.close
     (tie.spec
-    cast-blocks
-    cast-blocks-2
+    (λ c. search needs)
+    (λ c. search needs)
     mul-blocks
     count-entries-requires
-    cast-if1
-    mul-if1
-    refused-requires
+    (λ c. search needs)
+    (λ c. search needs)
+    (λ c κs. search needs)
     returns
-    cast-note-entries
-    mul-note-entries
+    (λ c. search needs)
+    (λ c. search needs)
     note-entries-requires
-    cast-by-name
+    (λ c. search needs)
     by-name-requires
-    same-length
+    (λ c. search needs)
     returns-2)

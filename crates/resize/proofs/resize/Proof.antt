@@ -9,9 +9,6 @@ reslice-requires : tie.Need-reslice-requires
 reslice-requires c κs =
     let h = c .before .before .pre in record { unit = h .unit; name = h .name; file = h .file; can = h .can .slices }
 
-same-length : tie.Need-same-length
-same-length c = search needs
-
 returns : tie.Need-returns
 returns c =
     let sliced = c .before .before .before .before .before in
@@ -22,20 +19,11 @@ returns c =
       );
     }
 
-add-zero-sectors : tie.Need-add-zero-sectors
-add-zero-sectors c = search needs
-
-sub-zero-sectors : tie.Need-sub-zero-sectors
-sub-zero-sectors c = search needs
-
 zero-sectors-requires : tie.Need-zero-sectors-requires
 zero-sectors-requires c κs =
     let longer = c .before .before .before .before in
     let sliced = longer .before .before .before .before .before in
     can-zero (sliced .before .before .before .pre .can) (sliced .reslice .ensures) (omega (arith, longer .if1 .left))
-
-same-length-2 : tie.Need-same-length-2
-same-length-2 c = search needs
 
 returns-2 : tie.Need-returns-2
 returns-2 c =
@@ -55,10 +43,10 @@ resize-spec =
     tie.close
     (tie.spec
     reslice-requires
-    same-length
+    (λ c. search needs)
     returns
-    add-zero-sectors
-    sub-zero-sectors
+    (λ c. search needs)
+    (λ c. search needs)
     zero-sectors-requires
-    same-length-2
+    (λ c. search needs)
     returns-2)

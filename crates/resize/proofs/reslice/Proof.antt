@@ -8,22 +8,13 @@ use Rattle.resize.proofs.reslice.Tie as tie
 give-back-requires : tie.Need-give-back-requires
 give-back-requires c κs = can-cut (c .before .before .before .pre .can) (c .before .if1 .taken)
 
-same-length : tie.Need-same-length
-same-length c = search needs
-
 returns : tie.Need-returns
 returns c =
     let given = c .before .before in
     record { all = λ p n f can. cut-sliced can (given .before .before .if1 .taken) (given .give-back .ensures) }
 
-sub-take-more : tie.Need-sub-take-more
-sub-take-more c = search needs
-
 take-more-requires : tie.Need-take-more-requires
 take-more-requires c κs = can-lengthen (c .before .before .before .pre .can) (omega (arith, c .before .if1 .left))
-
-same-length-2 : tie.Need-same-length-2
-same-length-2 c = search needs
 
 returns-2 : tie.Need-returns-2
 returns-2 c =
@@ -35,9 +26,9 @@ reslice-spec =
     tie.close
     (tie.spec
     give-back-requires
-    same-length
+    (λ c. search needs)
     returns
-    sub-take-more
+    (λ c. search needs)
     take-more-requires
-    same-length-2
+    (λ c. search needs)
     returns-2)

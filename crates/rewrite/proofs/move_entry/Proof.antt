@@ -13,15 +13,6 @@ find-unused-requires c κs =
     let clear = c .before .before .before in
     move-search (clear .before .before .before .pre .can) (clear .clear-place .ensures)
 
-enum-known-free : tie.Need-enum-known-free
-enum-known-free c = search needs
-
-enum-told : tie.Need-enum-told
-enum-told c = search needs
-
-same-length : tie.Need-same-length
-same-length c = search needs
-
 -- the key has a place
 returns : tie.Need-returns
 returns c =
@@ -36,9 +27,6 @@ write-entry-requires c κs =
     let clear = found .before .before .before .before in
     let start = clear .before .before .before in
     (omega (arith, start .pre .size), move-inside (start .pre .can) (clear .clear-place .ensures) (found .find-unused .ensures .1) (free .free .given .1))
-
-same-length-2 : tie.Need-same-length-2
-same-length-2 c = search needs
 
 returns-2 : tie.Need-returns-2
 returns-2 c =
@@ -58,10 +46,10 @@ move-entry-spec =
     (tie.spec
     clear-place-requires
     find-unused-requires
-    enum-known-free
-    enum-told
-    same-length
+    (λ c. search needs)
+    (λ c. search needs)
+    (λ c. search needs)
     returns
     write-entry-requires
-    same-length-2
+    (λ c. search needs)
     returns-2)

@@ -17,23 +17,14 @@ told c =
     let a = c .before .before .before .before .before .args in
     c .source-words .ensures ∙ ap (λ (b : Bool). cond b (entryAt (a .image .now) (a .f .place)) (take 16 (a .lent .now))) (c .before .bit .ensures)
 
-bit-requires : tie.Need-bit-requires
-bit-requires c κs = search needs
-
 source-words-requires : tie.Need-source-words-requires
 source-words-requires c κs = let can = c .before .before .before .before .pre .can in (can .lentSize, place-inside can)
 
 resize-requires : tie.Need-resize-requires
 resize-requires c κs = can-resize (c .before .before .before .before .before .before .pre .can)
 
-block-sector-requires : tie.Need-block-sector-requires
-block-sector-requires c κs = search needs
-
 mul-new-entry : tie.Need-mul-new-entry
 mul-new-entry c = omega (arith, reserved-small (c .before .before .before .before .before .before .before .before .before .before .before .before .pre .can))
-
-new-entry-requires : tie.Need-new-entry-requires
-new-entry-requires c κs = search needs
 
 key-requires : tie.Need-key-requires
 key-requires c κs = some-key (c .before .before .before .before .before .before .before .before .before .before .before .before .before .before .before .pre .can)
@@ -56,9 +47,6 @@ count-free-requires c κs =
     let source = sized .before .before in
     moved-count (source .before .before .before .before .before .pre .can) (sized .resize .ensures) (told source) (entry .before .before .before .block-sector .ensures) (entry .new-entry .ensures)
     (moves .if1 .taken) (put .before .key .ensures) (put .move-entry .ensures)
-
-same-length : tie.Need-same-length
-same-length c = search needs
 
 returns : tie.Need-returns
 returns c =
@@ -93,9 +81,6 @@ count-free-requires-2 c κs =
     kept-count (source .before .before .before .before .before .pre .can) (sized .resize .ensures) (told source) (entry .before .before .before .block-sector .ensures) (entry .new-entry .ensures)
     (stays .if1 .left) (put .write-entry .ensures)
 
-same-length-2 : tie.Need-same-length-2
-same-length-2 c = search needs
-
 returns-2 : tie.Need-returns-2
 returns-2 c =
     let counted = c .before .before in
@@ -114,18 +99,18 @@ pub rewrite-spec : {M : Type 1} → statement M
 rewrite-spec =
     tie.close
     (tie.spec
-    bit-requires
+    (λ c κs. search needs)
     source-words-requires
     resize-requires
-    block-sector-requires
+    (λ c κs. search needs)
     mul-new-entry
-    new-entry-requires
+    (λ c κs. search needs)
     key-requires
     move-entry-requires
     count-free-requires
-    same-length
+    (λ c. search needs)
     returns
     write-entry-requires
     count-free-requires-2
-    same-length-2
+    (λ c. search needs)
     returns-2)

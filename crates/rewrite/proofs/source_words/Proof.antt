@@ -9,24 +9,12 @@ use Rattle.rewrite.proofs.EntryLaws.{lent-stored}
 use Rattle.rewrite.proofs.source_words.Statement.{statement}
 use Rattle.rewrite.proofs.source_words.Tie as tie
 
-slice-aggregate-read-entry : tie.Need-slice-aggregate-read-entry
-slice-aggregate-read-entry c = search needs
-
-read-entry-requires : tie.Need-read-entry-requires
-read-entry-requires c κs = search needs
-
 returns : tie.Need-returns
 returns c =
     let read = c .before in
     let a = read .before .before .before .before .before .args in
     read .read-entry .ensures ∙ append-nil _
     ∙ ap (λ (b : Bool). cond b (entryAt (a .image .now) (a .place)) (take 16 (a .lent .now))) (sym (read .before .before .if1 .taken))
-
-slice-aggregate-copy-words : tie.Need-slice-aggregate-copy-words
-slice-aggregate-copy-words c = search needs
-
-copy-words-requires : tie.Need-copy-words-requires
-copy-words-requires c κs = search needs
 
 returns-2 : tie.Need-returns-2
 returns-2 c =
@@ -40,9 +28,9 @@ pub source-words-spec : {M : Type 1} → statement M
 source-words-spec =
     tie.close
     (tie.spec
-    slice-aggregate-read-entry
-    read-entry-requires
+    (λ c. search needs)
+    (λ c κs. search needs)
     returns
-    slice-aggregate-copy-words
-    copy-words-requires
+    (λ c. search needs)
+    (λ c κs. search needs)
     returns-2)

@@ -5,9 +5,6 @@ use borrow.Author.Tests.{le-leb, lt-leb}
 use Rattle.sharing.proofs.position_word.Statement.{statement}
 use Rattle.sharing.proofs.position_word.Tie as tie
 
-negative-requires : tie.Need-negative-requires
-negative-requires c κs = search needs
-
 returns : tie.Need-returns
 returns c = simp (sym (c .before .negative .ensures) ∙ c .if1 .taken)
 
@@ -18,4 +15,4 @@ returns-3 : tie.Need-returns-3
 returns-3 c = simp (sym (c .before .before .negative .ensures) ∙ c .before .if1 .left, le-leb _ _ (c .if2 .left))
 
 pub position-word-spec : {M : Type 1} → statement M
-position-word-spec = tie.close (tie.spec negative-requires returns returns-2 returns-3)
+position-word-spec = tie.close (tie.spec (λ c κs. search needs) returns returns-2 returns-3)

@@ -3,14 +3,8 @@ use borrow.Author.Needs.{needs}
 use Rattle.sharing.proofs.refused_at.Statement.{statement}
 use Rattle.sharing.proofs.refused_at.Tie as tie
 
-at-position-requires : tie.Need-at-position-requires
-at-position-requires c κs = search needs
-
-reply-requires : tie.Need-reply-requires
-reply-requires c κs = search needs
-
 returns : tie.Need-returns
 returns c = simp (c .reply .ensures, c .before .at-position .ensures)
 
 pub refused-at-spec : {M : Type 1} → statement M
-refused-at-spec = tie.close (tie.spec at-position-requires reply-requires returns)
+refused-at-spec = tie.close (tie.spec (λ c κs. search needs) (λ c κs. search needs) returns)

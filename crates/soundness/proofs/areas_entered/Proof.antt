@@ -6,8 +6,8 @@ use Prim.Native.Nat.{ℕ, _-_, _≤_, _<_}
 use native.Mathlib.Omega.{arith}
 use borrow.Author.Count.{below-more}
 use borrow.Author.Needs.{needs}
-use Rattle.types.specs.State.{areaAt}
-use Rattle.sound.specs.State.{areaName, IsOpen}
+use Rattle.types.specs.State.{areaAt, IsOpen}
+use Rattle.sound.specs.State.{areaName}
 use Rattle.disc.specs.Entries.{placeCount}
 use Rattle.disc.proofs.DecideLaws.{holds, fails, refutes, grants, true≢false}
 use Rattle.entries.specs.Sys.{placesIn}
@@ -30,14 +30,18 @@ mul-area c = omega arith
 element-copy-out-area : tie.Need-element-copy-out-area Inv-loop μ-loop
 element-copy-out-area c = omega arith
 
+is-open-requires : tie.Need-is-open-requires Inv-loop μ-loop
+is-open-requires c κs = tt
+
 name-entered-requires : tie.Need-name-entered-requires Inv-loop μ-loop
 name-entered-requires c κs = search needs
 
 returns : tie.Need-returns Inv-loop μ-loop
 returns c =
     let test = c .before in
-    let turn = test .before .before .before in
-    fails (λ s. refutes _ (test .name-entered .ensures) (c .if2 .taken) (s .each _ (turn .loop-test .taken) (test .before .if1 .taken)))
+    let first = test .before in
+    let turn = first .before .before .before in
+    fails (λ s. refutes _ (test .name-entered .ensures) (c .if2 .taken) (s .each _ (turn .loop-test .taken) (sym (first .before .is-open .ensures) ∙ first .if1 .taken)))
 
 add-j : tie.Need-add-j Inv-loop μ-loop
 add-j c = omega arith
@@ -47,14 +51,15 @@ loop-less c = omega arith
 
 loop-again : tie.Need-loop-again Inv-loop μ-loop
 loop-again c =
-    let turn = c .before .before .before in
+    let test = c .before in
+    let turn = test .before .before .before in
     let a = turn .before .before .args in (
       omega arith,
       below-more
           (λ k. IsOpen (a .t4) k → OrdinaryEntered (placesIn (a .image .now) (a .g)) (placeCount (a .g .keys) (a .sys .layers)) (areaName (areaAt (a .t4) k)))
           (turn .loop .j)
           (turn .loop .inv .1)
-          (⊎-elim (λ w o. grants _ (w .1 .ensures) (w .2 .left)) (λ w o. absurd (true≢false (sym o ∙ w .left))) (c .if1 .came)),
+          (⊎-elim (λ w o. grants _ (w .1 .ensures) (w .2 .left)) (λ w o. absurd (true≢false (sym o ∙ sym (test .is-open .ensures) ∙ w .left))) (c .if1 .came)),
     )
 
 returns-2 : tie.Need-returns-2 Inv-loop μ-loop
@@ -69,6 +74,7 @@ areas-entered-spec =
     loop-holds
     mul-area
     element-copy-out-area
+    is-open-requires
     name-entered-requires
     returns
     add-j

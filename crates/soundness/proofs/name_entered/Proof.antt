@@ -15,20 +15,11 @@ returns c =
     let name = start .args .name in
     fails (λ e. entered-first (start .pre) (name .0) (name .1) (name .2) (omega arith) (omega arith) e (c .if1 .taken))
 
-is-system-requires : tie.Need-is-system-requires
-is-system-requires c κs = search needs
-
 returns-2 : tie.Need-returns-2
 returns-2 c = fails (λ e. e .ordinary (T-of (sym (c .before .is-system .ensures) ∙ c .if2 .taken)))
 
 find-requires : tie.Need-find-requires
 find-requires c κs = some-key (c .before .before .before .before .before .pre .catalog)
-
-enum-told : tie.Need-enum-told
-enum-told c = search needs
-
-enum-told-2 : tie.Need-enum-told-2
-enum-told-2 c = search needs
 
 returns-3 : tie.Need-returns-3
 returns-3 c =
@@ -48,10 +39,10 @@ name-entered-spec =
     tie.close
     (tie.spec
     returns
-    is-system-requires
+    (λ c κs. search needs)
     returns-2
     find-requires
-    enum-told
-    enum-told-2
+    (λ c. search needs)
+    (λ c. search needs)
     returns-3
     returns-4)

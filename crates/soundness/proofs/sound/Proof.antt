@@ -13,20 +13,11 @@ use Rattle.soundness.proofs.sound.Tie as tie
 kit : (c : tie.After-geometry-of) → SoundByKit (c .before .before .before .before .before .before .args .image .now)
 kit c = grants _ (c .before .before .kit-sound .ensures) (c .before .if2 .left)
 
-users-sound-requires : tie.Need-users-sound-requires
-users-sound-requires c κs = search needs
-
 returns : tie.Need-returns
 returns c = fails (λ u. refutes _ (c .before .users-sound .ensures .0) (c .if1 .taken) (unit-users u))
 
-kit-sound-requires : tie.Need-kit-sound-requires
-kit-sound-requires c κs = search needs
-
 returns-2 : tie.Need-returns-2
 returns-2 c = fails (λ u. refutes _ (c .before .kit-sound .ensures) (c .if2 .taken) (unit-kit u))
-
-geometry-of-requires : tie.Need-geometry-of-requires
-geometry-of-requires c κs = search needs
 
 mark-sys-requires : tie.Need-mark-sys-requires
 mark-sys-requires c κs = (sound-unit (c .before .geometry-of .ensures) (kit (c .before)), mark-none _ 4096 refl)
@@ -35,9 +26,6 @@ returns-3 : tie.Need-returns-3
 returns-3 c =
     let found = c .before in
     fails (λ u. omega (arith, c .if3 .taken, unit-layers (found .before .before .geometry-of .ensures) (found .mark-sys .ensures) u .0 .some))
-
-sys-requires : tie.Need-sys-requires
-sys-requires c κs = search needs
 
 layers-sound-requires : tie.Need-layers-sound-requires
 layers-sound-requires c κs =
@@ -68,13 +56,13 @@ pub sound-spec : {M : Type 1} → statement M
 sound-spec =
     tie.close
     (tie.spec
-    users-sound-requires
+    (λ c κs. search needs)
     returns
-    kit-sound-requires
+    (λ c κs. search needs)
     returns-2
-    geometry-of-requires
+    (λ c κs. search needs)
     mark-sys-requires
     returns-3
-    sys-requires
+    (λ c κs. search needs)
     layers-sound-requires
     returns-4)

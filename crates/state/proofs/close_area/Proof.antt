@@ -3,14 +3,8 @@ use borrow.Author.Needs.{needs}
 use Rattle.state.proofs.close_area.Statement.{statement}
 use Rattle.state.proofs.close_area.Tie as tie
 
-vacant-area-requires : tie.Need-vacant-area-requires
-vacant-area-requires c κs = search needs
-
-with-area-requires : tie.Need-with-area-requires
-with-area-requires c κs = search needs
-
 returns : tie.Need-returns
 returns c = rw (c .with-area .ensures, c .before .vacant-area .ensures)
 
 pub close-area-spec : {M : Type 1} → statement M
-close-area-spec = tie.close (tie.spec vacant-area-requires with-area-requires returns)
+close-area-spec = tie.close (tie.spec (λ c κs. search needs) (λ c κs. search needs) returns)

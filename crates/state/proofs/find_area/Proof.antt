@@ -5,7 +5,8 @@ use mathlib.Core.Path.{_≡_, refl, sym, _∙_}
 use native.Mathlib.Omega.{arith}
 use lib.ListN.{drop}
 use Rattle.types.specs.State.{pastArea}
-use Rattle.state.specs.Areas.{packed, isNamed, areaNamed, firstFrom}
+use Rattle.disc.specs.Names.{packed}
+use Rattle.state.specs.Areas.{isNamed, areaNamed, firstFrom}
 use Rattle.state.proofs.AnswerLaws.{area-found}
 use Rattle.state.proofs.SearchLaws.{first-hit, first-miss, first-end}
 use Rattle.state.proofs.ShapeLaws.{areas-length}

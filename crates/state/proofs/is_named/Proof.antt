@@ -1,17 +1,14 @@
 -- `state::is_named` meets its contract. Assumes nothing.
-use mathlib.Core.Path.{_∙_}
+use mathlib.Core.Path.{sym, _∙_}
 use borrow.Author.Needs.{needs}
 use Rattle.state.proofs.is_named.Statement.{statement}
 use Rattle.state.proofs.is_named.Tie as tie
 
-same-name-requires : tie.Need-same-name-requires
-same-name-requires c κs = search needs
-
 returns : tie.Need-returns
-returns c = c .same-name .ensures ∙ simp (c .before .if1 .taken)
+returns c = let yes = sym (c .before .before .is-open .ensures) ∙ c .before .if1 .taken in c .same-name .ensures ∙ simp yes
 
 returns-2 : tie.Need-returns-2
-returns-2 c = search needs
+returns-2 c = let never = sym (c .before .is-open .ensures) ∙ c .if1 .left in c .if1 .left ∙ simp never
 
 pub is-named-spec : {M : Type 1} → statement M
-is-named-spec = tie.close (tie.spec same-name-requires returns returns-2)
+is-named-spec = tie.close (tie.spec (λ c κs. search needs) (λ c κs. search needs) returns returns-2)

@@ -4,9 +4,6 @@ use borrow.Author.Tests.{eq-eqb, ne-eqb}
 use Rattle.state.proofs.is_other.Statement.{statement}
 use Rattle.state.proofs.is_other.Tie as tie
 
-is-kind-requires : tie.Need-is-kind-requires
-is-kind-requires c κs = search needs
-
 returns : tie.Need-returns
 returns c = simp (ne-eqb _ _ (c .before .before .before .if1 .taken), ne-eqb _ _ (c .before .if2 .taken), c .is-kind .ensures)
 
@@ -17,4 +14,4 @@ returns-3 : tie.Need-returns-3
 returns-3 c = simp (eq-eqb _ _ (c .if1 .left))
 
 pub is-other-spec : {M : Type 1} → statement M
-is-other-spec = tie.close (tie.spec is-kind-requires returns returns-2 returns-3)
+is-other-spec = tie.close (tie.spec (λ c κs. search needs) returns returns-2 returns-3)

@@ -5,23 +5,14 @@ use Rattle.state.proofs.AnswerLaws.{role-raised}
 use Rattle.state.proofs.raised_role.Statement.{statement}
 use Rattle.state.proofs.raised_role.Tie as tie
 
-enum-told : tie.Need-enum-told
-enum-told c = search needs
-
 returns : tie.Need-returns
 returns c = role-raised (simp (c .before .enum-told .given .1, eq-eqb _ _ (c .if1 .taken)))
 
 returns-2 : tie.Need-returns-2
 returns-2 c = role-raised (simp (c .before .before .enum-told .given .1, ne-eqb _ _ (c .before .if1 .left), eq-eqb _ _ (c .if2 .taken)))
 
-enum-told-2 : tie.Need-enum-told-2
-enum-told-2 c = search needs
-
 returns-3 : tie.Need-returns-3
 returns-3 c = role-raised (simp (c .before .enum-told2 .given .1, eq-eqb _ _ (c .if3 .taken)))
-
-enum-told-3 : tie.Need-enum-told-3
-enum-told-3 c = search needs
 
 returns-4 : tie.Need-returns-4
 returns-4 c = role-raised (simp (c .before .before .enum-told .given .1, ne-eqb _ _ (c .before .if1 .left), ne-eqb _ _ (c .if2 .left)))
@@ -36,12 +27,12 @@ pub raised-role-spec : {M : Type 1} → statement M
 raised-role-spec =
     tie.close
     (tie.spec
-    enum-told
+    (λ c. search needs)
     returns
     returns-2
-    enum-told-2
+    (λ c. search needs)
     returns-3
-    enum-told-3
+    (λ c. search needs)
     returns-4
     returns-5
     returns-6)

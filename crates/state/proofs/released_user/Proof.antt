@@ -4,17 +4,11 @@ use borrow.Author.Tests.{le-leb, lt-leb}
 use Rattle.state.proofs.released_user.Statement.{statement}
 use Rattle.state.proofs.released_user.Tie as tie
 
-vacant-user-requires : tie.Need-vacant-user-requires
-vacant-user-requires c κs = search needs
-
 returns : tie.Need-returns
 returns c = simp (c .vacant-user .ensures, le-leb _ _ (c .before .if1 .taken))
-
-sub-t5 : tie.Need-sub-t5
-sub-t5 c = search needs
 
 returns-2 : tie.Need-returns-2
 returns-2 c = simp (lt-leb _ _ (c .before .before .if1 .left))
 
 pub released-user-spec : {M : Type 1} → statement M
-released-user-spec = tie.close (tie.spec vacant-user-requires returns sub-t5 returns-2)
+released-user-spec = tie.close (tie.spec (λ c κs. search needs) returns (λ c. search needs) returns-2)

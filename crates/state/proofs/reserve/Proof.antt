@@ -4,21 +4,12 @@ use mathlib.Core.Path.{sym, _∙_}
 use Rattle.state.proofs.reserve.Statement.{statement}
 use Rattle.state.proofs.reserve.Tie as tie
 
-shut-out-requires : tie.Need-shut-out-requires
-shut-out-requires c κs = search needs
-
-answer-requires : tie.Need-answer-requires
-answer-requires c κs = search needs
-
 returns : tie.Need-returns
 returns c = simp (c .answer .ensures, sym (c .before .before .shut-out .ensures) ∙ c .before .if1 .taken)
-
-place-requires : tie.Need-place-requires
-place-requires c κs = search needs
 
 returns-2 : tie.Need-returns-2
 returns-2 c = simp (c .place .ensures, sym (c .before .before .shut-out .ensures) ∙ c .before .if1 .left)
 
 pub reserve-spec : {M : Type 1} → statement M
 reserve-spec =
-    tie.close (tie.spec shut-out-requires answer-requires returns place-requires returns-2)
+    tie.close (tie.spec (λ c κs. search needs) (λ c κs. search needs) returns (λ c κs. search needs) returns-2)

@@ -4,14 +4,8 @@ use borrow.Author.Tests.{eq-eqb, ne-eqb}
 use Rattle.state.proofs.shut_out.Statement.{statement}
 use Rattle.state.proofs.shut_out.Tie as tie
 
-any-other-requires : tie.Need-any-other-requires
-any-other-requires c κs = search needs
-
 returns : tie.Need-returns
 returns c = simp (eq-eqb _ _ (c .before .if1 .taken), c .any-other .ensures)
-
-any-other-requires-2 : tie.Need-any-other-requires-2
-any-other-requires-2 c κs = search needs
 
 returns-2 : tie.Need-returns-2
 returns-2 c = simp (ne-eqb _ _ (c .before .before .if1 .left), eq-eqb _ _ (c .before .if2 .taken), c .any-other2 .ensures)
@@ -21,4 +15,4 @@ returns-3 c = simp (ne-eqb _ _ (c .before .if1 .left), ne-eqb _ _ (c .if2 .left)
 
 pub shut-out-spec : {M : Type 1} → statement M
 shut-out-spec =
-    tie.close (tie.spec any-other-requires returns any-other-requires-2 returns-2 returns-3)
+    tie.close (tie.spec (λ c κs. search needs) returns (λ c κs. search needs) returns-2 returns-3)

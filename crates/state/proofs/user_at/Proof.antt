@@ -8,18 +8,6 @@ use Rattle.types.specs.State.{vacantUser}
 use Rattle.state.proofs.user_at.Statement.{statement}
 use Rattle.state.proofs.user_at.Tie as tie
 
-mul-result : tie.Need-mul-result
-mul-result c = search needs
-
-element-copy-out-result : tie.Need-element-copy-out-result
-element-copy-out-result c = search needs
-
-returns : tie.Need-returns
-returns c = search needs
-
-vacant-user-requires : tie.Need-vacant-user-requires
-vacant-user-requires c κs = search needs
-
 returns-2 : tie.Need-returns-2
 returns-2 c =
     let area = c .before .before .args .t1 in
@@ -27,4 +15,4 @@ returns-2 c =
 
 pub user-at-spec : {M : Type 1} → statement M
 user-at-spec =
-    tie.close (tie.spec mul-result element-copy-out-result returns vacant-user-requires returns-2)
+    tie.close (tie.spec (λ c. search needs) (λ c. search needs) (λ c. search needs) (λ c κs. search needs) returns-2)

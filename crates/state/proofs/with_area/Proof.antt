@@ -6,19 +6,10 @@ use Rattle.state.proofs.ShapeLaws.{areas-length}
 use Rattle.state.proofs.with_area.Statement.{statement}
 use Rattle.state.proofs.with_area.Tie as tie
 
-mul-area : tie.Need-mul-area
-mul-area c = search needs
-
-element-set-from-area : tie.Need-element-set-from-area
-element-set-from-area c = search needs
-
-returns : tie.Need-returns
-returns c = search needs
-
 returns-2 : tie.Need-returns-2
 returns-2 c =
     let state = c .before .args .state in
     rw (set-out (state .areas) (c .before .args .j) (c .before .args .area) (omega (arith, areas-length state _ (c .before .good .0))))
 
 pub with-area-spec : {M : Type 1} → statement M
-with-area-spec = tie.close (tie.spec mul-area element-set-from-area returns returns-2)
+with-area-spec = tie.close (tie.spec (λ c. search needs) (λ c. search needs) (λ c. search needs) returns-2)

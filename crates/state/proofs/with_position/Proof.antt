@@ -3,14 +3,8 @@ use borrow.Author.Needs.{needs}
 use Rattle.state.proofs.with_position.Statement.{statement}
 use Rattle.state.proofs.with_position.Tie as tie
 
-user-at-requires : tie.Need-user-at-requires
-user-at-requires c κs = search needs
-
-with-user-requires : tie.Need-with-user-requires
-with-user-requires c κs = search needs
-
 returns : tie.Need-returns
 returns c = rw (c .with-user .ensures, c .before .user-at .ensures)
 
 pub with-position-spec : {M : Type 1} → statement M
-with-position-spec = tie.close (tie.spec user-at-requires with-user-requires returns)
+with-position-spec = tie.close (tie.spec (λ c κs. search needs) (λ c κs. search needs) returns)

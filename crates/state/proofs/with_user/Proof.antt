@@ -6,19 +6,10 @@ use Rattle.state.proofs.ShapeLaws.{users-length}
 use Rattle.state.proofs.with_user.Statement.{statement}
 use Rattle.state.proofs.with_user.Tie as tie
 
-mul-user : tie.Need-mul-user
-mul-user c = search needs
-
-element-set-from-user : tie.Need-element-set-from-user
-element-set-from-user c = search needs
-
-returns : tie.Need-returns
-returns c = search needs
-
 returns-2 : tie.Need-returns-2
 returns-2 c =
     let area = c .before .args .area in
     rw (set-out (area .users) (c .before .args .u) (c .before .args .user) (omega (arith, users-length area _ (c .before .good .0))))
 
 pub with-user-spec : {M : Type 1} → statement M
-with-user-spec = tie.close (tie.spec mul-user element-set-from-user returns returns-2)
+with-user-spec = tie.close (tie.spec (λ c. search needs) (λ c. search needs) (λ c. search needs) returns-2)

@@ -5,9 +5,6 @@ use Rattle.transput.proofs.TransputLaws.{end-extendable, end-fixed}
 use Rattle.transput.proofs.end_word.Statement.{statement}
 use Rattle.transput.proofs.end_word.Tie as tie
 
-bit-requires : tie.Need-bit-requires
-bit-requires c κs = search needs
-
 returns : tie.Need-returns
 returns c = end-extendable _ (sym (c .before .bit .ensures) ∙ c .if1 .taken)
 
@@ -15,4 +12,4 @@ returns-2 : tie.Need-returns-2
 returns-2 c = end-fixed _ (sym (c .before .bit .ensures) ∙ c .if1 .left)
 
 pub end-word-spec : {M : Type 1} → statement M
-end-word-spec = tie.close (tie.spec bit-requires returns returns-2)
+end-word-spec = tie.close (tie.spec (λ c κs. search needs) returns returns-2)

@@ -11,9 +11,6 @@ area-at-requires c κs = position-asks (c .before .before .pre .0) .0
 attributes-of-requires : tie.Need-attributes-of-requires
 attributes-of-requires c κs = searches (c .before .before .before .before .before .before .pre .0)
 
-end-word-requires : tie.Need-end-word-requires
-end-word-requires c κs = search needs
-
 refused-at-requires : tie.Need-refused-at-requires
 refused-at-requires c κs = position-asks (c .before .before .before .before .before .before .before .before .pre .0) .0
 
@@ -31,9 +28,6 @@ read-requires c κs =
 transferred-requires : tie.Need-transferred-requires
 transferred-requires c κs = position-asks (c .before .before .before .before .before .before .before .before .before .before .pre .0)
 
-same-length : tie.Need-same-length
-same-length c = search needs
-
 returns-2 : tie.Need-returns-2
 returns-2 c =
     let got = c .before .before .before in
@@ -46,10 +40,10 @@ input-spec =
     (tie.spec
     area-at-requires
     attributes-of-requires
-    end-word-requires
+    (λ c κs. search needs)
     refused-at-requires
     returns
     read-requires
     transferred-requires
-    same-length
+    (λ c. search needs)
     returns-2)

@@ -14,14 +14,8 @@ returns c = record { all = λ p on num f file. word-bytes _ _ _ _ _ _ (c .if1 .t
 returns-2 : tie.Need-returns-2
 returns-2 c = record { all = λ p on num f file. word-short _ _ _ _ _ _ (c .before .if1 .left) (c .if2 .taken) }
 
-is-output-requires : tie.Need-is-output-requires
-is-output-requires c κs = search needs
-
 returns-3 : tie.Need-returns-3
 returns-3 c = record { all = λ p on num f file. word-input _ _ _ _ _ _ (c .before .before .before .if1 .left) (c .before .before .if2 .left) (sym (c .before .is-output .ensures) ∙ not-true _ (c .if3 .taken)) }
-
-any-other-requires : tie.Need-any-other-requires
-any-other-requires c κs = search needs
 
 returns-4 : tie.Need-returns-4
 returns-4 c =
@@ -32,9 +26,6 @@ returns-4 c =
 
 attributes-of-requires : tie.Need-attributes-of-requires
 attributes-of-requires c κs = c .before .before .before .before .before .before .before .pre
-
-bit-requires : tie.Need-bit-requires
-bit-requires c κs = search needs
 
 returns-5 : tie.Need-returns-5
 returns-5 c =
@@ -58,11 +49,11 @@ refusal-spec =
     (tie.spec
     returns
     returns-2
-    is-output-requires
+    (λ c κs. search needs)
     returns-3
-    any-other-requires
+    (λ c κs. search needs)
     returns-4
     attributes-of-requires
-    bit-requires
+    (λ c κs. search needs)
     returns-5
     returns-6)

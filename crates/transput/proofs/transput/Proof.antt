@@ -22,17 +22,11 @@ random c = sym (c .before .is-random .ensures) ∙ not-false _ (c .if2 .left)
 area-at-requires : tie.Need-area-at-requires
 area-at-requires c κs = seat-low (c .before .before .pre .seat)
 
-user-at-requires : tie.Need-user-at-requires
-user-at-requires c κs = search needs
-
 refusal-requires : tie.Need-refusal-requires
 refusal-requires c κs = seated-searches (c .before .before .before .before .before .pre)
 
 refused-at-requires : tie.Need-refused-at-requires
 refused-at-requires c κs = seat-low (c .before .before .before .before .before .before .before .pre .seat)
-
-same-length : tie.Need-same-length
-same-length c = search needs
 
 returns : tie.Need-returns
 returns c =
@@ -41,21 +35,12 @@ returns c =
     let s = user .before .before .before .before .args in
     transputs-refused (s .block) (s .lent .now) (user .before .area-at .ensures) (asked .refusal .ensures) (c .before .if1 .taken) (own user) (c .refused-at .ensures)
 
-is-random-requires : tie.Need-is-random-requires
-is-random-requires c κs = search needs
-
 transput-at-requires : tie.Need-transput-at-requires
 transput-at-requires c κs =
     let asked = c .before .before .before .before .before in
     let user = asked .before .before in
     let s = user .before .before .before .before in
     some-own (s .args .block) (s .args .lent .now) (user .before .area-at .ensures) (asked .refusal .ensures) (c .before .before .before .before .if1 .left) (s .pre) (own user)
-
-same-length-2 : tie.Need-same-length-2
-same-length-2 c = search needs
-
-same-length-3 : tie.Need-same-length-3
-same-length-3 c = search needs
 
 returns-2 : tie.Need-returns-2
 returns-2 c =
@@ -64,17 +49,8 @@ returns-2 c =
     let s = user .before .before .before .before .args in
     transputs-own (s .block) (s .lent .now) (user .before .area-at .ensures) (asked .refusal .ensures) (c .before .before .before .before .before .before .before .before .before .if1 .left) (sym (c .before .before .before .before .before .before .before .before .is-random .ensures) ∙ not-true _ (c .before .before .before .before .before .before .before .if2 .taken)) (own user) (c .before .before .before .before .transput-at .ensures)
 
-position-word-requires : tie.Need-position-word-requires
-position-word-requires c κs = search needs
-
-position-reached-requires : tie.Need-position-reached-requires
-position-reached-requires c κs = search needs
-
 refused-at-requires-2 : tie.Need-refused-at-requires-2
 refused-at-requires-2 c κs = seat-low (c .before .before .before .before .before .before .before .before .before .before .before .before .pre .seat)
-
-same-length-4 : tie.Need-same-length-4
-same-length-4 c = search needs
 
 returns-3 : tie.Need-returns-3
 returns-3 c =
@@ -93,12 +69,6 @@ transput-at-requires-2 c κs =
     let s = a .before .before .before in
     some-first (s .args .block) (s .args .lent .now) (a .area-at .ensures) (asked .refusal .ensures) (first .before .before .if1 .left) (random first) (c .before .before .before .before .position-word .ensures) (c .before .before .if3 .left) (s .pre)
 
-same-length-5 : tie.Need-same-length-5
-same-length-5 c = search needs
-
-same-length-6 : tie.Need-same-length-6
-same-length-6 c = search needs
-
 returns-4 : tie.Need-returns-4
 returns-4 c =
     let first = c .before .before .before .before .before .before .before .before .before .before in
@@ -112,22 +82,22 @@ transput-spec =
     tie.close
     (tie.spec
     area-at-requires
-    user-at-requires
+    (λ c κs. search needs)
     refusal-requires
     refused-at-requires
-    same-length
+    (λ c. search needs)
     returns
-    is-random-requires
+    (λ c κs. search needs)
     transput-at-requires
-    same-length-2
-    same-length-3
+    (λ c. search needs)
+    (λ c. search needs)
     returns-2
-    position-word-requires
-    position-reached-requires
+    (λ c κs. search needs)
+    (λ c κs. search needs)
     refused-at-requires-2
-    same-length-4
+    (λ c. search needs)
     returns-3
     transput-at-requires-2
-    same-length-5
-    same-length-6
+    (λ c. search needs)
+    (λ c. search needs)
     returns-4)

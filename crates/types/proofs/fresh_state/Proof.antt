@@ -3,11 +3,8 @@ use borrow.Author.Needs.{needs}
 use Rattle.types.proofs.fresh_state.Statement.{statement}
 use Rattle.types.proofs.fresh_state.Tie as tie
 
-vacant-area-requires : tie.Need-vacant-area-requires
-vacant-area-requires c κs = search needs
-
 returns : tie.Need-returns
 returns c = rw (c .vacant-area .ensures)
 
 pub fresh-state-spec : {M : Type 1} → statement M
-fresh-state-spec = tie.close (tie.spec vacant-area-requires returns)
+fresh-state-spec = tie.close (tie.spec (λ c κs. search needs) returns)

@@ -3,11 +3,8 @@ use borrow.Author.Needs.{needs}
 use Rattle.types.proofs.vacant_area.Statement.{statement}
 use Rattle.types.proofs.vacant_area.Tie as tie
 
-vacant-user-requires : tie.Need-vacant-user-requires
-vacant-user-requires c κs = search needs
-
 returns : tie.Need-returns
 returns c = rw (c .vacant-user .ensures)
 
 pub vacant-area-spec : {M : Type 1} → statement M
-vacant-area-spec = tie.close (tie.spec vacant-user-requires returns)
+vacant-area-spec = tie.close (tie.spec (λ c κs. search needs) returns)

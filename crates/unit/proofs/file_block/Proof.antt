@@ -5,16 +5,10 @@ use Rattle.unit.proofs.FileLaws.{block-none, block-some, own-none, own-
 use Rattle.unit.proofs.file_block.Statement.{statement}
 use Rattle.unit.proofs.file_block.Tie as tie
 
-empty-block-requires : tie.Need-empty-block-requires
-empty-block-requires c κs = search needs
-
 returns : tie.Need-returns
 returns c =
     let zero = c .before .if1 .taken in
     (c .empty-block .ensures ∙ own-none _ _ zero, block-none _ _ zero (c .empty-block .ensures))
-
-read-block-requires : tie.Need-read-block-requires
-read-block-requires c κs = search needs
 
 returns-2 : tie.Need-returns-2
 returns-2 c =
@@ -22,4 +16,4 @@ returns-2 c =
     (c .read-block .ensures ∙ own-some _ _ some, block-some _ _ some (c .read-block .ensures))
 
 pub file-block-spec : {M : Type 1} → statement M
-file-block-spec = tie.close (tie.spec empty-block-requires returns read-block-requires returns-2)
+file-block-spec = tie.close (tie.spec (λ c κs. search needs) returns (λ c κs. search needs) returns-2)

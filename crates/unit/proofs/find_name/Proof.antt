@@ -12,9 +12,6 @@ use Rattle.unit.proofs.FindLaws.{some-key, unitSys, name-found, zero-fo
 use Rattle.unit.proofs.find_name.Statement.{statement}
 use Rattle.unit.proofs.find_name.Tie as tie
 
-packed-requires : tie.Need-packed-requires
-packed-requires c κs = search needs
-
 returns : tie.Need-returns
 returns c = record { all = λ p on num. zero-found on _ (sym (c .before .packed .ensures) ∙ c .if1 .taken) refl }
 
@@ -32,4 +29,4 @@ returns-2 c =
 
 pub find-name-spec : {M : Type 1} → statement M
 find-name-spec =
-    tie.close (tie.spec packed-requires returns find-requires returns-2)
+    tie.close (tie.spec (λ c κs. search needs) returns find-requires returns-2)

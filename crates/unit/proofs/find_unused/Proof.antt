@@ -12,9 +12,6 @@ use Rattle.unit.proofs.UnusedLaws.{unused-found}
 use Rattle.unit.proofs.find_unused.Statement.{statement}
 use Rattle.unit.proofs.find_unused.Tie as tie
 
-first-unused-requires : tie.Need-first-unused-requires
-first-unused-requires c κs = search needs
-
 returns : tie.Need-returns
 returns c =
     let start = c .before .before in
@@ -25,4 +22,4 @@ returns c =
     (e, record { all = λ p on num. unused-found on (a .key) (omega (arith, start .pre .1, num .catalog .keys)) (at p num) })
 
 pub find-unused-spec : {M : Type 1} → statement M
-find-unused-spec = tie.close (tie.spec first-unused-requires returns)
+find-unused-spec = tie.close (tie.spec (λ c κs. search needs) returns)

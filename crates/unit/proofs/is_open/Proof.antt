@@ -5,15 +5,6 @@ use Rattle.unit.specs.Files.{isFound}
 use Rattle.unit.proofs.is_open.Statement.{statement}
 use Rattle.unit.proofs.is_open.Tie as tie
 
-find-area-requires : tie.Need-find-area-requires
-find-area-requires c κs = search needs
-
-enum-told : tie.Need-enum-told
-enum-told c = search needs
-
-enum-told-2 : tie.Need-enum-told-2
-enum-told-2 c = search needs
-
 returns : tie.Need-returns
 returns c = sym (ap isFound (sym (c .before .before .find-area .ensures .first) ∙ c .enum-told .given .1))
 
@@ -21,4 +12,4 @@ returns-2 : tie.Need-returns-2
 returns-2 c = sym (ap isFound (sym (c .before .before .find-area .ensures .first) ∙ c .enum-told2 .given .1))
 
 pub is-open-spec : {M : Type 1} → statement M
-is-open-spec = tie.close (tie.spec find-area-requires enum-told enum-told-2 returns returns-2)
+is-open-spec = tie.close (tie.spec (λ c κs. search needs) (λ c. search needs) (λ c. search needs) returns returns-2)

@@ -7,17 +7,8 @@ use Rattle.unit.proofs.LookUpLaws.{looks-none, looks-short, looks-done}
 use Rattle.unit.proofs.look_up.Statement.{statement}
 use Rattle.unit.proofs.look_up.Tie as tie
 
-stored-requires : tie.Need-stored-requires
-stored-requires c κs = search needs
-
 find-name-requires : tie.Need-find-name-requires
 find-name-requires c κs = searchable (c .before .before .before .pre .opened)
-
-enum-known-place : tie.Need-enum-known-place
-enum-known-place c = search needs
-
-enum-told : tie.Need-enum-told
-enum-told c = search needs
 
 returns : tie.Need-returns
 returns c =
@@ -36,9 +27,6 @@ read-entry-requires c κs =
     let f = place .before .before in
     (omega (arith, c .before .if1 .left), name-room (searchable (f .before .before .before .before .pre .opened)) (f .find-name .ensures) (place .place .given .1))
 
-same-length : tie.Need-same-length
-same-length c = search needs
-
 returns-3 : tie.Need-returns-3
 returns-3 c =
     let e = c .before .before in
@@ -50,12 +38,12 @@ pub look-up-spec : {M : Type 1} → statement M
 look-up-spec =
     tie.close
     (tie.spec
-    stored-requires
+    (λ c κs. search needs)
     find-name-requires
-    enum-known-place
-    enum-told
+    (λ c. search needs)
+    (λ c. search needs)
     returns
     returns-2
     read-entry-requires
-    same-length
+    (λ c. search needs)
     returns-3)

@@ -5,9 +5,6 @@ use Rattle.unit.proofs.OpenLaws.{sys-of, numbers-of}
 use Rattle.unit.proofs.open_unit.Statement.{statement}
 use Rattle.unit.proofs.open_unit.Tie as tie
 
-geometry-of-requires : tie.Need-geometry-of-requires
-geometry-of-requires c κs = search needs
-
 find-layers-requires : tie.Need-find-layers-requires
 find-layers-requires c κs = sys-of (c .before .before .pre .on) (c .geometry-of .ensures)
 
@@ -17,4 +14,4 @@ returns c = record {
 }
 
 pub open-unit-spec : {M : Type 1} → statement M
-open-unit-spec = tie.close (tie.spec geometry-of-requires find-layers-requires returns)
+open-unit-spec = tie.close (tie.spec (λ c κs. search needs) find-layers-requires returns)

@@ -4,14 +4,8 @@ use Rattle.disc.proofs.DecideLaws.{fails, refutes, grants}
 use Rattle.users.proofs.area_legal.Statement.{statement}
 use Rattle.users.proofs.area_legal.Tie as tie
 
-is-first-requires : tie.Need-is-first-requires
-is-first-requires c κs = search needs
-
 returns : tie.Need-returns
 returns c = fails (λ l. refutes _ (c .before .is-first .ensures) (c .if1 .taken) (l .first))
-
-users-legal-requires : tie.Need-users-legal-requires
-users-legal-requires c κs = search needs
 
 returns-2 : tie.Need-returns-2
 returns-2 c =
@@ -22,4 +16,4 @@ returns-2 c =
     }
 
 pub area-legal-spec : {M : Type 1} → statement M
-area-legal-spec = tie.close (tie.spec is-first-requires returns users-legal-requires returns-2)
+area-legal-spec = tie.close (tie.spec (λ c κs. search needs) returns (λ c κs. search needs) returns-2)

@@ -20,15 +20,6 @@ found-none found wanted j e f = fails (λ p. let z : _≡_ {A = ℕ} 0 1 = cc in
 found-at : (found wanted : Found) (k j : ℕ) → found ≡ wanted → found ≡ At k → Decides (eqb k j) (wanted ≡ At j)
 found-at found wanted k j e f = record { yes = λ t. let q : k ≡ j = eqb-true k j t in cc; not = λ t p. eqb-false k j t (cc) }
 
-find-area-requires : tie.Need-find-area-requires
-find-area-requires c κs = search needs
-
-enum-known-k : tie.Need-enum-known-k
-enum-known-k c = search needs
-
-enum-told : tie.Need-enum-told
-enum-told c = search needs
-
 returns : tie.Need-returns
 returns c = found-none _ _ _ (c .before .before .find-area .ensures .first) (c .enum-told .given .1)
 
@@ -36,4 +27,4 @@ returns-2 : tie.Need-returns-2
 returns-2 c = found-at _ _ _ _ (c .before .before .before .find-area .ensures .first) (c .before .k .given .1)
 
 pub is-first-spec : {M : Type 1} → statement M
-is-first-spec = tie.close (tie.spec find-area-requires enum-known-k enum-told returns returns-2)
+is-first-spec = tie.close (tie.spec (λ c κs. search needs) (λ c. search needs) (λ c. search needs) returns returns-2)

@@ -17,9 +17,6 @@ returns-3 c =
     let first = second .before .before in
     fails (λ l. l .distinct (first .if1 .left) (second .if2 .left) (c .if3 .taken))
 
-roles-agree-requires : tie.Need-roles-agree-requires
-roles-agree-requires c κs = search needs
-
 returns-4 : tie.Need-returns-4
 returns-4 c =
     let differ = c .before in
@@ -32,4 +29,4 @@ returns-4 c =
     }
 
 pub pair-legal-spec : {M : Type 1} → statement M
-pair-legal-spec = tie.close (tie.spec returns returns-2 returns-3 roles-agree-requires returns-4)
+pair-legal-spec = tie.close (tie.spec returns returns-2 returns-3 (λ c κs. search needs) returns-4)

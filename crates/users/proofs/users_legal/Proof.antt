@@ -8,47 +8,20 @@ use Rattle.users.proofs.UserLaws.{three-each, three-pairs, all-legal, o
 use Rattle.users.proofs.users_legal.Statement.{statement}
 use Rattle.users.proofs.users_legal.Tie as tie
 
-element-copy-out-a : tie.Need-element-copy-out-a
-element-copy-out-a c = search needs
-
-user-legal-requires : tie.Need-user-legal-requires
-user-legal-requires c κs = search needs
-
 returns : tie.Need-returns
 returns c = fails (λ l. refutes _ (c .before .user-legal .ensures) (c .if1 .taken) (one-legal _ l 0 (omega arith)))
-
-element-copy-out-b : tie.Need-element-copy-out-b
-element-copy-out-b c = search needs
-
-user-legal-requires-2 : tie.Need-user-legal-requires-2
-user-legal-requires-2 c κs = search needs
 
 returns-2 : tie.Need-returns-2
 returns-2 c = fails (λ l. refutes _ (c .before .user-legal2 .ensures) (c .if2 .taken) (one-legal _ l 1 (omega arith)))
 
-element-copy-out-c : tie.Need-element-copy-out-c
-element-copy-out-c c = search needs
-
-user-legal-requires-3 : tie.Need-user-legal-requires-3
-user-legal-requires-3 c κs = search needs
-
 returns-3 : tie.Need-returns-3
 returns-3 c = fails (λ l. refutes _ (c .before .user-legal3 .ensures) (c .if3 .taken) (one-legal _ l 2 (omega arith)))
-
-pair-legal-requires : tie.Need-pair-legal-requires
-pair-legal-requires c κs = search needs
 
 returns-4 : tie.Need-returns-4
 returns-4 c = fails (λ l. refutes _ (c .before .pair-legal .ensures) (c .if4 .taken) (two-legal _ l 0 1 (omega arith) (omega arith)))
 
-pair-legal-requires-2 : tie.Need-pair-legal-requires-2
-pair-legal-requires-2 c κs = search needs
-
 returns-5 : tie.Need-returns-5
 returns-5 c = fails (λ l. refutes _ (c .before .pair-legal2 .ensures) (c .if5 .taken) (two-legal _ l 0 2 (omega arith) (omega arith)))
-
-pair-legal-requires-3 : tie.Need-pair-legal-requires-3
-pair-legal-requires-3 c κs = search needs
 
 returns-6 : tie.Need-returns-6
 returns-6 c =
@@ -78,18 +51,18 @@ pub users-legal-spec : {M : Type 1} → statement M
 users-legal-spec =
     tie.close
     (tie.spec
-    element-copy-out-a
-    user-legal-requires
+    (λ c. search needs)
+    (λ c κs. search needs)
     returns
-    element-copy-out-b
-    user-legal-requires-2
+    (λ c. search needs)
+    (λ c κs. search needs)
     returns-2
-    element-copy-out-c
-    user-legal-requires-3
+    (λ c. search needs)
+    (λ c κs. search needs)
     returns-3
-    pair-legal-requires
+    (λ c κs. search needs)
     returns-4
-    pair-legal-requires-2
+    (λ c κs. search needs)
     returns-5
-    pair-legal-requires-3
+    (λ c κs. search needs)
     returns-6)

@@ -4,8 +4,7 @@ use mathlib.Core.Path.{sym, _∙_}
 use mathlib.Core.Logic.{⊎-elim}
 use native.Mathlib.Omega.{arith}
 use borrow.Author.Count.{below-more}
-use Rattle.types.specs.State.{areaAt}
-use Rattle.sound.specs.State.{IsOpen}
+use Rattle.types.specs.State.{areaAt, IsOpen}
 use Rattle.disc.proofs.DecideLaws.{holds, fails, refutes, grants, true≢false}
 use Rattle.users.specs.Rules.{LegalArea}
 use Rattle.users.proofs.ShapeLaws.{shaped}
@@ -28,16 +27,20 @@ mul-area c = omega arith
 element-copy-out-area : tie.Need-element-copy-out-area Inv-loop μ-loop
 element-copy-out-area c = omega arith
 
+is-open-requires : tie.Need-is-open-requires Inv-loop μ-loop
+is-open-requires c κs = tt
+
 area-legal-requires : tie.Need-area-legal-requires Inv-loop μ-loop
 area-legal-requires c κs = tt
 
 returns : tie.Need-returns Inv-loop μ-loop
 returns c =
     let test = c .before in
-    let turn = test .before .before .before in
+    let first = test .before in
+    let turn = first .before .before .before in
     let start = turn .before .before in
     let shape = shaped (start .args .t1) _ (start .good .0) in
-    (fails (λ s. refutes _ (test .area-legal .ensures) (c .if2 .taken) (each-area _ shape s _ (turn .loop-test .taken) (test .before .if1 .taken))), shape)
+    (fails (λ s. refutes _ (test .area-legal .ensures) (c .if2 .taken) (each-area _ shape s _ (turn .loop-test .taken) (sym (first .before .is-open .ensures) ∙ first .if1 .taken))), shape)
 
 add-j : tie.Need-add-j Inv-loop μ-loop
 add-j c = omega arith
@@ -47,13 +50,14 @@ loop-less c = omega arith
 
 loop-again : tie.Need-loop-again Inv-loop μ-loop
 loop-again c =
-    let turn = c .before .before .before in (
+    let test = c .before in
+    let turn = test .before .before .before in (
       omega arith,
       below-more
           (λ k. IsOpen (turn .before .args .t1) k → LegalArea (turn .before .args .t1) (areaAt (turn .before .args .t1) k) k)
           (turn .loop .j)
           (turn .loop .inv .1)
-          (⊎-elim (λ w o. grants _ (w .1 .ensures) (w .2 .left)) (λ w o. absurd (true≢false (sym o ∙ w .left))) (c .if1 .came)),
+          (⊎-elim (λ w o. grants _ (w .1 .ensures) (w .2 .left)) (λ w o. absurd (true≢false (sym o ∙ sym (test .is-open .ensures) ∙ w .left))) (c .if1 .came)),
     )
 
 returns-2 : tie.Need-returns-2 Inv-loop μ-loop
@@ -70,6 +74,7 @@ users-sound-spec =
     loop-holds
     mul-area
     element-copy-out-area
+    is-open-requires
     area-legal-requires
     returns
     add-j

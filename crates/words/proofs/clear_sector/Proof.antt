@@ -6,16 +6,10 @@ use Rattle.words.proofs.StoreLaws.{store-start}
 use Rattle.words.proofs.clear_sector.Statement.{statement}
 use Rattle.words.proofs.clear_sector.Tie as tie
 
-clear-words-requires : tie.Need-clear-words-requires
-clear-words-requires c κs = search needs
-
-same-length : tie.Need-same-length
-same-length c = search needs
-
 returns : tie.Need-returns
 returns c =
     let a = c .before .before .before .before .before .args in
     c .before .before .clear-words .ensures ∙ store-start (a .image .now) (a .q .0) (zeroWords 256)
 
 pub clear-sector-spec : {M : Type 1} → statement M
-clear-sector-spec = tie.close (tie.spec clear-words-requires same-length returns)
+clear-sector-spec = tie.close (tie.spec (λ c κs. search needs) (λ c. search needs) returns)

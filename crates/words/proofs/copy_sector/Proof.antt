@@ -4,18 +4,6 @@ use Rattle.words.proofs.StoreLaws.{sectorWords-front}
 use Rattle.words.proofs.copy_sector.Statement.{statement}
 use Rattle.words.proofs.copy_sector.Tie as tie
 
-cast-copy-words : tie.Need-cast-copy-words
-cast-copy-words c = search needs
-
-mul-copy-words : tie.Need-mul-copy-words
-mul-copy-words c = search needs
-
-copy-words-requires : tie.Need-copy-words-requires
-copy-words-requires c κs = search needs
-
-same-length : tie.Need-same-length
-same-length c = search needs
-
 returns : tie.Need-returns
 returns c =
     let start = c .before .before .before .before .before .before .before in
@@ -23,4 +11,4 @@ returns c =
     (c .before .before .copy-words .ensures)
 
 pub copy-sector-spec : {M : Type 1} → statement M
-copy-sector-spec = tie.close (tie.spec cast-copy-words mul-copy-words copy-words-requires same-length returns)
+copy-sector-spec = tie.close (tie.spec (λ c. search needs) (λ c. search needs) (λ c κs. search needs) (λ c. search needs) returns)
