@@ -15,8 +15,7 @@ use Rattle.catalog.proofs.WalkLaws.{length-entryAt}
 use Rattle.plain.specs.Unit.{Plain, File, sysOf, fileEntry}
 use Rattle.plain.specs.Areas.{bookLive}
 use Rattle.refine.specs.Writes.{bookedImage}
-use Rattle.refine.proofs.Ground.{Ground, ground, part-file}
-use Rattle.steps.proofs.WriteLaws.{part-sectors}
+use Rattle.refine.proofs.Ground.{Ground, ground, part-file, part-sectors}
 use Rattle.unit.specs.declared.Opened.{Opened}
 use Rattle.unit.specs.Files.{BlockOf}
 use Rattle.unit.proofs.OpenLaws.{on-catalog}

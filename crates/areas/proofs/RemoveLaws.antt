@@ -26,12 +26,12 @@ use Rattle.plain.specs.Questions.{replies, done, known}
 use Rattle.plain.specs.Areas.{bookLive, stepRemoveArea}
 use Rattle.plain.proofs.TableLaws.{some≢none}
 use Rattle.plain.proofs.QuestionLaws.{asks-yes, asks-no, given-none, given-some}
+use Rattle.plain.proofs.UnitLaws.{entry-of}
 use Rattle.refine.specs.Represents.{usersIn, Represents}
 use Rattle.refine.specs.Replies.{refused, written}
 use Rattle.refine.proofs.UserLaws.{users-count}
 use Rattle.refine.proofs.StateLaws.{named-inside, named-open, same-found, same-absent, same-index, same-size, same-users}
 use Rattle.steps.proofs.Whole.{on-disc}
-use Rattle.steps.proofs.WriteLaws.{entry-of}
 use Rattle.unit.specs.declared.Opened.{Opened}
 use Rattle.unit.specs.Opened.{NumbersOf, Meant}
 use Rattle.unit.specs.Find.{NameAt, NameFound, FindsName}

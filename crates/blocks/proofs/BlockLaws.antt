@@ -20,10 +20,10 @@ use Rattle.catalog.specs.declared.Found.the-variants.{At, Nothing}
 use Rattle.catalog.specs.Catalog.{entryWord}
 use Rattle.plain.specs.Table.{tableFind}
 use Rattle.plain.specs.Unit.{Plain, File}
+use Rattle.plain.proofs.UnitLaws.{entry-of}
 use Rattle.refine.specs.OnDisc.{OnDisc}
 use Rattle.refine.specs.Writes.{replacedImage}
 use Rattle.refine.proofs.Ground.{ground, block-in, file-data, file-slices}
-use Rattle.steps.proofs.WriteLaws.{entry-of}
 use Rattle.steps.proofs.OutputMessage.{block-inside}
 use Rattle.unit.specs.declared.Opened.{Opened}
 use Rattle.unit.specs.Opened.{NumbersOf}

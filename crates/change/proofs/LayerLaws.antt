@@ -19,8 +19,7 @@ use Rattle.plain.specs.Table.{Row, tableFind, tableRemove, isSome}
 use Rattle.plain.specs.Unit.{Plain, File, entry, sysOf}
 use Rattle.plain.specs.Taking.{hasKey, placesTaken, layersFor}
 use Rattle.plain.proofs.TableLaws.{weightAt, total-remove}
-use Rattle.refine.proofs.Ground.{ground, sys-ground}
-use Rattle.steps.proofs.WriteLaws.{part-sectors}
+use Rattle.refine.proofs.Ground.{ground, sys-ground, part-sectors}
 use Rattle.unit.specs.declared.Opened.{Opened}
 use Rattle.unit.specs.Opened.{NumbersOf, OpenedOn}
 use Rattle.unit.specs.Find.{FindsName, FindsUnused}

@@ -10,8 +10,7 @@ use Rattle.index.proofs.ReadLaws.{read-total}
 use Rattle.catalog.specs.declared.Place.{Place}
 use Rattle.catalog.specs.Catalog.{entryWord}
 use Rattle.plain.specs.Unit.{Plain, File}
-use Rattle.refine.proofs.Ground.{Ground, ground, part-file}
-use Rattle.steps.proofs.WriteLaws.{part-few}
+use Rattle.refine.proofs.Ground.{Ground, ground, part-file, part-few}
 use Rattle.unit.specs.declared.Opened.{Opened}
 use Rattle.unit.specs.Files.{BlockOf}
 use Rattle.unit.proofs.FileLaws.{file-words, live-index}

@@ -27,8 +27,7 @@ use Rattle.plain.proofs.CreateUnit.{NewFile, unitAfter, Yes, newFile-done, sys-
 use Rattle.plain.proofs.QuestionLaws.{asks-yes}
 use Rattle.refine.specs.OnDisc.{OnDisc}
 use Rattle.refine.specs.Replies.{refused, written}
-use Rattle.refine.proofs.Ground.{Ground, ground, sys-ground}
-use Rattle.steps.proofs.WriteLaws.{part-sectors}
+use Rattle.refine.proofs.Ground.{Ground, ground, sys-ground, part-sectors}
 use Rattle.steps.specs.Units.{grownUnit, fileWith, newFileOf}
 use Rattle.unit.specs.declared.Opened.{Opened}
 use Rattle.unit.specs.Opened.{NumbersOf, Searchable}

@@ -29,8 +29,8 @@ use Rattle.plain.proofs.GrowUnit.{grown-good}
 use Rattle.plain.specs.Good.{Good}
 use Rattle.refine.specs.OnDisc.{OnDisc}
 use Rattle.refine.specs.Writes.{countedFree, storePlace, zeroedSectors, takenImage, layeredImage, grownImage, grownSys}
-use Rattle.refine.proofs.Ground.{Ground, ground, sys-ground}
-use Rattle.steps.proofs.WriteLaws.{part-sectors, zeroed-size}
+use Rattle.refine.proofs.Ground.{Ground, ground, sys-ground, part-sectors}
+use Rattle.steps.proofs.WriteLaws.{zeroed-size}
 use Rattle.steps.proofs.GrowStep.{grow-on}
 use Rattle.steps.specs.Units.{layerSlices, grownUnit}
 use Rattle.unit.specs.declared.Opened.{Opened}

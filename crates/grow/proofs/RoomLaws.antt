@@ -24,8 +24,7 @@ use Rattle.plain.specs.Unit.{Plain, File, M, held, freeSlices, withTables, sysO
 use Rattle.plain.specs.Questions.{Outcome, replies, done}
 use Rattle.plain.specs.Taking.{Taking, taking, enough}
 use Rattle.plain.proofs.QuestionLaws.{asks-law, asks-yes, asks-no}
-use Rattle.refine.proofs.Ground.{Ground, ground, sys-ground}
-use Rattle.steps.proofs.WriteLaws.{part-sectors}
+use Rattle.refine.proofs.Ground.{Ground, ground, sys-ground, part-sectors}
 use Rattle.unit.specs.declared.Opened.{Opened}
 use Rattle.unit.specs.Opened.{NumbersOf}
 use Rattle.slices.specs.declared.Growth.{Growth}

@@ -34,8 +34,8 @@ use Rattle.refine.specs.OnDisc.{OnDisc}
 use Rattle.refine.specs.Writes.{replacedImage, appendedImage, extendedImage}
 use Rattle.refine.proofs.LeavesLaws.{leaves}
 use Rattle.refine.proofs.StateLaws.{named-name, same-index}
+use Rattle.refine.proofs.Ground.{length-small, ground}
 use Rattle.steps.proofs.Whole.{on-disc, represents}
-use Rattle.steps.proofs.WriteLaws.{length-small}
 use Rattle.steps.proofs.AreaMessages.{area-found, sender-found, output-areas, replace-areas, area-set}
 use Rattle.steps.proofs.OutputStep.{wordsThere, extended-on, appended-stored}
 use Rattle.steps.proofs.OutputUnit.{transputAt, replace-done, append-fixed, append-full, append-many, append-done, Appends}
@@ -254,7 +254,7 @@ module _ {image : List ℕ} {state : State} {o : Opened} {j u k : ℕ} (some : S
   pub position-asks : (j < 8) × (k < 65535)
   position-asks =
       let at = some .placed in
-      (seat-low (at .seat), omega (arith, at .low, length-small (some .p) (placed-on at .good) (some .n) (some .f) (at .seat .file)))
+      (seat-low (at .seat), omega (arith, at .low, length-small (some .p) (ground (some .p) (placed-on at .good)) (some .n) (some .f) (at .seat .file)))
 
 -- ---- every unit on the image, by what the code finds
 
@@ -287,7 +287,7 @@ module _ {image : List ℕ} {state : State} {o : Opened} {j u k : ℕ} {area : A
         let at = some .placed in
         let on = placed-on at in
         let fits : sliceTotal (o .slice) words 0 < 65536 = rw (at .numbers .slice) (total-small on (some .n) (at .seat .file) (own-block at b)) in
-        (omega (arith, on .good .limits .slice-low, at .numbers .slice), fits, omega (arith, own-size at, length-small (some .p) (on .good) (some .n) (some .f) (at .seat .file)))
+        (omega (arith, on .good .limits .slice-low, at .numbers .slice), fits, omega (arith, own-size at, length-small (some .p) (ground (some .p) (on .good)) (some .n) (some .f) (at .seat .file)))
 
     pub block-there : k < area .length → SomeBlock image (area .index .0) k
     block-there x = record { p = some .p; n = some .n; f = some .f; from = own-from (some .placed) x }

@@ -24,9 +24,9 @@ use Rattle.plain.specs.Questions.{done}
 use Rattle.plain.specs.Taking.{Taking, taking, layersFor, placesTaken}
 use Rattle.plain.specs.Catalog.{isRecord, slicesAfter, resized, changed, changeFile}
 use Rattle.plain.specs.Good.{Good, WordsOf}
-use Rattle.plain.proofs.TableLaws.{some≢none, weightAt, find-remove-other, sorted-remove, total-put, total-remove, remove-some}
+use Rattle.plain.proofs.TableLaws.{weightAt, find-remove-other, sorted-remove, total-put, total-remove, remove-some}
 use Rattle.plain.proofs.QuestionLaws.{asks-yes, cond-law, or-case, not-some}
-use Rattle.plain.proofs.UnitLaws.{holds, occurrences-held, vacant-name, no-area}
+use Rattle.plain.proofs.UnitLaws.{holds, occurrences-held, vacant-name, no-area, area-name}
 use Rattle.plain.proofs.WordLaws.{optional-words, tail-words, length-resized, resized-words}
 use Rattle.plain.proofs.TakingLaws.{layers-up, layers-stay, layers-grow, layers-fit, places-remove, places-same, chains-put}
 use Rattle.plain.proofs.GrowUnit.{sysExtra, grownTo, not-grown, taken-grown, free-grown, grown-good}
@@ -66,7 +66,7 @@ module _ {p : Plain} {f f′ : File} {size count : ℕ} (c : Changes p f f′ si
   changed-good g n m found shut shutₘ legal ordinary chains =
       let others : Table File = tableRemove n (p .files) in
       placed-good p m f′ others g shutₘ (sorted-remove 0 n (p .files) (g .names)) (λ k a h. g .files k a (remove-some k n 0 (p .files) a (g .names) h .1))
-      (λ k users h. find-remove-other k n 0 (p .files) (g .names) (λ q. (let h₂ : tableFind n (p .areas) ≡ some users = rw q at h in some≢none (sym h₂ ∙ shut))))
+      (λ k users h. find-remove-other k n 0 (p .files) (g .names) (area-name p n shut k users h))
       chains
       (λ k. omega (
         arith,

@@ -3,7 +3,6 @@
 use mathlib.Core.Path.{_≡_, refl, sym, ap, _∙_, subst}
 use mathlib.Core.Bool.{not}
 use mathlib.Core.List.{List, [], _++_}
-use mathlib.Core.Logic.{_≢_}
 use mathlib.Core.Option.{none, some}
 use Prim.Native.Nat.{ℕ, _+_, _*_, _≤_, _<_}
 use native.Mathlib.Omega.{arith}
@@ -21,10 +20,10 @@ use Rattle.plain.specs.Questions.{done}
 use Rattle.plain.specs.Taking.{placesTaken, layersFor, zeroSectors}
 use Rattle.plain.specs.Catalog.{newFile}
 use Rattle.plain.specs.Good.{Good, GoodFile, WordsOf}
-use Rattle.plain.proofs.TableLaws.{some≢none, weightAt, find-put-other, sorted-put, total-put, every-put}
+use Rattle.plain.proofs.TableLaws.{weightAt, find-put-other, sorted-put, total-put, every-put}
 use Rattle.plain.proofs.QuestionLaws.{asks-yes, not-some}
 use Rattle.plain.proofs.AttributeLaws.{given-legal}
-use Rattle.plain.proofs.UnitLaws.{legal-positive, vacant-name, no-area, holds, occurrences-held}
+use Rattle.plain.proofs.UnitLaws.{legal-positive, vacant-name, no-area, holds, occurrences-held, area-name}
 use Rattle.plain.proofs.WordLaws.{length-zeroSectors, zeroSectors-words}
 use Rattle.plain.proofs.TakingLaws.{chains-put}
 use Rattle.plain.proofs.GrowUnit.{sysExtra, sysTaken, grownTo, not-grown, taken-grown, entry-grown, free-grown}
@@ -73,9 +72,8 @@ placed-good p n f others g shut sorted files same chains once good = record {
   areaNames = g .areaNames;
   eight = g .eight;
   areas = λ k users h.
-      let d : k ≢ n = λ q. (let h₂ : tableFind n (p .areas) ≡ some users = rw q at h in some≢none (sym h₂ ∙ shut)) in
       let a = g .areas k users h in
-      area-beside a (a .file) (find-put-other k n f others d ∙ same k users h ∙ a .entered) (omega arith);
+      area-beside a (a .file) (find-put-other k n f others (area-name p n shut k users h) ∙ same k users h ∙ a .entered) (omega arith);
 }
 
 -- ---- a new file

@@ -1,7 +1,6 @@
 -- Every catalog message keeps `Good`.
-use mathlib.Core.Path.{_≡_, sym, _∙_}
+use mathlib.Core.Path.{_≡_, _∙_}
 use mathlib.Core.List.{List}
-use mathlib.Core.Logic.{_≢_}
 use mathlib.Core.Option.{none, some}
 use Prim.Native.Nat.{ℕ, _≤_}
 use native.Mathlib.Omega.{arith}
@@ -14,9 +13,9 @@ use Rattle.plain.specs.Unit.{Plain, File, withFiles, sysOf}
 use Rattle.plain.specs.Taking.{layersFor}
 use Rattle.plain.specs.Catalog.{stepInit, newFile, stepCreate, stepSet, stepLookUp, stepRemove, changeFile, stepChange, isRecord}
 use Rattle.plain.specs.Good.{Good, WordsOf}
-use Rattle.plain.proofs.TableLaws.{some≢none, find-remove-other, sorted-remove, total-remove, remove-some}
+use Rattle.plain.proofs.TableLaws.{find-remove-other, sorted-remove, total-remove, remove-some}
 use Rattle.plain.proofs.QuestionLaws.{asks-law, given-law, not-some}
-use Rattle.plain.proofs.UnitLaws.{holds, occurrences-held}
+use Rattle.plain.proofs.UnitLaws.{holds, occurrences-held, area-name}
 use Rattle.plain.proofs.TakingLaws.{layers-up, layers-fit, places-remove}
 use Rattle.plain.proofs.WordLaws.{wordsOf-zeros, optional-words, tail-words}
 use Rattle.plain.proofs.GrowUnit.{grown-good}
@@ -49,9 +48,8 @@ removed-good p n g e = record {
   areaNames = g .areaNames;
   eight = g .eight;
   areas = λ k users h.
-      let d : k ≢ n = λ q. (let h₂ : tableFind n (p .areas) ≡ some users = rw q at h in some≢none (sym h₂ ∙ e)) in
       let a = g .areas k users h in
-      area-beside a (a .file) (find-remove-other k n 0 (p .files) (g .names) d ∙ a .entered) (omega arith);
+      area-beside a (a .file) (find-remove-other k n 0 (p .files) (g .names) (area-name p n e k users h) ∙ a .entered) (omega arith);
 }
 
 pub remove-keeps : (p : Plain) (name : Name) (lent : List ℕ) → Good p → Keeps (stepRemove p name lent)

@@ -14,10 +14,10 @@ use Rattle.disc.specs.Entries.{sysEntry, mapEntry}
 use Rattle.disc.proofs.Compare.{Tri, less, same, more, tri, same-or}
 use Rattle.disc.proofs.NameLaws.{legal-begins}
 use Rattle.disc.proofs.SliceLaws.{occurrences-append}
-use Rattle.plain.specs.Table.{Row, Table, findBy, tableFind, tablePut, tableMap, total, isSome, SortedFrom, Every}
-use Rattle.plain.specs.Unit.{Plain, File, AreaUser, slicesOf, fileEntry, entries, entry}
+use Rattle.plain.specs.Table.{Row, Table, findBy, tableFind, tablePut, tableRemove, tableMap, total, isSome, SortedFrom, Every}
+use Rattle.plain.specs.Unit.{Plain, File, AreaUser, slicesOf, fileEntry, entries, entry, withTables, withFiles}
 use Rattle.plain.specs.Good.{Good}
-use Rattle.plain.proofs.TableLaws.{some≢none, find-put, find-put-other, sorted-put, weightAt, total-put}
+use Rattle.plain.proofs.TableLaws.{some≢none, some-inj, find-remove, find-put, find-put-other, sorted-put, weightAt, total-put}
 use Rattle.plain.proofs.QuestionLaws.{not-some, is-some}
 
 -- ---- names
@@ -86,6 +86,38 @@ not-system n t = ((λ e. go (eqb n SYS) (eqb n MAP) (rw e (eqb-refl SYS)) t), (�
 pub system-cases : (n : ℕ) {C : Type 0} → (n ≡ SYS → C) → (n ≡ MAP → C) → (n ≢ SYS → n ≢ MAP → C) → C
 system-cases n f g h = same-or n SYS f (λ a. same-or n MAP g (λ b. h a b))
 
+-- an entry is SYS's, MAP's or a file's
+pub entry-cases : (p : Plain) (n : ℕ) {e : List ℕ} {C : Type 0} → entry p n ≡ some e → (n ≡ SYS → e ≡ sysEntry (p .H) (p .s) (p .layers) (p .sys) → C) → (n ≡ MAP → e ≡ mapEntry → C)
+    → ((f : File) → tableFind n (p .files) ≡ some f → e ≡ fileEntry (p .F) (p .s) n f → C) → C
+entry-cases p n {e} {C} h sys map file = system-cases n
+    (λ q. sys q (some-inj (sym h ∙ ap (entry p) q ∙ entry-sys p)))
+    (λ q. map q (some-inj (sym h ∙ ap (entry p) q ∙ entry-map p)))
+    (λ a b. go (tableFind n (p .files)) refl (sym (entry-other p n a b) ∙ h))
+  where
+    go : (o : Option File) → tableFind n (p .files) ≡ o → mapSome (fileEntry (p .F) (p .s) n) o ≡ some e → C
+    go none q z = absurd (some≢none (sym z))
+    go (some f) q z = file f q (sym (some-inj z))
+
+-- the entry of a file
+pub entry-of : (p : Plain) (n : ℕ) (f : File) → T (not (isSystem n)) → tableFind n (p .files) ≡ some f → entry p n ≡ some (fileEntry (p .F) (p .s) n f)
+entry-of p n f t h = let d = not-system n t in entry-other p n (d .0) (d .1) ∙ ap (mapSome (fileEntry (p .F) (p .s) n)) h
+
+-- another table of files with the same file, or none, for a name
+pub entry-beside : (p : Plain) (files : Table File) (areas : Table (Table AreaUser)) (m : ℕ) → tableFind m files ≡ tableFind m (p .files)
+    → entry (withTables p (p .layers) (p .sys) files areas) m ≡ entry p m
+entry-beside p files areas m e =
+    let q : Plain = withTables p (p .layers) (p .sys) files areas in
+    system-cases m
+    (λ z. ap (entry q) z ∙ entry-sys q ∙ sym (entry-sys p) ∙ ap (entry p) (sym z))
+    (λ z. ap (entry q) z ∙ entry-map q ∙ sym (entry-map p) ∙ ap (entry p) (sym z))
+    (λ a b. entry-other q m a b ∙ ap (mapSome (fileEntry (p .F) (p .s) m)) e ∙ sym (entry-other p m a b))
+
+-- a file that is removed has none
+pub entry-removed : (p : Plain) (n : ℕ) → SortedFrom 0 (p .files) → T (not (isSystem n)) → entry (withFiles p (tableRemove n (p .files))) n ≡ none
+entry-removed p n sorted t =
+    let d = not-system n t in
+    entry-other (withFiles p (tableRemove n (p .files))) n (d .0) (d .1) ∙ ap (mapSome (fileEntry (p .F) (p .s) n)) (find-remove n 0 (p .files) sorted)
+
 -- a name with no entry is no file, and none of SYS and MAP
 pub entry-none : (p : Plain) (n : ℕ) → T (not (isSome (entry p n))) → (tableFind n (p .files) ≡ none) × (n ≢ SYS) × (n ≢ MAP)
 entry-none p n t =
@@ -138,12 +170,11 @@ total-entries p ordinary w =
 pub entry-file : (p : Plain) (n : ℕ) → T (isSome (entry p n)) → T (not (isSystem n)) → (f : File) × (tableFind n (p .files) ≡ some f)
 entry-file p n t u =
     let d = not-system n u in
-    let e = is-some (entry p n) t in
-    go (tableFind n (p .files)) refl (sym (entry-other p n (d .0) (d .1)) ∙ e .1)
-  where
-    go : {e : List ℕ} (o : Option File) → tableFind n (p .files) ≡ o → mapSome (fileEntry (p .F) (p .s) n) o ≡ some e → (f : File) × (tableFind n (p .files) ≡ some f)
-    go none h z = absurd (some≢none (sym z))
-    go (some f) h z = (f, h)
+    entry-cases p n (is-some (entry p n) t .1) (λ q z. absurd (d .0 q)) (λ q z. absurd (d .1 q)) (λ f e z. (f, e))
+
+-- a name with an area is none without
+pub area-name : (p : Plain) (n : ℕ) → tableFind n (p .areas) ≡ none → (m : ℕ) (users : Table AreaUser) → tableFind m (p .areas) ≡ some users → m ≢ n
+area-name p n shut m users h q = some≢none (sym h ∙ ap (λ (x : ℕ). tableFind x (p .areas)) q ∙ shut)
 
 -- a name that is no file has no area
 pub no-area : (p : Plain) (n : ℕ) → Good p → tableFind n (p .files) ≡ none → tableFind n (p .areas) ≡ none

@@ -1,12 +1,12 @@
 -- What keeps the lists of a unit apart, less than `Good` and true half way through a call too; which sectors they read; the
 -- entries by name.
-use mathlib.Core.Path.{_≡_, refl, sym, ap, _∙_}
+use mathlib.Core.Path.{_≡_, sym, ap, _∙_}
 use mathlib.Core.List.{List}
 use mathlib.Core.Logic.{_≢_}
-use mathlib.Core.Option.{Option, none, some}
+use mathlib.Core.Option.{some}
 use Prim.Native.Nat.{ℕ, zero, _+_, _*_, _-_, _/_, _≤_, _<_}
 use native.Mathlib.Omega.{arith}
-use native.Mathlib.Nat.{mul-le-mul-right, div-mul-le-self}
+use native.Mathlib.Nat.{mul-le-mul-left, mul-le-mul-right, div-mul-le-self}
 use lib.ListN.{length, getD}
 use lib.Dec.{T}
 use Rattle.disc.specs.Numbers.{need}
@@ -15,16 +15,17 @@ use Rattle.disc.specs.Slices.{occurrences, InRangeOnce}
 use Rattle.disc.specs.Stretches.{sectorIn}
 use Rattle.disc.specs.Kit.{Limits}
 use Rattle.disc.specs.Entries.{indexSector}
+use Rattle.disc.proofs.Compare.{below-or}
 use Rattle.disc.specs.Catalog.{Catalog, placesOf}
-use Rattle.disc.proofs.SliceLaws.{occurrences-append}
+use Rattle.disc.proofs.SliceLaws.{occurrences-append, sum-law}
 use Rattle.disc.proofs.Geometry.{quot, in-range, data-sector, apart, within, need-cover, ceil-cover}
 use Rattle.disc.proofs.EntryLaws.{length-entry}
 use Rattle.disc.proofs.NameLaws.{pack-words}
 use Rattle.plain.specs.Table.{tableFind, SortedFrom, Every}
 use Rattle.plain.specs.Unit.{Plain, File, M, held, slicesOf, fileEntry, entry, sysOf}
 use Rattle.plain.specs.Good.{Good}
-use Rattle.plain.proofs.TableLaws.{some≢none, some-inj, find-below, total-one, total-two}
-use Rattle.plain.proofs.UnitLaws.{holds, occurrences-held, mapSome, entry-sys, entry-map, entry-other, system-cases}
+use Rattle.plain.proofs.TableLaws.{find-below, total-one, total-two}
+use Rattle.plain.proofs.UnitLaws.{holds, occurrences-held, mapSome, entry-other, entry-cases}
 use Rattle.refine.proofs.CatalogLaws.{Named, nameIn}
 
 pub record Ground (p : Plain) : Type 0 where
@@ -47,38 +48,20 @@ ground p g = record {
 
 pub entry-named : (p : Plain) → SortedFrom 0 (p .files) → Named (entry p)
 entry-named p sorted = record {
-  name = λ n e h. system-cases n
-      (λ q. ap nameIn (some-inj (sym h ∙ ap (entry p) q ∙ entry-sys p)) ∙ sym q)
-      (λ q. ap nameIn (some-inj (sym h ∙ ap (entry p) q ∙ entry-map p)) ∙ sym q)
-      (λ a b. file n e (tableFind n (p .files)) (sym (entry-other p n a b) ∙ h));
+  name = λ n e h. entry-cases p n h (λ q z. ap nameIn z ∙ sym q) (λ q z. ap nameIn z ∙ sym q) (λ f q z. ap nameIn z ∙ pack-words n);
   zero = entry-other p 0 (omega arith) (omega arith) ∙ ap (mapSome (fileEntry (p .F) (p .s) 0)) (find-below 0 0 (p .files) sorted (omega arith));
 }
-  where
-    file : (n : ℕ) (e : List ℕ) (o : Option File) → mapSome (fileEntry (p .F) (p .s) n) o ≡ some e → nameIn e ≡ n
-    file n e none h = absurd (some≢none (sym h))
-    file n e (some f) h = ap nameIn (sym (some-inj h)) ∙ pack-words n
 
 -- every name with an entry is legal, and every entry has 16 words
 module _ (p : Plain) (g : Good p) (n : ℕ) (e : List ℕ) (entered : entry p n ≡ some e) where
   pub entry-legal : T (legalName n)
-  entry-legal = system-cases n (λ q. rw q tt) (λ q. rw q tt) (λ a b. go (tableFind n (p .files)) refl (sym (entry-other p n a b) ∙ entered))
-    where
-      go : (o : Option File) → tableFind n (p .files) ≡ o → mapSome (fileEntry (p .F) (p .s) n) o ≡ some e → T (legalName n)
-      go none q z = absurd (some≢none (sym z))
-      go (some f) q z = g .files n f q .name
+  entry-legal = entry-cases p n entered (λ q z. rw q tt) (λ q z. rw q tt) (λ f q z. g .files n f q .name)
 
   pub entry-length : length e ≡ 16
-  entry-length = system-cases n
-      (λ q. ap length (some-inj (sym entered ∙ ap (entry p) q ∙ entry-sys p)))
-      (λ q. ap length (some-inj (sym entered ∙ ap (entry p) q ∙ entry-map p)))
-      (λ a b. go (tableFind n (p .files)) refl (sym (entry-other p n a b) ∙ entered))
-    where
-      go : (o : Option File) → tableFind n (p .files) ≡ o → mapSome (fileEntry (p .F) (p .s) n) o ≡ some e → length e ≡ 16
-      go none q z = absurd (some≢none (sym z))
-      go (some f) q z =
-          let fg = g .files n f q in
-          ap length (sym (some-inj z))
-          ∙ length-entry n (f .optional) (f .attributes) (f .booked) (indexSector (p .F) (p .s) (f .bookedSlices) (f .slices)) (p .s * f .bookedSlices) (f .tail) (fg .optional .count) (fg .tail .count)
+  entry-length = entry-cases p n entered (λ q z. ap length z) (λ q z. ap length z) (λ f q z.
+      let fg = g .files n f q in
+      ap length z
+      ∙ length-entry n (f .optional) (f .attributes) (f .booked) (indexSector (p .F) (p .s) (f .bookedSlices) (f .slices)) (p .s * f .bookedSlices) (f .tail) (fg .optional .count) (fg .tail .count))
 
 -- ---- the sectors of a unit's lists
 
@@ -92,6 +75,22 @@ module _ (p : Plain) (g : Ground p) where
 
   pub part-file : (m : ℕ) (a : File) → tableFind m (p .files) ≡ some a → (k : ℕ) → occurrences k (a .slices) ≤ occurrences k (held p)
   part-file m a e k = omega (arith, occurrences-held k (p .sys) (p .files), total-one (holds k) m a (p .files) e)
+
+  -- slices of the unit, each once: no more than it has
+  pub part-few : (l : List ℕ) → ((k : ℕ) → occurrences k l ≤ occurrences k (held p)) → length l ≤ M p
+  part-few l q = omega (arith, sum-law (M p) l (λ k. omega (arith, q k, g .once k)))
+
+  pub part-sectors : (l : List ℕ) → ((k : ℕ) → occurrences k l ≤ occurrences k (held p)) → p .s * length l + 10 ≤ 32767
+  part-sectors l q = omega (arith, mul-le-mul-left (p .s) (part-few l q), top, g .limits .sectors, g .limits .first)
+
+  -- a file's length is below 32,768: it needs a sector more than it has, within the data sectors
+  pub length-small : (n : ℕ) (f : File) → tableFind n (p .files) ≡ some f → length (f .sectors) ≤ 32767
+  length-small n f h = below-or (length (f .sectors)) 32768 (λ x. omega arith) (λ x.
+      absurd (omega (
+        arith,
+        need-cover (p .s) (length (f .sectors)) (length (f .slices)) positive (g .cover n f h) 32767 (omega arith),
+        part-sectors (f .slices) (part-file n f h),
+      )))
 
   pub first-in : (l : List ℕ) → 0 < length l → 0 / p .s < length l
   first-in l x = quot (p .F) (p .s) (M p) (held p) positive (g .once) 0 (length l) (omega (arith, mul-le-mul-right (p .s) x, positive))

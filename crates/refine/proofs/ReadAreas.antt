@@ -1,19 +1,20 @@
 -- The open area processes of a state, collected by name: what the state's search finds, the tables find.
 use mathlib.Core.Path.{_≡_, refl, sym, ap, _∙_}
-use mathlib.Core.Bool.{Bool, true, false, _&&_, cond}
-use mathlib.Core.List.{List, [], _∷_}
-use mathlib.Core.Logic.{_≢_}
+use mathlib.Core.Bool.{Bool, true, false}
+use mathlib.Core.List.{List}
 use mathlib.Core.Option.{Option, none, some}
 use Prim.Native.Nat.{ℕ, zero, suc, _≤_, _<_}
 use native.Mathlib.Omega.{arith}
-use lib.ListN.{length, getD}
-use lib.Dec.{T, eqb, eqb→eq}
-use borrow.Author.Tests.{eq-eqb}
+use lib.ListN.{length}
+use lib.Dec.{T}
 use Rattle.types.specs.declared.Area.{Area}
 use Rattle.types.specs.declared.State.{State}
-use Rattle.types.specs.State.{pastArea, areaAt, IsOpen}
+use Rattle.types.specs.State.{areaAt, IsOpen}
 use Rattle.disc.specs.Names.{isSystem}
 use Rattle.disc.specs.Entries.{nameAt, indexSector}
+use Rattle.state.specs.declared.Found.{Found}
+use Rattle.state.specs.declared.Found.the-variants.{At, Absent}
+use Rattle.state.specs.Areas.{areaNamed}
 use Rattle.plain.specs.Table.{Row, Table, tableFind, SortedFrom}
 use Rattle.plain.specs.Unit.{File, AreaUser}
 use Rattle.plain.specs.Good.{GoodArea}
@@ -21,7 +22,7 @@ use Rattle.plain.proofs.TableLaws.{some≢none, some-inj, one, total-length}
 use Rattle.plain.proofs.UnitLaws.{legal-positive}
 use Rattle.plain.proofs.Collect.{collect, weightIf, sorted-collect, collect-find, find-collect, total-collect}
 use Rattle.sound.specs.Places.{Used}
-use Rattle.sound.specs.State.{Shaped, areaName, firstOpen, openArea, liveIndex, liveLength, DistinctAreas}
+use Rattle.sound.specs.State.{Shaped, areaName, openArea, liveIndex, liveLength, DistinctAreas}
 use Rattle.sound.specs.Sound.{indexOf, SoundEntries, SoundAreas}
 use Rattle.refine.specs.Represents.{usersIn, areaOfState, areaOfUnit}
 use Rattle.refine.proofs.KeyPlaces.{sum-most}
@@ -29,43 +30,7 @@ use Rattle.refine.proofs.ReadFile.{readFile, length-sectors, index-from
 use Rattle.refine.proofs.ReadFiles.{filesBelow, file-find}
 use Rattle.refine.proofs.UserLaws.{users-sorted}
 use Rattle.refine.proofs.ReadUsers.{three-users, good-roles, good-user}
-
--- ---- the search in the descriptors
-
--- where an open descriptor of a name stands
-record OpenAt (n : ℕ) (l : List Area) (a : Area) : Type 0 where
-  pub place : ℕ
-  pub inside : place < length l
-  pub is : getD l place pastArea ≡ a
-  pub live : a .live ≡ true
-  pub name : areaName a ≡ n
-
-first-some : (n : ℕ) (l : List Area) (a : Area) → firstOpen n l ≡ some a → OpenAt n l a
-first-some n [] a e = absurd (some≢none (sym e))
-first-some n (x ∷ l) a e = go (x .live) refl (eqb (areaName x) n) refl e (λ q. first-some n l a q)
-  where
-    up : OpenAt n l a → OpenAt n (x ∷ l) a
-    up o = record { place = suc (o .place); inside = omega (arith, o .inside); is = o .is; live = o .live; name = o .name }
-
-    go : (b : Bool) → x .live ≡ b → (c : Bool) → eqb (areaName x) n ≡ c → cond (b && c) (some x) (firstOpen n l) ≡ some a
-        → (firstOpen n l ≡ some a → OpenAt n l a) → OpenAt n (x ∷ l) a
-    go false p c q e ih = up (ih e)
-    go true p false q e ih = up (ih e)
-    go true p true q e ih =
-        let z : x ≡ a = some-inj e in
-        record { place = 0; inside = omega arith; is = z; live = ap (λ (y : Area). y .live) (sym z) ∙ p; name = ap areaName (sym z) ∙ eqb→eq (areaName x) n (rw q tt) }
-
-first-none : (n : ℕ) (l : List Area) → firstOpen n l ≡ none → (j : ℕ) → j < length l → getD l j pastArea .live ≡ true → areaName (getD l j pastArea) ≢ n
-first-none n [] e j h p q = absurd (omega arith)
-first-none n (x ∷ l) e zero h p q = some≢none (sym here ∙ e)
-  where
-    here : cond (x .live && eqb (areaName x) n) (some x) (firstOpen n l) ≡ some x
-    here = rw (p, eq-eqb (areaName x) n q) refl
-first-none n (x ∷ l) e (suc j) h p q = go (x .live && eqb (areaName x) n) e (λ z. first-none n l z j (omega arith) p q)
-  where
-    go : (b : Bool) → cond b (some x) (firstOpen n l) ≡ none → (firstOpen n l ≡ none → ⊥) → ⊥
-    go true z ih = some≢none z
-    go false z ih = ih z
+use Rattle.refine.proofs.StateLaws.{open-found, open-absent, named-inside, named-open, named-name, own-area}
 
 -- ---- the areas by name
 
@@ -132,14 +97,7 @@ module _ (state : State) where
 
     -- an open descriptor is the one that the search finds
     pub open-at : (j : ℕ) → j < 8 → IsOpen state j → openArea state (areaName (areaAt state j)) ≡ some (areaAt state j)
-    open-at j h live = go (openArea state (areaName (areaAt state j))) refl
-      where
-        go : (o : Option Area) → openArea state (areaName (areaAt state j)) ≡ o → o ≡ some (areaAt state j)
-        go none e = absurd (first-none (areaName (areaAt state j)) (state .areas) e j (omega (arith, shaped .eight)) live refl)
-        go (some a) e =
-            let o = first-some (areaName (areaAt state j)) (state .areas) a e in
-            let same : o .place ≡ j = distinct (o .place) j (omega (arith, o .inside, shaped .eight)) h (ap (λ (x : Area). x .live) (o .is) ∙ o .live) live (ap areaName (o .is) ∙ o .name) in
-            ap some (sym (o .is) ∙ ap (areaAt state) same)
+    open-at j h live = open-found state (areaName (areaAt state j)) j (own-area state j shaped distinct h live)
 
     -- and the table of areas finds its users
     area-find : (j : ℕ) → j < 8 → IsOpen state j → 0 < areaName (areaAt state j) → tableFind (areaName (areaAt state j)) readAreas ≡ some (usersIn (areaAt state j .users))
@@ -156,7 +114,7 @@ module _ (state : State) where
         go none h = refl
         go (some users) h =
             let c = row-there n users h in
-            absurd (first-none n (state .areas) e (c .0) (omega (arith, c .1, shaped .eight)) (c .2 .live) (c .2 .key))
+            absurd (some≢none (sym (open-at (c .0) (c .1) (c .2 .live)) ∙ ap (openArea state) (c .2 .key) ∙ e))
 
 -- ---- with the entries
 
@@ -207,9 +165,11 @@ module _ (image : List ℕ) (state : State) (H s F : ℕ) (P : ℕ → ℕ → �
       opened (c .0) (c .1) (c .2 .live) n (c .2 .key)
 
   by-search : (n : ℕ) (a : Area) → openArea state n ≡ some a → Open n
-  by-search n a e =
-      let o = first-some n (state .areas) a e in
-      opened (o .place) (omega (arith, o .inside, shaped .eight)) (ap (λ (x : Area). x .live) (o .is) ∙ o .live) n (ap areaName (o .is) ∙ o .name)
+  by-search n a e = go (areaNamed n state) refl
+    where
+      go : (o : Found) → areaNamed n state ≡ o → Open n
+      go (At j) q = opened j (omega (arith, named-inside state n j q, shaped .eight)) (named-open state n j q) n (named-name state n j q)
+      go Absent q = absurd (some≢none (sym e ∙ open-absent state n q))
 
   -- a name without users in the tables is not open
   pub not-open : (n : ℕ) → tableFind n (readAreas state) ≡ none → openArea state n ≡ none

@@ -1,8 +1,8 @@
 -- The catalog of sound places: each is unused or holds the entry of its name, and no key has more names than places.
-use mathlib.Core.Path.{_≡_, refl, sym, ap, _∙_}
+use mathlib.Core.Path.{_≡_, sym, ap, _∙_}
 use mathlib.Core.List.{List, []}
 use mathlib.Core.Logic.{_≢_, _⊎_, inl, inr, ⊎-elim}
-use mathlib.Core.Option.{Option, none, some}
+use mathlib.Core.Option.{Option, some}
 use Prim.Native.Nat.{ℕ, zero, suc, _*_, _/_, _%_, _≤_, _<_}
 use native.Mathlib.Omega.{arith}
 use lib.Dec.{T, eqb, eqb→eq, not-T}
@@ -11,12 +11,11 @@ use Rattle.disc.specs.Names.{SYS, MAP, isSystem, keyOf}
 use Rattle.disc.specs.Entries.{placeCount, nameAt, sysEntry, mapEntry}
 use Rattle.disc.specs.Catalog.{sysCatalog}
 use Rattle.disc.proofs.Compare.{same-or}
-use Rattle.plain.specs.Table.{Table, tableFind}
+use Rattle.plain.specs.Table.{Table}
 use Rattle.plain.specs.Unit.{Plain, File, AreaUser, fileEntry, entry}
 use Rattle.plain.specs.Taking.{placesTaken}
-use Rattle.plain.proofs.TableLaws.{some≢none}
 use Rattle.plain.proofs.QuestionLaws.{or-case}
-use Rattle.plain.proofs.UnitLaws.{mapSome, legal-positive, entry-sys, entry-map, entry-other, system-cases}
+use Rattle.plain.proofs.UnitLaws.{mapSome, legal-positive, entry-sys, entry-map, entry-other, system-cases, entry-cases}
 use Rattle.sound.specs.Places.{Unused, Used, Entered}
 use Rattle.sound.specs.Sound.{SoundEntries}
 use Rattle.refine.specs.Represents.{PlaceOf, CatalogOf}
@@ -92,14 +91,10 @@ module _ (image : List ℕ) (state : State) (H s F : ℕ) (P : ℕ → ℕ → �
         })
 
     place-there : (n : ℕ) (e : List ℕ) → E n ≡ some e → (t : ℕ) × (t < placeCount H layers) × (nameAt P t ≡ n)
-    place-there n e h = system-cases n
-        (λ q. (se .place, se .inside, sys-name ∙ sym q))
-        (λ q. (me .place, me .inside, map-name ∙ sym q))
-        (λ a b. go (tableFind n files) refl (sym (entry-other (unit number N areas) n a b) ∙ h))
-      where
-        go : (o : Option File) → tableFind n files ≡ o → mapSome (fileEntry F s n) o ≡ some e → (t : ℕ) × (t < placeCount H layers) × (nameAt P t ≡ n)
-        go none q z = absurd (some≢none (sym z))
-        go (some f) q z = let w = file-there image state F s P (placeCount H layers) n f q in (w .place, w .inside, w .name)
+    place-there n e h = entry-cases (unit number N areas) n h
+        (λ q z. (se .place, se .inside, sys-name ∙ sym q))
+        (λ q z. (me .place, me .inside, map-name ∙ sym q))
+        (λ f q z. let w = file-there image state F s P (placeCount H layers) n f q in (w .place, w .inside, w .name))
 
     pub read-catalog : CatalogOf P (placeCount H layers) H E
     read-catalog = record {

@@ -171,7 +171,7 @@ users-of F s none f a e = absurd (some≢none e)
 users-of F s (some users) none a e = ap (λ (x : LiveArea). some (x .users)) (sym (some-inj e))
 users-of F s (some users) (some f) a e = ap (λ (x : LiveArea). some (x .users)) (sym (some-inj e))
 
-none-of : (F s : ℕ) (users : Option (Table AreaUser)) (f : Option File) → none ≡ areaOfUnit F s users f → users ≡ none
+pub none-of : (F s : ℕ) (users : Option (Table AreaUser)) (f : Option File) → none ≡ areaOfUnit F s users f → users ≡ none
 none-of F s none f e = refl
 none-of F s (some users) none e = absurd (some≢none (sym e))
 none-of F s (some users) (some f) e = absurd (some≢none (sym e))

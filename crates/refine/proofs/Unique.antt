@@ -1,33 +1,29 @@
 -- One image and one state represent one plain unit.
 use mathlib.Core.Path.{_≡_, refl, sym, ap, ap₂, _∙_, subst}
-use mathlib.Core.Bool.{not}
 use mathlib.Core.List.{List, [], _∷_, _++_}
-use mathlib.Core.Logic.{_≢_, _⊎_, inl, inr, ⊎-elim}
+use mathlib.Core.Logic.{_≢_, ⊎-elim}
 use mathlib.Core.Option.{Option, none, some}
-use Prim.Native.Nat.{ℕ, zero, suc, _+_, _*_, _-_, _/_, _%_, _≤_, _<_}
+use Prim.Native.Nat.{ℕ, _+_, _*_, _/_, _<_}
 use native.Mathlib.Omega.{arith}
 use native.Mathlib.Nat.{mul-div-cancel-left, mul-le-mul-left}
-use lib.ListN.{length, getD, length-append}
+use lib.ListN.{length, getD}
 use lib.Seq.{ext-getD}
-use lib.Dec.{T}
-use Rattle.types.specs.declared.Area.{Area}
 use Rattle.types.specs.declared.State.{State}
 use Rattle.disc.specs.Words.{Holds}
-use Rattle.disc.specs.Names.{SYS, MAP, nameWords, isSystem}
+use Rattle.disc.specs.Names.{SYS, nameWords}
 use Rattle.disc.specs.Stretches.{sectorIn, sysFrom}
-use Rattle.disc.specs.Entries.{placeWord, placeCount, nameAt, entryWords, indexSector, sysEntry, mapEntry}
+use Rattle.disc.specs.Entries.{placeWord, nameAt, indexSector, sysEntry}
 use Rattle.disc.proofs.Compare.{below-or}
 use Rattle.disc.proofs.IndexUnique.{index-unique}
 use Rattle.disc.proofs.EntryLaws.{sector-first, index-zero, index-none, no-slices}
 use Rattle.plain.specs.Table.{Table, tableFind}
-use Rattle.plain.specs.Unit.{Plain, File, AreaUser, M, held, fileEntry, entry, freeSectors, withTables, withFiles}
-use Rattle.plain.specs.Good.{Good, GoodFile}
+use Rattle.plain.specs.Unit.{Plain, File, AreaUser, held, fileEntry, entry, freeSectors, withTables, withFiles}
+use Rattle.plain.specs.Good.{Good}
 use Rattle.plain.proofs.TableLaws.{some≢none, some-inj, find-ext}
-use Rattle.plain.proofs.UnitLaws.{mapSome, entry-sys, entry-map, entry-other, system-cases, not-system}
+use Rattle.plain.proofs.UnitLaws.{entry-sys, not-system, entry-of, entry-cases}
 use Rattle.sound.specs.Places.{Unused}
-use Rattle.sound.specs.State.{openArea}
-use Rattle.refine.specs.Represents.{PlaceOf, FileOnImage, Layout, LiveArea, areaOfState, areaOfUnit, SameAreas, Represents}
-use Rattle.refine.proofs.CatalogLaws.{At, at, Named, nameIn, name-zero, no-zero}
+use Rattle.refine.specs.Represents.{PlaceOf, Layout, LiveArea, areaOfUnit, Represents}
+use Rattle.refine.proofs.CatalogLaws.{At, at, Named, name-zero, no-zero}
 use Rattle.refine.proofs.Ground.{Ground, ground, entry-named, entry-length, positive, catalog-slices, sys-ground, file-slices}
 
 -- ---- entries
@@ -137,14 +133,8 @@ module _ (image : List ℕ) (p : Plain) (fs : Table File) (a : Is image p) (b : 
   file-there : (n : ℕ) (f : File) → tableFind n (p .files) ≡ some f → (k : File) × (tableFind n fs ≡ some k) × (fileEntry (p .F) (p .s) n f ≡ fileEntry (p .F) (p .s) n k)
   file-there n f h =
       let d = not-system n (a .good .files n f h .ordinary) in
-      let e : entry (withFiles p fs) n ≡ some (fileEntry (p .F) (p .s) n f) =
-      entry-there image p fs a b n (fileEntry (p .F) (p .s) n f) (entry-other p n (d .0) (d .1) ∙ ap (mapSome (fileEntry (p .F) (p .s) n)) h) in
-      go (tableFind n fs) refl (sym (entry-other (withFiles p fs) n (d .0) (d .1)) ∙ e)
-    where
-      go : (o : Option File) → tableFind n fs ≡ o → mapSome (fileEntry (p .F) (p .s) n) o ≡ some (fileEntry (p .F) (p .s) n f)
-          → (k : File) × (tableFind n fs ≡ some k) × (fileEntry (p .F) (p .s) n f ≡ fileEntry (p .F) (p .s) n k)
-      go none x y = absurd (some≢none (sym y))
-      go (some k) x y = (k, x, sym (some-inj y))
+      entry-cases (withFiles p fs) n (entry-there image p fs a b n (fileEntry (p .F) (p .s) n f) (entry-of p n f (a .good .files n f h .ordinary) h))
+      (λ q z. absurd (d .0 q)) (λ q z. absurd (d .1 q)) (λ k q z. (k, q, z))
 
   module _ (n : ℕ) (f k : File) (h : tableFind n (p .files) ≡ some f) (j : tableFind n fs ≡ some k) (same-entry : fileEntry (p .F) (p .s) n f ≡ fileEntry (p .F) (p .s) n k)
       (live : (users : Table AreaUser) → tableFind n (p .areas) ≡ some users → SameLive (p .F) (p .s) f k) where

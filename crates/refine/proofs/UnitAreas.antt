@@ -1,36 +1,35 @@
 -- The open areas of a represented plain unit meet the rules of a sound unit.
-use mathlib.Core.Path.{_≡_, refl, sym, ap, _∙_}
-use mathlib.Core.Bool.{Bool, not}
+use mathlib.Core.Path.{_≡_, sym, ap, _∙_}
 use mathlib.Core.List.{List}
 use mathlib.Core.Logic.{_≢_}
-use mathlib.Core.Option.{Option, none, some}
-use Prim.Native.Nat.{ℕ, zero, suc, _+_, _≤_, _<_}
+use mathlib.Core.Option.{some}
+use Prim.Native.Nat.{ℕ, _<_}
 use native.Mathlib.Omega.{arith}
 use lib.ListN.{length}
 use lib.Dec.{T, T-not}
-use Rattle.types.specs.declared.Role.{Role}
-use Rattle.types.specs.declared.Role.the-variants.{ExclusiveWriter, ExclusiveUser}
 use Rattle.types.specs.declared.Area.{Area}
 use Rattle.types.specs.declared.State.{State}
 use Rattle.types.specs.State.{areaAt, userAt, IsOpen}
 use Rattle.disc.specs.Names.{isSystem}
 use Rattle.disc.specs.Entries.{nameAt}
 use Rattle.disc.proofs.Compare.{same-or}
-use Rattle.plain.specs.Table.{Row, Table, tableFind, total}
+use Rattle.state.specs.declared.Found.the-variants.{At}
+use Rattle.state.specs.Areas.{areaNamed}
+use Rattle.plain.specs.Table.{Row, tableFind}
 use Rattle.plain.specs.Unit.{Plain, File, AreaUser, fileEntry, entry}
-use Rattle.plain.specs.Areas.{isExclusive, isWriter, isUser, usersOf}
+use Rattle.plain.specs.Areas.{isExclusive, isWriter, isUser}
 use Rattle.plain.specs.Good.{Good, GoodArea}
-use Rattle.plain.proofs.TableLaws.{some≢none, some-inj, total-one, total-two}
+use Rattle.plain.proofs.TableLaws.{total-one, total-two}
 use Rattle.plain.proofs.RoleLaws.{users-length}
-use Rattle.plain.proofs.UnitLaws.{mapSome, entry-other, not-system}
+use Rattle.plain.proofs.UnitLaws.{entry-of}
 use Rattle.sound.specs.Places.{Used}
-use Rattle.sound.specs.State.{openArea, areaName, IsTaken, LegalUsers}
+use Rattle.sound.specs.State.{areaName, IsTaken, LegalUsers}
 use Rattle.sound.specs.Sound.{SoundAreas}
-use Rattle.refine.specs.Represents.{LiveArea, usersIn, areaOfState, areaOfUnit, Represents}
-use Rattle.refine.proofs.CatalogLaws.{name-zero, no-zero, Named}
+use Rattle.refine.specs.Represents.{usersIn, Represents}
+use Rattle.refine.proofs.CatalogLaws.{name-zero, no-zero}
 use Rattle.refine.proofs.Ground.{entry-named}
 use Rattle.refine.proofs.UserLaws.{plainUser, DistinctUsers, own-entry, user-found, users-sorted}
-use Rattle.refine.proofs.StateLaws.{own-area, open-found}
+use Rattle.refine.proofs.StateLaws.{own-area, same-found, same-size, same-users}
 use Rattle.refine.proofs.UnitFiles.{P, count}
 
 module _ {image : List ℕ} {state : State} {p : Plain} (g : Good p) (r : Represents image state p) where
@@ -44,29 +43,22 @@ module _ {image : List ℕ} {state : State} {p : Plain} (g : Good p) (r : Repres
     abbrev n : ℕ
     n = areaName (areaAt state j)
 
-    found : openArea state n ≡ some a
-    found = open-found state n j (own-area state j (r .areas .shaped) (r .areas .distinct) inside live)
+    found : areaNamed n state ≡ At j
+    found = own-area state j (r .areas .shaped) (r .areas .distinct) inside live
 
     -- the unit has the area, with the descriptor's users
     unit-area : tableFind n (p .areas) ≡ some (usersIn (a .users))
-    unit-area = go (tableFind n (p .areas)) (tableFind n (p .files)) (ap areaOfState (sym found) ∙ r .areas .each n)
-      where
-        go : (o : Option (Table AreaUser)) (f : Option File) → areaOfState (some a) ≡ areaOfUnit (p .F) (p .s) o f → o ≡ some (usersIn (a .users))
-        go none f e = absurd (some≢none e)
-        go (some users) none e = ap (λ (l : LiveArea). some (l .users)) (sym (some-inj e))
-        go (some users) (some f) e = ap (λ (l : LiveArea). some (l .users)) (sym (some-inj e))
+    unit-area = same-found state p (r .areas) n j found
 
     good : GoodArea (p .files) n (usersIn (a .users))
     good = g .areas n (usersIn (a .users)) unit-area
 
     -- the live length is the file's
     length-file : length (good .file .sectors) ≡ a .length
-    length-file =
-        let z : areaOfState (some a) ≡ areaOfUnit (p .F) (p .s) (some (usersIn (a .users))) (some (good .file)) = rw (found, unit-area, good .entered) at (r .areas .each n) in
-        sym (ap (λ (l : LiveArea). l .size) (some-inj z))
+    length-file = sym (same-size state p (r .areas) n j (good .file) found (good .entered))
 
     distinct : DistinctUsers a
-    distinct = record { three = r .areas .shaped .three j inside; only = λ u v x y t e. r .areas .distinctUsers j u v inside live x y t e }
+    distinct = same-users state p (r .areas) j inside live
 
     -- a taken entry is in the table
     in-table : (u : ℕ) → u < 3 → IsTaken a u → tableFind (userAt a u .id) (usersIn (a .users)) ≡ some (plainUser (userAt a u))
@@ -101,8 +93,7 @@ module _ {image : List ℕ} {state : State} {p : Plain} (g : Good p) (r : Repres
     area-entered : (t : ℕ) × (t < count g r) × Used Q t × (nameAt Q t ≡ n)
     area-entered =
         let f : File = good .file in
-        let d = not-system n (g .files n f (good .entered) .ordinary) in
-        let e : entry p n ≡ some (fileEntry (p .F) (p .s) n f) = entry-other p n (d .0) (d .1) ∙ ap (mapSome (fileEntry (p .F) (p .s) n)) (good .entered) in
+        let e : entry p n ≡ some (fileEntry (p .F) (p .s) n f) = entry-of p n f (g .files n f (good .entered) .ordinary) (good .entered) in
         let there = r .layout .sys .places .there n (fileEntry (p .F) (p .s) n f) e in
         (there .0, there .1, (λ z. no-zero (r .layout .sys .places) (entry-named p (g .names)) n (fileEntry (p .F) (p .s) n f) e (sym (there .2) ∙ name-zero Q (there .0) z)), there .2)
 

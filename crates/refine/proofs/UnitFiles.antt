@@ -1,39 +1,36 @@
 -- The files of a represented plain unit, as the places of SYS and the open areas show them.
 use mathlib.Core.Path.{_≡_, refl, sym, ap, _∙_}
-use mathlib.Core.Bool.{Bool, not}
-use mathlib.Core.List.{List, [], _∷_, _++_}
-use mathlib.Core.Logic.{_≢_, _⊎_, inl, inr, ⊎-elim}
+use mathlib.Core.List.{List, [], _∷_}
+use mathlib.Core.Logic.{_≢_, ⊎-elim}
 use mathlib.Core.Option.{Option, none, some}
-use Prim.Native.Nat.{ℕ, zero, suc, _+_, _*_, _-_, _/_, _%_, _≤_, _<_}
+use Prim.Native.Nat.{ℕ, zero, suc, _+_, _*_, _-_, _≤_, _<_}
 use native.Mathlib.Omega.{arith}
-use native.Mathlib.Nat.{mul-le-mul-right, div-mul-le-self}
-use lib.ListN.{length, getD, length-append}
-use lib.Dec.{T, not-T}
+use lib.ListN.{length, getD}
+use lib.Dec.{T}
 use Rattle.types.specs.declared.Area.{Area}
 use Rattle.types.specs.declared.State.{State}
-use Rattle.disc.specs.Numbers.{need, sliceStart}
+use Rattle.disc.specs.Numbers.{sliceStart}
 use Rattle.disc.specs.Words.{word, Holds}
-use Rattle.disc.specs.Names.{SYS, MAP, isSystem, legalName}
-use Rattle.disc.specs.Slices.{occurrences, firstOf}
-use Rattle.disc.specs.Stretches.{sectorIn, indexWords, stretchCount, slicesAt, sysFrom}
+use Rattle.disc.specs.Names.{isSystem}
+use Rattle.disc.specs.Slices.{firstOf}
+use Rattle.disc.specs.Stretches.{sectorIn, indexWords, stretchCount, slicesAt}
 use Rattle.disc.specs.Kit.{sysIndexSector}
-use Rattle.disc.specs.Entries.{placeWord, placeCount, nameAt, indexSector}
-use Rattle.disc.proofs.Compare.{same-or, below-or}
-use Rattle.disc.proofs.SliceLaws.{sum-law}
+use Rattle.disc.specs.Entries.{placeCount, nameAt, indexSector}
+use Rattle.disc.proofs.Compare.{below-or}
 use Rattle.disc.proofs.StretchLaws.{count-some}
-use Rattle.disc.proofs.Geometry.{need-cover}
 use Rattle.disc.proofs.EntryLaws.{entry-attributes, entry-size, entry-index, entry-reserved, sector-first, index-none}
 use Rattle.disc.proofs.IndexRead.{slices-read}
-use Rattle.plain.specs.Table.{Row, Table, tableFind, total}
-use Rattle.plain.specs.Unit.{Plain, File, AreaUser, M, held, fileEntry, entry}
+use Rattle.plain.specs.Table.{Table, tableFind}
+use Rattle.plain.specs.Unit.{Plain, File, AreaUser, fileEntry, entry}
 use Rattle.plain.specs.Good.{Good, GoodFile}
-use Rattle.plain.proofs.TableLaws.{some≢none, some-inj, total-one}
-use Rattle.plain.proofs.UnitLaws.{mapSome, entry-other, not-system}
-use Rattle.sound.specs.Places.{Unused, Used, IndexBlock, OwnIndex, slicesFrom, indexIf, Booked, LegalFile}
+use Rattle.plain.proofs.TableLaws.{some≢none, some-inj}
+use Rattle.plain.proofs.UnitLaws.{entry-cases}
+use Rattle.sound.specs.Places.{Unused, Used, IndexBlock, OwnIndex, slicesFrom, indexIf, LegalFile}
 use Rattle.sound.specs.State.{openArea, liveIndex, liveLength}
 use Rattle.sound.specs.Sound.{indexOf, lengthOf, slicesOf, SoundFile, sysPlaces}
 use Rattle.refine.specs.Represents.{PlaceOf, FileOnImage, LiveArea, areaOfState, areaOfUnit, Represents}
-use Rattle.refine.proofs.Ground.{Ground, ground, positive, catalog-slices, sys-ground, file-slices}
+use Rattle.refine.proofs.Ground.{Ground, ground, positive, catalog-slices, sys-ground, file-slices, length-small}
+use Rattle.refine.proofs.StateLaws.{none-of}
 
 -- ---- one file's index block
 
@@ -108,15 +105,9 @@ module _ {image : List ℕ} {state : State} {p : Plain} (g : Good p) (r : Repres
       → (f : File) × (tableFind (nameAt P t) (p .files) ≡ some f) × ((w : ℕ) → w < 16 → P t w ≡ getD (fileEntry (p .F) (p .s) (nameAt P t) f) w 0)
   file-at t x used other = ⊎-elim
       (λ (z : Unused P t). absurd (used z))
-      (λ (u : PlaceOf P (p .H) (entry p) t).
-      let d = not-system (nameAt P t) (not-T (isSystem (nameAt P t)) other) in
-      go (u .words) (u .holds) (tableFind (nameAt P t) (p .files)) refl (sym (entry-other p (nameAt P t) (d .0) (d .1)) ∙ u .entered))
+      (λ (u : PlaceOf P (p .H) (entry p) t). entry-cases p (nameAt P t) (u .entered) (λ q z. absurd (other (rw q tt))) (λ q z. absurd (other (rw q tt)))
+      (λ f q z. (f, q, (λ w y. u .holds w y ∙ ap (λ (l : List ℕ). getD l w 0) z))))
       (r .layout .sys .places .each t x)
-    where
-      go : (e : List ℕ) → ((w : ℕ) → w < 16 → P t w ≡ getD e w 0) → (o : Option File) → tableFind (nameAt P t) (p .files) ≡ o → mapSome (fileEntry (p .F) (p .s) (nameAt P t)) o ≡ some e
-          → (f : File) × (tableFind (nameAt P t) (p .files) ≡ some f) × ((w : ℕ) → w < 16 → P t w ≡ getD (fileEntry (p .F) (p .s) (nameAt P t) f) w 0)
-      go e h none q z = absurd (some≢none (sym z))
-      go e h (some f) q z = (f, q, (λ w y. h w y ∙ ap (λ (l : List ℕ). getD l w 0) (sym (some-inj z))))
 
   module _ (n : ℕ) (f : File) (found : tableFind n (p .files) ≡ some f) where
     abbrev index : ℕ
@@ -134,37 +125,7 @@ module _ {image : List ℕ} {state : State} {p : Plain} (g : Good p) (r : Repres
         go (some users) z = (ap (λ (l : LiveArea). l .index) (some-inj z), ap (λ (l : LiveArea). l .size) (some-inj z))
 
     pub no-live-area : openArea state n ≡ none → tableFind n (p .areas) ≡ none
-    no-live-area e = go (tableFind n (p .areas)) (ap areaOfState (sym e) ∙ r .areas .each n ∙ ap (areaOfUnit (p .F) (p .s) (tableFind n (p .areas))) found)
-      where
-        go : (o : Option (Table AreaUser)) → areaOfState none ≡ areaOfUnit (p .F) (p .s) o (some f) → o ≡ none
-        go none z = refl
-        go (some users) z = absurd (some≢none (sym z))
-
-    -- a file's length is below 32,768: it needs a sector more than it has, within the data sectors
-    pub short : length (f .sectors) ≤ 32767
-    short = below-or (length (f .sectors)) 32768 (λ x. omega arith) (λ x.
-        let held-few : length (f .slices) ≤ M p = omega (arith, sum-law (M p) (held p) (g .once), slices-held) in
-        absurd (omega (
-          arith,
-          need-cover (p .s) (length (f .sectors)) (length (f .slices)) (positive p gr) (fg .covered) 32767 (omega arith),
-          mul-le-mul-right (p .s) held-few,
-          div-mul-le-self (p .N - p .F) (p .s),
-          g .limits .sectors,
-          g .limits .first,
-        )))
-      where
-        lengths : (t : Table File) → length (Rattle.plain.specs.Unit.slicesOf t) ≡ total (λ (x : Row File). length (x .val .slices)) t
-        lengths [] = refl
-        lengths (x ∷ t) = omega (arith, length-append (x .val .slices) (Rattle.plain.specs.Unit.slicesOf t), lengths t)
-
-        slices-held : length (f .slices) ≤ length (held p)
-        slices-held =
-            omega (
-              arith,
-              length-append (p .sys) (Rattle.plain.specs.Unit.slicesOf (p .files)),
-              lengths (p .files),
-              total-one (λ (x : Row File). length (x .val .slices)) n f (p .files) found,
-            )
+    no-live-area e = none-of (p .F) (p .s) (tableFind n (p .areas)) (tableFind n (p .files)) (ap areaOfState (sym e) ∙ r .areas .each n)
 
     module _ (t : ℕ) (same : n ≡ nameAt P t) (words : (w : ℕ) → w < 16 → P t w ≡ getD (fileEntry (p .F) (p .s) n f) w 0) where
       abbrev opt : length (f .optional) ≡ 3
@@ -207,7 +168,7 @@ module _ {image : List ℕ} {state : State} {p : Plain} (g : Good p) (r : Repres
           record {
             allowed = fg .attributes;
             entryOnly = rw own (fg .entryOnly);
-            short = short;
+            short = length-small p gr n f found;
             covered = rw own (fg .covered);
             index = λ nz. own-index image (p .F) (p .s) f (g .limits .first) (positive p gr) (file-slices p gr n f found) (fg .few) (r .layout .files n f found) nz;
           }

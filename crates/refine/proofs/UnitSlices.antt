@@ -15,7 +15,7 @@ use Rattle.plain.specs.Table.{tableFind}
 use Rattle.plain.specs.Unit.{Plain, File, held, fileEntry}
 use Rattle.plain.specs.Good.{Good}
 use Rattle.plain.proofs.TableLaws.{find-below}
-use Rattle.plain.proofs.UnitLaws.{holds, occurrences-held, system-none, not-system, entry-other, mapSome, ordinary-files}
+use Rattle.plain.proofs.UnitLaws.{holds, occurrences-held, system-none, ordinary-files, entry-of}
 use Rattle.plain.proofs.Collect.{sumBelow, sum-ext, weightIf}
 use Rattle.sound.specs.Places.{Used}
 use Rattle.sound.specs.Sound.{slicesOf, heldBy, slicesBelow, allSlices}
@@ -62,9 +62,7 @@ module _ {image : List ℕ} {state : State} {p : Plain} (g : Good p) (r : Repres
       go (suc n) e = named n e (isSystem (suc n)) refl
 
   there : (n : ℕ) (f : File) → tableFind n (p .files) ≡ some f → (t : ℕ) × (t < N) × (nameAt Q t ≡ n)
-  there n f e =
-      let d = not-system n (g .files n f e .ordinary) in
-      r .layout .sys .places .there n (fileEntry (p .F) (p .s) n f) (entry-other p n (d .0) (d .1) ∙ ap (mapSome (fileEntry (p .F) (p .s) n)) e)
+  there n f e = r .layout .sys .places .there n (fileEntry (p .F) (p .s) n f) (entry-of p n f (g .files n f e .ordinary) e)
 
   pub all-held : (k : ℕ) → occurrences k (allSlices image state (p .F) (p .s) (p .sys) N) ≡ occurrences k (held p)
   all-held k =

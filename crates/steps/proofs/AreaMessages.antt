@@ -37,7 +37,7 @@ use Rattle.refine.specs.OnDisc.{OnDisc}
 use Rattle.refine.proofs.UserLaws.{plainUser, DistinctUsers, weightOf, entry-inside, user-found, user-absent, other-law, live-users}
 use Rattle.refine.proofs.ReserveLaws.{outcomeOf, reserve-law, only-users, reserve-users, reserve-distinct, move-law, release-law, move-distinct, release-distinct}
 use Rattle.refine.proofs.StateLaws.{unitArea, named-inside, named-open, named-name, same-found, same-index, same-size, same-users, same-set, same-put}
-use Rattle.steps.proofs.WriteLaws.{length-small}
+use Rattle.refine.proofs.Ground.{ground, length-small}
 use Rattle.steps.proofs.AreaSteps.{areas-on}
 
 -- ---- descriptors set twice, and set to what they are
@@ -186,7 +186,7 @@ module _ {state : State} {p : Plain} (r : SameAreas state p) (n j : ℕ) (e : ar
   pub length-low : Good p → areaAt state j .length ≤ 32767
   length-low g =
       let area = g .areas n (usersIn (areaAt state j .users)) area-found in
-      omega (arith, length-small p g n (area .file) (area .entered), same-size state p r n j (area .file) e (area .entered))
+      omega (arith, length-small p (ground p g) n (area .file) (area .entered), same-size state p r n j (area .file) e (area .entered))
 
 -- ---- the unit: an open area has a file, and its users' positions are in it
 

@@ -15,14 +15,13 @@ use Rattle.plain.specs.Table.{Table, tableFind, tablePut, tableRemove}
 use Rattle.plain.specs.Unit.{Plain, File, AreaUser, held, freeSectors, entry, withTables, withFiles, withAreas}
 use Rattle.plain.specs.Areas.{bookLive}
 use Rattle.plain.specs.Good.{Good}
-use Rattle.plain.proofs.TableLaws.{some≢none, find-put, find-put-other, find-remove, find-remove-other}
-use Rattle.plain.proofs.UnitLaws.{no-area}
+use Rattle.plain.proofs.TableLaws.{find-put, find-put-other, find-remove, find-remove-other}
+use Rattle.plain.proofs.UnitLaws.{no-area, area-name, entry-beside}
 use Rattle.refine.specs.Represents.{areaOfState, areaOfUnit, SameAreas, Layout}
 use Rattle.refine.specs.OnDisc.{OnDisc}
 use Rattle.refine.proofs.UserLaws.{created-users}
 use Rattle.refine.proofs.StateLaws.{unitArea, same-created, same-closed}
 use Rattle.refine.proofs.Writers.{relabel}
-use Rattle.steps.proofs.WriteLaws.{entry-beside}
 use Rattle.steps.specs.Units.{grownUnit}
 use Rattle.steps.proofs.BookStep.{bookedUnit}
 
@@ -43,10 +42,6 @@ files-areas {p = p} layers sys files r same = record {
     go : (m : ℕ) (o : Option (Table AreaUser)) → tableFind m (p .areas) ≡ o → areaOfUnit (p .F) (p .s) o (tableFind m (p .files)) ≡ areaOfUnit (p .F) (p .s) o (tableFind m files)
     go m none e = refl
     go m (some users) e = ap (areaOfUnit (p .F) (p .s) (some users)) (sym (same m users e))
-
--- a name with an area is none without
-area-name : (p : Plain) (n : ℕ) → tableFind n (p .areas) ≡ none → (m : ℕ) (users : Table AreaUser) → tableFind m (p .areas) ≡ some users → m ≢ n
-area-name p n shut m users h q = some≢none (sym h ∙ ap (λ (x : ℕ). tableFind x (p .areas)) q ∙ shut)
 
 -- Remove: the name is not open
 pub remove-areas : {state : State} {p : Plain} (n : ℕ) → Good p → tableFind n (p .areas) ≡ none → SameAreas state p → SameAreas state (withFiles p (tableRemove n (p .files)))

@@ -18,14 +18,14 @@ use Rattle.plain.specs.Unit.{Plain, File, sysOf, AreaUser, M, held, freeSectors
 use Rattle.plain.specs.Areas.{bookLive}
 use Rattle.plain.specs.Good.{Good}
 use Rattle.plain.proofs.TableLaws.{some-inj, find-put, find-put-other}
-use Rattle.plain.proofs.UnitLaws.{legal-positive}
+use Rattle.plain.proofs.UnitLaws.{legal-positive, entry-beside, entry-of}
 use Rattle.plain.proofs.KeepsAreas.{remove-area-good, occurrences-put}
 use Rattle.refine.specs.Represents.{FileOnImage, Layout}
 use Rattle.refine.specs.OnDisc.{OnDisc}
 use Rattle.refine.specs.Writes.{storePlace, bookedImage}
 use Rattle.refine.proofs.Ground.{ground, entry-named}
 use Rattle.refine.proofs.Writers.{relabel}
-use Rattle.steps.proofs.WriteLaws.{words-file-entry, entry-beside, entry-of, write-own}
+use Rattle.steps.proofs.WriteLaws.{words-file-entry, write-own}
 
 -- The unit in which the area of n is closed, and its file booked.
 abbrev pub bookedUnit : Plain → ℕ → File → Plain

@@ -1,13 +1,13 @@
 -- The open areas of a unit whose layers, SYS slices or closed files change: they are the state's as before.
-use mathlib.Core.Path.{_≡_, refl, sym, _∙_}
+use mathlib.Core.Path.{_≡_, refl, _∙_}
 use mathlib.Core.List.{List}
-use mathlib.Core.Logic.{_≢_}
-use mathlib.Core.Option.{none, some}
+use mathlib.Core.Option.{none}
 use Prim.Native.Nat.{ℕ}
 use Rattle.types.specs.declared.State.{State}
-use Rattle.plain.specs.Table.{Table, SortedFrom, tableFind, tablePut, tableRemove}
-use Rattle.plain.specs.Unit.{Plain, File, AreaUser, withTables, withFiles}
-use Rattle.plain.proofs.TableLaws.{some≢none, find-put-other, find-remove-other}
+use Rattle.plain.specs.Table.{SortedFrom, tableFind, tablePut, tableRemove}
+use Rattle.plain.specs.Unit.{Plain, File, withTables, withFiles}
+use Rattle.plain.proofs.TableLaws.{find-put-other, find-remove-other}
+use Rattle.plain.proofs.UnitLaws.{area-name}
 use Rattle.refine.specs.Represents.{SameAreas}
 use Rattle.steps.proofs.AreaSteps.{files-areas}
 
@@ -21,5 +21,4 @@ module _ {state : State} {p : Plain} (a : SameAreas state p) where
       → SameAreas state (withFiles p (tablePut m f (tableRemove n (p .files))))
   areas-changed n m f sorted shut shutₘ =
       files-areas (p .layers) (p .sys) (tablePut m f (tableRemove n (p .files))) a (λ k users h.
-      let off : (j : ℕ) → tableFind j (p .areas) ≡ none → k ≢ j = λ j z q. (let h₂ : tableFind j (p .areas) ≡ some users = rw q at h in some≢none (sym h₂ ∙ z)) in
-      find-put-other k m f (tableRemove n (p .files)) (off m shutₘ) ∙ find-remove-other k n 0 (p .files) sorted (off n shut))
+      find-put-other k m f (tableRemove n (p .files)) (area-name p m shutₘ k users h) ∙ find-remove-other k n 0 (p .files) sorted (area-name p n shut k users h))

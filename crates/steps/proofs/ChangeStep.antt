@@ -18,7 +18,7 @@ use Rattle.plain.specs.Table.{tableFind, tablePut, tableRemove}
 use Rattle.plain.specs.Unit.{Plain, File, M, held, freeSectors, entry, withFiles, fileEntry, sysOf}
 use Rattle.plain.specs.Good.{Good}
 use Rattle.plain.proofs.TableLaws.{find-put, find-put-other, find-remove, find-remove-other}
-use Rattle.plain.proofs.UnitLaws.{legal-positive}
+use Rattle.plain.proofs.UnitLaws.{legal-positive, entry-beside, entry-of}
 use Rattle.plain.proofs.TakingLaws.{places-same}
 use Rattle.plain.proofs.ChangeUnit.{Changes, changed-good}
 use Rattle.refine.specs.Represents.{Layout}
@@ -26,7 +26,7 @@ use Rattle.refine.specs.OnDisc.{OnDisc}
 use Rattle.refine.specs.Writes.{resizedImage, changedImage}
 use Rattle.refine.proofs.CatalogLaws.{name-cong}
 use Rattle.refine.proofs.Ground.{Ground, ground, entry-named}
-use Rattle.steps.proofs.WriteLaws.{counted-on, words-file-entry, entry-beside, entry-of, write-own}
+use Rattle.steps.proofs.WriteLaws.{counted-on, words-file-entry, write-own}
 use Rattle.steps.proofs.ResizeLaws.{Resizes, resizes-taken, words-resized, write-resized, resized-places}
 
 module _ {p : Plain} {f f′ : File} {size count : ℕ} (c : Changes p f f′ size count) where

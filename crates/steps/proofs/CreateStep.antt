@@ -19,7 +19,7 @@ use Rattle.plain.specs.Unit.{Plain, File, sysOf, held, freeSectors, fileEntry, 
 use Rattle.plain.specs.Taking.{zeroSectors}
 use Rattle.plain.specs.Good.{Good}
 use Rattle.plain.proofs.TableLaws.{find-put, find-put-other}
-use Rattle.plain.proofs.UnitLaws.{legal-positive, ordinary-files}
+use Rattle.plain.proofs.UnitLaws.{legal-positive, ordinary-files, entry-beside, entry-of}
 use Rattle.plain.proofs.CreateUnit.{NewFile, ordinary, long-sectors, held-more, created-good}
 use Rattle.sound.specs.Places.{Unused}
 use Rattle.refine.specs.Represents.{FileOnImage, Layout}
@@ -30,12 +30,12 @@ use Rattle.refine.proofs.CatalogLaws.{absent, name-zero}
 use Rattle.refine.proofs.Ground.{Ground, ground, entry-named, first-in, block-in, file-data, in-file, catalog-file, sys-ground, catalog-data, part-file, sys-ground}
 use Rattle.refine.proofs.Writers.{Off, place-same, long, write-used, write-file, write-entry}
 use Rattle.refine.proofs.PlaceCount.{unused-room}
-use Rattle.steps.proofs.WriteLaws.{counted-on, zeroed-size, zeroed-keep, zeroed-zero, words-zeroed, taken-size, taken-keep, taken-holds, words-taken, part-in-map, words-index-part, words-marks, words-file-entry, entry-beside, entry-of}
+use Rattle.steps.proofs.WriteLaws.{counted-on, zeroed-size, zeroed-keep, zeroed-zero, words-zeroed, taken-size, taken-keep, taken-holds, words-taken, part-in-map, words-index-part, words-marks, words-file-entry, zero-holds}
 
 zero-block : (j : List ℕ) (q c b : ℕ) → b < c → ((w : ℕ) → w < 256 → word j q w ≡ 0) → Holds j q (getD (zeroSectors c) b [])
 zero-block j q c b x h =
     let zeros : List ℕ = replicate 256 0 in
-    rw (getD-replicate c b zeros [] x) (record { at = λ w y z. h w z ∙ sym (getD-replicate 256 w 0 0 z) })
+    rw (getD-replicate c b zeros [] x) (zero-holds j q h)
 
 module _ {i : List ℕ} {p : Plain} (o : OnDisc i p) {n : ℕ} {f : File} (new : NewFile p n f) (t : ℕ) (in₀ : t < placeCount (p .H) (p .layers))
     (clear : Unused (placeWord i (p .F) (p .s) (p .sys) sysFrom) t) (key : t / 16 % p .H ≡ keyOf (p .H) n) where

@@ -31,13 +31,14 @@ use Rattle.plain.specs.Good.{Good}
 use Rattle.plain.proofs.TableLaws.{find-put, find-put-other}
 use Rattle.plain.proofs.KeepsAreas.{occurrences-put}
 use Rattle.plain.proofs.KeepsTransput.{replace-good, append-few, append-good}
+use Rattle.plain.proofs.UnitLaws.{entry-beside, entry-of}
 use Rattle.refine.specs.Represents.{FileOnImage, Layout}
 use Rattle.refine.specs.OnDisc.{OnDisc}
 use Rattle.refine.specs.Writes.{takenImage, replacedImage, appendedImage, extendedImage}
 use Rattle.refine.proofs.Sectors.{Same, same-refl, same-trans, holds-kept, sector-outside}
 use Rattle.refine.proofs.Ground.{Ground, ground, top, first-in, block-in, file-data, in-file, part-file}
 use Rattle.refine.proofs.Writers.{relabel, long, write-used, write-file}
-use Rattle.steps.proofs.WriteLaws.{counted-on, taken-size, taken-keep, taken-holds, taken-index, words-taken, words-index-part, words-marks, entry-beside, entry-of, counted-store}
+use Rattle.steps.proofs.WriteLaws.{counted-on, taken-size, taken-keep, taken-holds, taken-index, words-taken, words-index-part, words-marks, counted-store}
 use Rattle.steps.specs.Units.{appendSlices}
 
 -- ---- the unit

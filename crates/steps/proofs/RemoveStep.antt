@@ -1,5 +1,5 @@
 -- Remove: the place of the name is emptied, its slices are marked free, the free word is counted.
-use mathlib.Core.Path.{_≡_, ap, _∙_}
+use mathlib.Core.Path.{_≡_, ap}
 use mathlib.Core.List.{List}
 use mathlib.Core.Logic.{_≢_}
 use mathlib.Core.Option.{none, some}
@@ -13,17 +13,17 @@ use Rattle.words.specs.Store.{zeroWords}
 use Rattle.words.proofs.StoreLaws.{words-store, words-zeroWords}
 use Rattle.map.specs.Marks.{allFree}
 use Rattle.plain.specs.Table.{tableFind, tableRemove}
-use Rattle.plain.specs.Unit.{Plain, File, sysOf, held, freeSectors, entry, withFiles, fileEntry}
+use Rattle.plain.specs.Unit.{Plain, File, sysOf, held, freeSectors, entry, withFiles}
 use Rattle.plain.specs.Good.{Good}
-use Rattle.plain.proofs.TableLaws.{weightAt, find-remove, find-remove-other, total-remove}
-use Rattle.plain.proofs.UnitLaws.{legal-positive, holds, occurrences-held, entry-other, not-system, mapSome}
+use Rattle.plain.proofs.TableLaws.{weightAt, find-remove-other, total-remove}
+use Rattle.plain.proofs.UnitLaws.{legal-positive, holds, occurrences-held, entry-removed, entry-beside}
 use Rattle.plain.proofs.KeepsCatalog.{removed-good}
 use Rattle.refine.specs.Represents.{Layout}
 use Rattle.refine.specs.OnDisc.{OnDisc}
 use Rattle.refine.specs.Writes.{emptyPlace, removedImage}
 use Rattle.refine.proofs.Ground.{Ground, ground, entry-named, part-file}
 use Rattle.refine.proofs.Writers.{long, write-zero, write-freed, forget-file}
-use Rattle.steps.proofs.WriteLaws.{counted-on, words-marks, entry-beside}
+use Rattle.steps.proofs.WriteLaws.{counted-on, words-marks}
 
 module _ {i : List ℕ} {p : Plain} (o : OnDisc i p) (n : ℕ) (f : File) (found : tableFind n (p .files) ≡ some f) (shut : tableFind n (p .areas) ≡ none)
     (t : ℕ) (in₀ : t < placeCount (p .H) (p .layers)) (was : nameAt (placeWord i (p .F) (p .s) (p .sys) sysFrom) t ≡ n) where
@@ -40,9 +40,7 @@ module _ {i : List ℕ} {p : Plain} (o : OnDisc i p) (n : ℕ) (f : File) (found
   stay m d = entry-beside p (tableRemove n (p .files)) (p .areas) m (find-remove-other m n 0 (p .files) (o .good .names) d)
 
   gone : entry left n ≡ none
-  gone =
-      let d = not-system n (o .good .files n f found .ordinary) in
-      entry-other left n (d .0) (d .1) ∙ ap (mapSome (fileEntry (p .F) (p .s) n)) (find-remove n 0 (p .files) (o .good .names))
+  gone = entry-removed p n (o .good .names) (o .good .files n f found .ordinary)
 
   given : (x : ℕ) → occurrences x (held left) + occurrences x (f .slices) ≡ occurrences x (held p)
   given x =

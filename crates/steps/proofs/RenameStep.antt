@@ -1,6 +1,6 @@
 -- Change with another name: as with the name kept, but the entry's place is emptied, and the entry under the new name stands in a
 -- place of the new key.
-use mathlib.Core.Path.{_≡_, ap, _∙_}
+use mathlib.Core.Path.{_≡_, _∙_}
 use mathlib.Core.List.{List}
 use mathlib.Core.Logic.{_≢_, _⊎_, ⊎-elim}
 use mathlib.Core.Option.{none, some}
@@ -18,8 +18,8 @@ use Rattle.plain.specs.Table.{Table, tableFind, tablePut, tableRemove}
 use Rattle.plain.specs.Unit.{Plain, File, held, freeSectors, entry, withFiles, fileEntry, sysOf}
 use Rattle.plain.specs.Taking.{placesTaken}
 use Rattle.plain.specs.Good.{Good}
-use Rattle.plain.proofs.TableLaws.{find-put, find-put-other, find-remove, find-remove-other, sorted-remove}
-use Rattle.plain.proofs.UnitLaws.{legal-positive, vacant-name, entry-other, not-system, no-area, mapSome}
+use Rattle.plain.proofs.TableLaws.{find-put, find-put-other, find-remove-other, sorted-remove}
+use Rattle.plain.proofs.UnitLaws.{legal-positive, vacant-name, no-area, entry-removed, entry-beside, entry-of}
 use Rattle.plain.proofs.TakingLaws.{chains-put, places-remove}
 use Rattle.plain.proofs.ChangeUnit.{Changes, changed-good}
 use Rattle.sound.specs.Places.{Unused}
@@ -29,7 +29,7 @@ use Rattle.refine.specs.Writes.{emptyPlace, resizedImage, renamedImage}
 use Rattle.refine.proofs.CatalogLaws.{name-cong, name-zero, absent}
 use Rattle.refine.proofs.Ground.{Ground, ground, entry-named, sys-ground}
 use Rattle.refine.proofs.Writers.{place-here, place-off, write-zero, write-entry}
-use Rattle.steps.proofs.WriteLaws.{counted-on, words-file-entry, entry-beside, entry-of}
+use Rattle.steps.proofs.WriteLaws.{counted-on, words-file-entry}
 use Rattle.steps.proofs.ResizeLaws.{words-resized, write-resized, resized-places}
 use Rattle.steps.proofs.ChangeStep.{changes-resizes, changes-entry}
 
@@ -85,9 +85,7 @@ module _ {i : List ℕ} {p : Plain} {f f′ : File} {size count : ℕ} (o : OnDi
   after-remove k d = entry-beside p others (p .areas) k (find-remove-other k n 0 (p .files) (o .good .names) d)
 
   gone : entry without n ≡ none
-  gone =
-      let d = not-system n (o .good .files n f found .ordinary) in
-      entry-other without n (d .0) (d .1) ∙ ap (mapSome (fileEntry (p .F) (p .s) n)) (find-remove n 0 (p .files) (o .good .names))
+  gone = entry-removed p n (o .good .names) (o .good .files n f found .ordinary)
 
   pub rename-emptied : Layout (emptyPlace p (sysOf p) image t) after (freeSectors p) (held after) (entry without)
   rename-emptied =

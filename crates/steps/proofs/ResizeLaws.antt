@@ -9,7 +9,7 @@ use lib.ListN.{length, getD, take, drop, replicate, length-append, length-take, 
 use lib.Seq.{getD-take, getD-append-add, take-all, take-at, length-take-le}
 use borrow.Author.Tests.{le-leb, lt-leb}
 use Rattle.disc.specs.Numbers.{sliceStart}
-use Rattle.disc.specs.Words.{word, Words, Holds}
+use Rattle.disc.specs.Words.{Words, Holds}
 use Rattle.disc.specs.Slices.{occurrences}
 use Rattle.disc.specs.Stretches.{sectorIn, indexWords, stretchCount, sysFrom, fileFrom}
 use Rattle.disc.specs.Kit.{mapSector}
@@ -35,7 +35,7 @@ use Rattle.refine.specs.Writes.{zeroedSectors, takenImage, cutBlock, cutImage, 
 use Rattle.refine.proofs.Sectors.{Same, same-refl, same-trans, holds-kept, sector-outside, marked-outside-map}
 use Rattle.refine.proofs.Ground.{Ground, part-file, first-in, block-in, catalog-data, sys-ground, file-data, catalog-file, in-file}
 use Rattle.refine.proofs.Writers.{place-same, long, write-freed, write-used, forget-file, write-file}
-use Rattle.steps.proofs.WriteLaws.{part-in-map, words-index-part, words-marks, zeroed-size, zeroed-keep, zeroed-zero, words-zeroed, taken-none}
+use Rattle.steps.proofs.WriteLaws.{part-in-map, words-index-part, words-marks, zeroed-size, zeroed-keep, zeroed-zero, words-zeroed, taken-none, zero-holds}
 
 -- ---- one slice list begins with the other: slices are given back from the end, or taken at the end, or neither
 
@@ -247,10 +247,6 @@ resized-joined n b l x y =
     ∙ ap (λ (q : ℕ). getD (l ++ zeroSectors (n - length l)) q []) e
     ∙ getD-append-add l (zeroSectors (n - length l)) (b - length l) []
     ∙ getD-replicate (n - length l) (b - length l) (replicate 256 0) [] (omega arith)
-
--- a sector of zero words
-pub zero-holds : (i : List ℕ) (q : ℕ) → ((w : ℕ) → w < 256 → word i q w ≡ 0) → Holds i q (replicate 256 0)
-zero-holds i q z = record { at = λ b h l. z b l ∙ sym (getD-replicate 256 b 0 0 l) }
 
 -- ---- resizedImage: file f of name n becomes f′ of name m, the other files stay
 

@@ -1,6 +1,5 @@
 -- Laws of the writes that the messages share: what each stores, what it leaves, and that words stay words.
 use mathlib.Core.Path.{_≡_, refl, sym, ap, _∙_}
-use mathlib.Core.Bool.{not}
 use mathlib.Core.List.{List, [], _∷_, _++_, append-nil}
 use mathlib.Core.Logic.{_≢_, ⊎-elim}
 use mathlib.Core.Option.{Option, some}
@@ -8,19 +7,19 @@ use Prim.Native.Nat.{ℕ, zero, suc, _+_, _*_, _/_, _%_, _≤_, _<_}
 use native.Mathlib.Omega.{arith}
 use native.Mathlib.Nat.{mul-le-mul-left}
 use lib.Dec.{T}
-use lib.ListN.{length, replicate}
+use lib.ListN.{length, replicate, getD-replicate}
 use Rattle.disc.specs.Words.{word, Words, Holds}
-use Rattle.disc.specs.Names.{SYS, legalName, isSystem, keyOf}
+use Rattle.disc.specs.Names.{SYS, legalName, keyOf}
 use Rattle.disc.specs.Slices.{occurrences, oneIfNone, freeCount}
 use Rattle.disc.specs.Stretches.{sectorIn, indexWords, stretchCount, sysFrom}
 use Rattle.disc.specs.Kit.{kitSector, mapSector}
 use Rattle.disc.specs.Map.{onesInMap, MapOf}
 use Rattle.disc.specs.Entries.{entryWords, indexSector, sysEntry, placeWord, placeCount, nameAt}
-use Rattle.disc.proofs.Compare.{same-or, below-or}
+use Rattle.disc.proofs.Compare.{same-or}
 use Rattle.disc.proofs.NameLaws.{legal-begins}
 use Rattle.disc.proofs.WordLaws.{words-none, words-cons, words-append, words-replicate}
-use Rattle.disc.proofs.SliceLaws.{inUnit-mono, sum-law}
-use Rattle.disc.proofs.Geometry.{in-range, need-cover}
+use Rattle.disc.proofs.SliceLaws.{inUnit-mono}
+use Rattle.disc.proofs.Geometry.{in-range}
 use Rattle.disc.proofs.EntryLaws.{sector-first}
 use Rattle.words.specs.Store.{store, zeroWords}
 use Rattle.words.proofs.StoreLaws.{length-store, store-store, words-store, length-zeroWords, getD-zeroWords, words-zeroWords, word-sector-in}
@@ -29,18 +28,17 @@ use Rattle.map.proofs.CountLaws.{ones-free}
 use Rattle.map.proofs.MarkLaws.{InMap, in-map, words-all-marked}
 use Rattle.index.specs.Block.{wholeIndex}
 use Rattle.index.proofs.BlockLaws.{length-wholeIndex, words-wholeIndex, holds-stored}
-use Rattle.plain.specs.Table.{Table, tableFind}
-use Rattle.plain.specs.Unit.{Plain, File, sysOf, AreaUser, M, held, freeSectors, fileEntry, entry, withTables}
+use Rattle.plain.specs.Table.{tableFind}
+use Rattle.plain.specs.Unit.{Plain, File, sysOf, M, held, freeSectors, fileEntry, entry}
 use Rattle.plain.specs.Good.{Good}
 use Rattle.plain.proofs.AttributeLaws.{not-negative}
-use Rattle.plain.proofs.UnitLaws.{mapSome, entry-sys, entry-map, entry-other, not-system, system-cases}
 use Rattle.sound.specs.Places.{Unused}
 use Rattle.refine.specs.Represents.{PlaceOf, CatalogOf, Layout}
 use Rattle.refine.specs.OnDisc.{OnDisc}
 use Rattle.refine.specs.Writes.{setFree, countedFree, storePlace, zeroedSectors, takenImage}
 use Rattle.refine.proofs.Sectors.{Same, same-refl, same-trans, store-outside, sector-outside, ones-kept}
 use Rattle.refine.proofs.CatalogLaws.{Named, nameIn, name-zero}
-use Rattle.refine.proofs.Ground.{Ground, ground, positive, top, sys-ground, part-file, file-data, first-in}
+use Rattle.refine.proofs.Ground.{Ground, ground, positive, top, sys-ground, part-file, file-data, first-in, part-sectors, length-small}
 use Rattle.refine.proofs.Writers.{write-free, write-entry}
 
 -- ---- the free word
@@ -122,6 +120,10 @@ module _ (image : List ℕ) (F s : ℕ) (slices : List ℕ) (b : ℕ) where
   words-zeroed (suc n) w =
       words-store (zeroedSectors image F s slices b n) (sectorIn F s slices (b + n) * 256) (zeroWords 256) (words-zeroed n w) (words-zeroWords 256)
 
+-- a sector of zero words
+pub zero-holds : (i : List ℕ) (q : ℕ) → ((w : ℕ) → w < 256 → word i q w ≡ 0) → Holds i q (replicate 256 0)
+zero-holds i q z = record { at = λ b h l. z b l ∙ sym (getD-replicate 256 b 0 0 l) }
+
 -- ---- slices taken: the map is marked, then the index block is written, if there are any
 
 marked-none : (v : ℕ) (image : List ℕ) → allMarked v image [] ≡ image
@@ -171,18 +173,12 @@ module _ (p : Plain) (g : Ground p) where
   abbrev pub Part : List ℕ → Type 0
   Part l = (k : ℕ) → occurrences k l ≤ occurrences k (held p)
 
-  pub part-few : (l : List ℕ) → Part l → length l ≤ M p
-  part-few l q = omega (arith, sum-law (M p) l (λ k. omega (arith, q k, g .once k)))
-
   pub part-in-map : (l : List ℕ) → Part l → InMap l
   part-in-map l q = in-map l (λ k. omega (arith, q k, g .once k, inUnit-mono (M p) 4096 k (g .limits .slices-high)))
 
-  pub part-sectors : (l : List ℕ) → Part l → p .s * length l + 10 ≤ 32767
-  part-sectors l q = omega (arith, mul-le-mul-left (p .s) (part-few l q), top p g, g .limits .sectors, g .limits .first)
-
   pub words-index-part : (l : List ℕ) → Part l → Words (wholeIndex (p .F) (p .s) l)
   words-index-part l q =
-      words-wholeIndex (p .F) (p .s) (M p) l (positive p g) (omega (arith, top p g, g .limits .sectors)) (omega (arith, part-sectors l q))
+      words-wholeIndex (p .F) (p .s) (M p) l (positive p g) (omega (arith, top p g, g .limits .sectors)) (omega (arith, part-sectors p g l q))
       (λ j x. in-range (p .F) (p .s) (M p) (held p) (positive p g) (g .once) l j q x .1)
 
   pub words-marks : (v : ℕ) → v ≤ 1 → (l image : List ℕ) → Part l → 2560 ≤ length image → Words image → Words (allMarked v image l)
@@ -205,15 +201,6 @@ module _ (p : Plain) (g : Good p) where
   gr : Ground p
   gr = ground p g
 
-  -- a file's length is below 32,768: it needs a sector more than it has, within the data sectors
-  pub length-small : (n : ℕ) (f : File) → tableFind n (p .files) ≡ some f → length (f .sectors) ≤ 32767
-  length-small n f h = below-or (length (f .sectors)) 32768 (λ x. omega arith) (λ x.
-      absurd (omega (
-        arith,
-        need-cover (p .s) (length (f .sectors)) (length (f .slices)) (positive p gr) (g .files n f h .covered) 32767 (omega arith),
-        part-sectors p gr (f .slices) (part-file p gr n f h),
-      )))
-
   index-small : (n : ℕ) (f : File) → tableFind n (p .files) ≡ some f → (b : ℕ) → b ≤ length (f .slices) → indexSector (p .F) (p .s) b (f .slices) < 65536
   index-small n f h zero le = omega arith
   index-small n f h (suc b) le = go (f .slices) le (file-data p gr n f h 0 (first-in p gr (f .slices) (omega arith)) .1)
@@ -226,7 +213,7 @@ module _ (p : Plain) (g : Good p) where
   words-file-entry n f h =
       let fg = g .files n f h in
       words-entry n (f .optional) (f .attributes) (f .booked) (indexSector (p .F) (p .s) (f .bookedSlices) (f .slices)) (p .s * f .bookedSlices) (f .tail)
-      (legal-small n (fg .name)) (fg .optional .words) (omega (arith, not-negative (f .attributes) (fg .attributes))) (omega (arith, fg .bookedLow, length-small n f h))
+      (legal-small n (fg .name)) (fg .optional .words) (omega (arith, not-negative (f .attributes) (fg .attributes))) (omega (arith, fg .bookedLow, length-small p gr n f h))
       (index-small n f h (f .bookedSlices) (fg .bookedSlicesLow))
       (omega (arith, mul-le-mul-left (p .s) (fg .bookedSlicesLow), part-sectors p gr (f .slices) (part-file p gr n f h))) (fg .tail .words)
 
@@ -236,21 +223,7 @@ module _ (p : Plain) (g : Good p) where
       words-entry SYS (replicate 3 0) 0x8010 (p .H * p .layers) 6 (p .s * length (p .sys)) (replicate 6 0)
       (omega arith) (words-replicate 3 0 (omega arith)) (omega arith) (omega (arith, gr .sysCover)) (omega arith) (omega arith) (words-replicate 6 0 (omega arith))
 
--- ---- entries and places
-
--- another table of files with the same file, or none, for a name
-pub entry-beside : (p : Plain) (files : Table File) (areas : Table (Table AreaUser)) (m : ℕ) → tableFind m files ≡ tableFind m (p .files)
-    → entry (withTables p (p .layers) (p .sys) files areas) m ≡ entry p m
-entry-beside p files areas m e =
-    let q : Plain = withTables p (p .layers) (p .sys) files areas in
-    system-cases m
-    (λ z. ap (entry q) z ∙ entry-sys q ∙ sym (entry-sys p) ∙ ap (entry p) (sym z))
-    (λ z. ap (entry q) z ∙ entry-map q ∙ sym (entry-map p) ∙ ap (entry p) (sym z))
-    (λ a b. entry-other q m a b ∙ ap (mapSome (fileEntry (p .F) (p .s) m)) e ∙ sym (entry-other p m a b))
-
--- the entry of a file
-pub entry-of : (p : Plain) (n : ℕ) (f : File) → T (not (isSystem n)) → tableFind n (p .files) ≡ some f → entry p n ≡ some (fileEntry (p .F) (p .s) n f)
-entry-of p n f t h = let d = not-system n t in entry-other p n (d .0) (d .1) ∙ ap (mapSome (fileEntry (p .F) (p .s) n)) h
+-- ---- places
 
 -- a place where a name stands is in a sector of its key
 place-key : {P : ℕ → ℕ → ℕ} {N H : ℕ} {E : ℕ → Option (List ℕ)} → CatalogOf P N H E → (t n : ℕ) → t < N → nameAt P t ≡ n → n ≢ 0 → t / 16 % H ≡ keyOf H n

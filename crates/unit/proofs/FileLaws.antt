@@ -27,13 +27,12 @@ use Rattle.plain.specs.Table.{tableFind, isSome}
 use Rattle.plain.specs.Unit.{Plain, File, fileEntry}
 use Rattle.plain.specs.Good.{Good}
 use Rattle.plain.proofs.TableLaws.{some-inj}
-use Rattle.plain.proofs.UnitLaws.{entry-file}
+use Rattle.plain.proofs.UnitLaws.{entry-file, entry-of}
 use Rattle.plain.proofs.QuestionLaws.{not-some, false-no}
 use Rattle.refine.specs.Represents.{SameAreas}
 use Rattle.refine.specs.OnDisc.{OnDisc, SomeOnDisc}
-use Rattle.refine.proofs.Ground.{ground, part-file}
+use Rattle.refine.proofs.Ground.{ground, part-file, part-few}
 use Rattle.refine.proofs.StateLaws.{same-found, same-absent}
-use Rattle.steps.proofs.WriteLaws.{entry-of, part-few}
 use Rattle.unit.specs.declared.Opened.{Opened}
 use Rattle.unit.specs.Opened.{NumbersOf, OpenedOn, Represented}
 use Rattle.unit.specs.Find.{NameAt}

@@ -23,13 +23,13 @@ use Rattle.plain.specs.Questions.{known, done}
 use Rattle.plain.specs.Areas.{stepCreateArea, stepRemoveArea}
 use Rattle.plain.specs.Good.{Good}
 use Rattle.plain.proofs.TableLaws.{some≢none}
-use Rattle.plain.proofs.UnitLaws.{entry-file}
+use Rattle.plain.proofs.UnitLaws.{entry-file, entry-of}
 use Rattle.plain.proofs.QuestionLaws.{not-some}
 use Rattle.refine.specs.Represents.{Represents}
 use Rattle.refine.specs.Writes.{bookedImage}
 use Rattle.refine.proofs.StateLaws.{same-absent, same-full}
 use Rattle.steps.proofs.Whole.{on-disc}
-use Rattle.steps.proofs.WriteLaws.{words-file-entry, entry-of}
+use Rattle.steps.proofs.WriteLaws.{words-file-entry}
 use Rattle.unit.proofs.FileLaws.{name-open, name-absent}
 use Rattle.areas.proofs.RemoveLaws.{none-left}
 use Rattle.areas.specs.Areas.{AreaCreated, dummyCreate, made, AreaRemoved, dummyRemove, books}

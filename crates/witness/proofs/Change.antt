@@ -25,12 +25,12 @@ use Rattle.plain.proofs.ChangeUnit.{changeLayers, changeGrown, changedUnit, Cha
 use Rattle.plain.proofs.TakingLaws.{layers-stay, layers-grow}
 use Rattle.plain.proofs.GrowUnit.{grownTo, not-grown, entry-grown}
 use Rattle.plain.proofs.QuestionLaws.{asks-yes, given-some}
+use Rattle.plain.proofs.UnitLaws.{entry-of}
 use Rattle.refine.specs.OnDisc.{OnDisc}
 use Rattle.refine.specs.Writes.{emptyPlace, resizedImage, changedImage, renamedImage}
 use Rattle.refine.specs.Replies.{refused, written}
 use Rattle.steps.specs.Units.{grownUnit}
 use Rattle.steps.proofs.RenameStep.{rename-emptied}
-use Rattle.steps.proofs.WriteLaws.{entry-of}
 use Rattle.unit.specs.Opened.{CatalogOn, unitPlaces}
 use Rattle.unit.specs.Find.{FirstUnused}
 use Rattle.grow.specs.Grow.{GrownFrom}

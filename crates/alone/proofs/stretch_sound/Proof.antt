@@ -29,9 +29,6 @@ loop-holds c =
     let start = c .before in
     (omega arith, ap (λ (x : ℕ). x % start .args .g .keys) (sym (add-zero (start .args .b .0))), passed-at (omega arith) (start .pre .4))
 
-add-t15 : tie.Need-add-t15 Inv-loop μ-loop
-add-t15 c = search needs
-
 add-t17 : tie.Need-add-t17 Inv-loop μ-loop
 add-t17 c = let l = c .before .before .before .pre .0 in omega (arith, in-slices l, sys-small (l .catalog .sys), l .catalog .sys .unit .limits .sectors)
 
@@ -50,12 +47,6 @@ next-key-requires c κs =
     let start = at .before .before in
     omega (arith, at .loop .inv .1, mod-lt (start .args .b .0 + at .loop .c) {m = start .args .g .keys} (omega (arith, start .pre .0 .catalog .sys .unit .limits .keys-low)))
 
-add-c : tie.Need-add-c Inv-loop μ-loop
-add-c c = search needs
-
-loop-less : tie.Need-loop-less Inv-loop μ-loop
-loop-less c = search needs
-
 loop-again : tie.Need-loop-again Inv-loop μ-loop
 loop-again c =
     let at = c .before .before .before .before .before in
@@ -72,16 +63,5 @@ pub stretch-sound-spec : {M : Type 1} → statement M
 stretch-sound-spec =
     tie.close
     (tie.spec
-    Inv-loop
-    μ-loop
-    rem-key
-    loop-holds
-    add-t15
-    add-t17
-    sector-sound-requires
-    returns
-    next-key-requires
-    add-c
-    loop-less
-    loop-again
-    returns-2)
+    Inv-loop μ-loop rem-key loop-holds (λ c. search needs) add-t17 sector-sound-requires returns next-key-requires (λ c. search needs)
+    (λ c. search needs) loop-again returns-2)

@@ -35,12 +35,6 @@ loop-holds c = (omega arith, omega arith, λ h. refl, passed-none _ (c .before .
 pair-length-requires : tie.Need-pair-length-requires Inv-loop μ-loop
 pair-length-requires c κs = omega (arith, c .before .before .before .before .pre .0 .catalog .sys .index .few)
 
-sub-lesser : tie.Need-sub-lesser Inv-loop μ-loop
-sub-lesser c = search needs
-
-lesser-requires : tie.Need-lesser-requires Inv-loop μ-loop
-lesser-requires c κs = search needs
-
 pair-start-requires : tie.Need-pair-start-requires Inv-loop μ-loop
 pair-start-requires c κs = omega (arith, c .before .before .before .before .before .before .before .pre .0 .catalog .sys .index .few)
 
@@ -79,17 +73,5 @@ pub stretches-sound-spec : {M : Type 1} → statement M
 stretches-sound-spec =
     tie.close
     (tie.spec
-    Inv-loop
-    μ-loop
-    loop-holds
-    pair-length-requires
-    sub-lesser
-    lesser-requires
-    pair-start-requires
-    stretch-sound-requires
-    returns
-    add-t12
-    add-j
-    loop-less
-    loop-again
-    returns-2)
+    Inv-loop μ-loop loop-holds pair-length-requires (λ c. search needs) (λ c κs. search needs) pair-start-requires stretch-sound-requires
+    returns add-t12 add-j loop-less loop-again returns-2)

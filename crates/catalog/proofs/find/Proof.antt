@@ -27,12 +27,6 @@ loop-holds c =
     let n = pack (a .name .0) (a .name .1) (a .name .2) in
     rw sub-zero (ap (λ (k : ℕ). placeFrom (slotNamed (a .image .now) n) (keySector (a .image .now) (a .c) k) (a .c .layers) 0) (c .key .ensures))
 
-key-sector-requires : tie.Need-key-sector-requires Inv-loop μ-loop
-key-sector-requires c κs = tt
-
-slot-named-requires : tie.Need-slot-named-requires Inv-loop μ-loop
-slot-named-requires c κs = tt
-
 returns : tie.Need-returns Inv-loop μ-loop
 returns c =
     let turn = c .before .before .before in
@@ -43,12 +37,6 @@ returns c =
     (place-here test (keySector (a .image .now) (a .c) (l .before .key .result)) (a .c .layers) (l .loop .layer)
     (c .before .before .key-sector .result .0) (c .before .slot-named .result)
     (l .loop .inv) (turn .if1 .taken) (c .before .before .key-sector .ensures) (c .before .slot-named .ensures) (c .if2 .taken))
-
-add-layer : tie.Need-add-layer Inv-loop μ-loop
-add-layer c = search needs
-
-loop-less : tie.Need-loop-less Inv-loop μ-loop
-loop-less c = search needs
 
 loop-again : tie.Need-loop-again Inv-loop μ-loop
 loop-again c =
@@ -72,14 +60,4 @@ pub find-spec : {M : Type 1} → statement M
 find-spec =
     tie.close
     (tie.spec
-    Inv-loop
-    μ-loop
-    key-requires
-    loop-holds
-    key-sector-requires
-    slot-named-requires
-    returns
-    add-layer
-    loop-less
-    loop-again
-    returns-2)
+    Inv-loop μ-loop key-requires loop-holds (λ c κs. tt) (λ c κs. tt) returns (λ c. search needs) (λ c. search needs) loop-again returns-2)

@@ -18,12 +18,6 @@ abbrev μ-loop : tie.MeasureT-loop
 loop-holds : tie.Need-loop-holds Inv-loop μ-loop
 loop-holds c = rw sub-zero refl
 
-key-sector-requires : tie.Need-key-sector-requires Inv-loop μ-loop
-key-sector-requires c κs = tt
-
-unused-slot-requires : tie.Need-unused-slot-requires Inv-loop μ-loop
-unused-slot-requires c κs = tt
-
 returns : tie.Need-returns Inv-loop μ-loop
 returns c =
     let turn = c .before .before .before in
@@ -33,12 +27,6 @@ returns c =
     (place-here (slotUnused (a .image .now)) (keySector (a .image .now) (a .c) (a .key)) (a .c .layers) (l .loop .layer)
     (c .before .before .key-sector .result .0) (c .before .unused-slot .result)
     (l .loop .inv) (turn .if1 .taken) (c .before .before .key-sector .ensures) (c .before .unused-slot .ensures) (c .if2 .taken))
-
-add-layer : tie.Need-add-layer Inv-loop μ-loop
-add-layer c = search needs
-
-loop-less : tie.Need-loop-less Inv-loop μ-loop
-loop-less c = search needs
 
 loop-again : tie.Need-loop-again Inv-loop μ-loop
 loop-again c =
@@ -59,14 +47,4 @@ returns-2 c =
 pub first-unused-spec : {M : Type 1} → statement M
 first-unused-spec =
     tie.close
-    (tie.spec
-    Inv-loop
-    μ-loop
-    loop-holds
-    key-sector-requires
-    unused-slot-requires
-    returns
-    add-layer
-    loop-less
-    loop-again
-    returns-2)
+    (tie.spec Inv-loop μ-loop loop-holds (λ c κs. tt) (λ c κs. tt) returns (λ c. search needs) (λ c. search needs) loop-again returns-2)

@@ -12,31 +12,16 @@ Inv-loop image q slot at w₀ w = (at ≤ 1048560) × (w ≤ 16) × WordsLeft im
 abbrev μ-loop : tie.MeasureT-loop
 μ-loop image q slot at w₀ w = 16 - w
 
-mul-at : tie.Need-mul-at Inv-loop μ-loop
-mul-at c = search needs
-
 loop-holds : tie.Need-loop-holds Inv-loop μ-loop
 loop-holds c =
     let a = c .before .args in
     (omega arith, omega arith, run-start (a .image .now) (a .q .0) (a .slot))
-
-add-word : tie.Need-add-word Inv-loop μ-loop
-add-word c = search needs
-
-word-requires : tie.Need-word-requires Inv-loop μ-loop
-word-requires c κs = search needs
 
 returns : tie.Need-returns Inv-loop μ-loop
 returns c =
     let l = c .before .before .before in
     let a = l .before .before .args in
     run-stop (a .image .now) (a .q .0) (a .slot) (l .loop .w) (l .loop .inv .2) (c .before .before .loop-test .taken) (c .before .word .ensures) (c .if1 .taken)
-
-add-w : tie.Need-add-w Inv-loop μ-loop
-add-w c = search needs
-
-loop-less : tie.Need-loop-less Inv-loop μ-loop
-loop-less c = search needs
 
 loop-again : tie.Need-loop-again Inv-loop μ-loop
 loop-again c =
@@ -54,14 +39,5 @@ pub is-unused-slot-spec : {M : Type 1} → statement M
 is-unused-slot-spec =
     tie.close
     (tie.spec
-    Inv-loop
-    μ-loop
-    mul-at
-    loop-holds
-    add-word
-    word-requires
-    returns
-    add-w
-    loop-less
-    loop-again
-    returns-2)
+    Inv-loop μ-loop (λ c. search needs) loop-holds (λ c. search needs) (λ c κs. search needs) returns (λ c. search needs)
+    (λ c. search needs) loop-again returns-2)

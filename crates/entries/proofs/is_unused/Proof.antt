@@ -21,35 +21,8 @@ Inv-loop image i at from bits₀ w₀ bits w =
 abbrev μ-loop : tie.MeasureT-loop
 μ-loop image i at from bits₀ w₀ bits w = 16 - w
 
-cast-at : tie.Need-cast-at Inv-loop μ-loop
-cast-at c = search needs
-
-mul-at : tie.Need-mul-at Inv-loop μ-loop
-mul-at c = search needs
-
-mul-from : tie.Need-mul-from Inv-loop μ-loop
-mul-from c = search needs
-
 loop-holds : tie.Need-loop-holds Inv-loop μ-loop
 loop-holds c = (omega arith, λ e k h. absurd (omega arith), λ f. refl)
-
-add-bits : tie.Need-add-bits Inv-loop μ-loop
-add-bits c = search needs
-
-add-bits-2 : tie.Need-add-bits-2 Inv-loop μ-loop
-add-bits-2 c = search needs
-
-mul-bits : tie.Need-mul-bits Inv-loop μ-loop
-mul-bits c = search needs
-
-shared-slice-read-bits : tie.Need-shared-slice-read-bits Inv-loop μ-loop
-shared-slice-read-bits c = search needs
-
-add-w : tie.Need-add-w Inv-loop μ-loop
-add-w c = search needs
-
-loop-less : tie.Need-loop-less Inv-loop μ-loop
-loop-less c = search needs
 
 loop-again : tie.Need-loop-again Inv-loop μ-loop
 loop-again c =
@@ -69,17 +42,5 @@ pub is-unused-spec : {M : Type 1} → statement M
 is-unused-spec =
     tie.close
     (tie.spec
-    Inv-loop
-    μ-loop
-    cast-at
-    mul-at
-    mul-from
-    loop-holds
-    add-bits
-    add-bits-2
-    mul-bits
-    shared-slice-read-bits
-    add-w
-    loop-less
-    loop-again
-    returns)
+    Inv-loop μ-loop (λ c. search needs) (λ c. search needs) (λ c. search needs) loop-holds (λ c. search needs) (λ c. search needs)
+    (λ c. search needs) (λ c. search needs) (λ c. search needs) (λ c. search needs) loop-again returns)

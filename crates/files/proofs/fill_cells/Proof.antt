@@ -18,24 +18,6 @@ abbrev μ-loop : tie.MeasureT-loop
 loop-holds : tie.Need-loop-holds Inv-loop μ-loop
 loop-holds c = (omega arith, c .pre .1, cells-none _ _)
 
-mul-name-cell : tie.Need-mul-name-cell Inv-loop μ-loop
-mul-name-cell c = search needs
-
-element-copy-out-name-cell : tie.Need-element-copy-out-name-cell Inv-loop μ-loop
-element-copy-out-name-cell c = search needs
-
-name-cell-requires : tie.Need-name-cell-requires Inv-loop μ-loop
-name-cell-requires c κs = search needs
-
-element-write-cells : tie.Need-element-write-cells Inv-loop μ-loop
-element-write-cells c = search needs
-
-add-j : tie.Need-add-j Inv-loop μ-loop
-add-j c = search needs
-
-loop-less : tie.Need-loop-less Inv-loop μ-loop
-loop-less c = search needs
-
 loop-again : tie.Need-loop-again Inv-loop μ-loop
 loop-again c =
     let l = c .before .before .before .loop in
@@ -51,14 +33,5 @@ pub fill-cells-spec : {M : Type 1} → statement M
 fill-cells-spec =
     tie.close
     (tie.spec
-    Inv-loop
-    μ-loop
-    loop-holds
-    mul-name-cell
-    element-copy-out-name-cell
-    name-cell-requires
-    element-write-cells
-    add-j
-    loop-less
-    loop-again
-    returns)
+    Inv-loop μ-loop loop-holds (λ c. search needs) (λ c. search needs) (λ c κs. search needs) (λ c. search needs) (λ c. search needs)
+    (λ c. search needs) loop-again returns)

@@ -19,39 +19,6 @@ abbrev μ-loop : tie.MeasureT-loop
 loop-holds : tie.Need-loop-holds Inv-loop μ-loop
 loop-holds c = (omega arith, written-none _ _ _ (c .pre .0), written-none _ _ _ (c .pre .1), written-none _ _ _ (c .pre .2))
 
-mul-area : tie.Need-mul-area Inv-loop μ-loop
-mul-area c = search needs
-
-element-copy-out-area : tie.Need-element-copy-out-area Inv-loop μ-loop
-element-copy-out-area c = search needs
-
-open-name-requires : tie.Need-open-name-requires Inv-loop μ-loop
-open-name-requires c κs = search needs
-
-mul-names : tie.Need-mul-names Inv-loop μ-loop
-mul-names c = search needs
-
-element-write-names : tie.Need-element-write-names Inv-loop μ-loop
-element-write-names c = search needs
-
-mul-indexes : tie.Need-mul-indexes Inv-loop μ-loop
-mul-indexes c = search needs
-
-element-write-indexes : tie.Need-element-write-indexes Inv-loop μ-loop
-element-write-indexes c = search needs
-
-mul-lengths : tie.Need-mul-lengths Inv-loop μ-loop
-mul-lengths c = search needs
-
-element-write-lengths : tie.Need-element-write-lengths Inv-loop μ-loop
-element-write-lengths c = search needs
-
-add-j : tie.Need-add-j Inv-loop μ-loop
-add-j c = search needs
-
-loop-less : tie.Need-loop-less Inv-loop μ-loop
-loop-less c = search needs
-
 loop-again : tie.Need-loop-again Inv-loop μ-loop
 loop-again c =
     let l = c .before .before .before .before .loop in
@@ -67,19 +34,6 @@ pub flatten-spec : {M : Type 1} → statement M
 flatten-spec =
     tie.close
     (tie.spec
-    Inv-loop
-    μ-loop
-    loop-holds
-    mul-area
-    element-copy-out-area
-    open-name-requires
-    mul-names
-    element-write-names
-    mul-indexes
-    element-write-indexes
-    mul-lengths
-    element-write-lengths
-    add-j
-    loop-less
-    loop-again
+    Inv-loop μ-loop loop-holds (λ c. search needs) (λ c. search needs) (λ c κs. search needs) (λ c. search needs) (λ c. search needs)
+    (λ c. search needs) (λ c. search needs) (λ c. search needs) (λ c. search needs) (λ c. search needs) (λ c. search needs) loop-again
     returns)

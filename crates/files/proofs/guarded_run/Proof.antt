@@ -27,32 +27,11 @@ loop-holds c =
     let s = c .before .before in
     (omega arith, closed-none (s .args .image .now) (s .args .g) (placesFrom (s .args .image .now) (s .args .at)) (s .args .upto) (s .args .cells .now) _)
 
-mul-name-at : tie.Need-mul-name-at Inv-loop μ-loop
-mul-name-at c = search needs
-
-add-name-at : tie.Need-add-name-at Inv-loop μ-loop
-add-name-at c = search needs
-
-name-at-requires : tie.Need-name-at-requires Inv-loop μ-loop
-name-at-requires c κs = search needs
-
-name-cell-requires : tie.Need-name-cell-requires Inv-loop μ-loop
-name-cell-requires c κs = search needs
-
-element-copy-out-if1 : tie.Need-element-copy-out-if1 Inv-loop μ-loop
-element-copy-out-if1 c = search needs
-
 returns : tie.Need-returns Inv-loop μ-loop
 returns c =
     let l = c .before .before .before .before .before in
     let s = l .before .before .before in
     closed-end (s .args .image .now) (s .args .g) (placesFrom (s .args .image .now) (s .args .at)) (s .args .upto) (s .args .cells .now) (l .loop .i) (s .pre .1) (l .loop .inv .1) _ (l .loop .inv .0) refl
-
-mul-plain-place : tie.Need-mul-plain-place Inv-loop μ-loop
-mul-plain-place c = search needs
-
-add-plain-place : tie.Need-add-plain-place Inv-loop μ-loop
-add-plain-place c = search needs
 
 plain-place-requires : tie.Need-plain-place-requires Inv-loop μ-loop
 plain-place-requires c κs =
@@ -66,12 +45,6 @@ returns-2 c =
     let s = l .before .before .before in
     closed-end (s .args .image .now) (s .args .g) (placesFrom (s .args .image .now) (s .args .at)) (s .args .upto) (s .args .cells .now) (l .loop .i) (s .pre .1) (l .loop .inv .1) _ (l .loop .inv .0)
     (c .before .plain-place .ensures .not (not-true _ (c .if2 .taken)))
-
-add-i : tie.Need-add-i Inv-loop μ-loop
-add-i c = search needs
-
-loop-less : tie.Need-loop-less Inv-loop μ-loop
-loop-less c = search needs
 
 loop-again : tie.Need-loop-again Inv-loop μ-loop
 loop-again c =
@@ -94,21 +67,6 @@ pub guarded-run-spec : {M : Type 1} → statement M
 guarded-run-spec =
     tie.close
     (tie.spec
-    Inv-loop
-    μ-loop
-    reciprocal-requires
-    loop-holds
-    mul-name-at
-    add-name-at
-    name-at-requires
-    name-cell-requires
-    element-copy-out-if1
-    returns
-    mul-plain-place
-    add-plain-place
-    plain-place-requires
-    returns-2
-    add-i
-    loop-less
-    loop-again
-    returns-3)
+    Inv-loop μ-loop reciprocal-requires loop-holds (λ c. search needs) (λ c. search needs) (λ c κs. search needs) (λ c κs. search needs)
+    (λ c. search needs) returns (λ c. search needs) (λ c. search needs) plain-place-requires returns-2 (λ c. search needs)
+    (λ c. search needs) loop-again returns-3)

@@ -20,27 +20,6 @@ abbrev μ-loop : tie.MeasureT-loop
 loop-holds : tie.Need-loop-holds Inv-loop μ-loop
 loop-holds c = (omega arith, live-start _ _ _ _ _)
 
-mul-same-number : tie.Need-mul-same-number Inv-loop μ-loop
-mul-same-number c = search needs
-
-element-copy-out-same-number : tie.Need-element-copy-out-same-number Inv-loop μ-loop
-element-copy-out-same-number c = search needs
-
-same-number-requires : tie.Need-same-number-requires Inv-loop μ-loop
-same-number-requires c κs = search needs
-
-mul-t13 : tie.Need-mul-t13 Inv-loop μ-loop
-mul-t13 c = search needs
-
-element-copy-out-t16 : tie.Need-element-copy-out-t16 Inv-loop μ-loop
-element-copy-out-t16 c = search needs
-
-mul-t18 : tie.Need-mul-t18 Inv-loop μ-loop
-mul-t18 c = search needs
-
-element-copy-out-t21 : tie.Need-element-copy-out-t21 Inv-loop μ-loop
-element-copy-out-t21 c = search needs
-
 returns : tie.Need-returns Inv-loop μ-loop
 returns c =
     let l = c .before .before .before .before .before .before in
@@ -48,12 +27,6 @@ returns c =
     let test = c .before .before .before in
     let same = eqb-true (getD (a .names .now) (l .loop .j) 0) (a .name) (sym (test .same-number .ensures) ∙ c .before .before .if1 .taken) in
     sym (l .loop .inv .1 ∙ live-hit _ _ _ _ _ (l .loop .j) (omega arith) same)
-
-add-j : tie.Need-add-j Inv-loop μ-loop
-add-j c = search needs
-
-loop-less : tie.Need-loop-less Inv-loop μ-loop
-loop-less c = search needs
 
 loop-again : tie.Need-loop-again Inv-loop μ-loop
 loop-again c =
@@ -69,18 +42,5 @@ pub live-of-spec : {M : Type 1} → statement M
 live-of-spec =
     tie.close
     (tie.spec
-    Inv-loop
-    μ-loop
-    loop-holds
-    mul-same-number
-    element-copy-out-same-number
-    same-number-requires
-    mul-t13
-    element-copy-out-t16
-    mul-t18
-    element-copy-out-t21
-    returns
-    add-j
-    loop-less
-    loop-again
-    returns-2)
+    Inv-loop μ-loop loop-holds (λ c. search needs) (λ c. search needs) (λ c κs. search needs) (λ c. search needs) (λ c. search needs)
+    (λ c. search needs) (λ c. search needs) returns (λ c. search needs) (λ c. search needs) loop-again returns-2)

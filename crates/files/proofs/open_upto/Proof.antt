@@ -18,9 +18,6 @@ abbrev μ-loop : tie.MeasureT-loop
 loop-holds : tie.Need-loop-holds Inv-loop μ-loop
 loop-holds c = record { eight = omega arith; none = λ j h k. absurd (omega arith) }
 
-sub-if1 : tie.Need-sub-if1 Inv-loop μ-loop
-sub-if1 c = search needs
-
 mul-if1 : tie.Need-mul-if1 Inv-loop μ-loop
 mul-if1 c = omega (arith, c .before .loop .inv .eight)
 
@@ -29,12 +26,6 @@ element-copy-out-if1 c = omega (arith, c .before .loop .inv .eight)
 
 returns : tie.Need-returns Inv-loop μ-loop
 returns c = c .before .before .before .loop .inv
-
-sub-n : tie.Need-sub-n Inv-loop μ-loop
-sub-n c = search needs
-
-loop-less : tie.Need-loop-less Inv-loop μ-loop
-loop-less c = search needs
 
 loop-again : tie.Need-loop-again Inv-loop μ-loop
 loop-again c =
@@ -54,14 +45,5 @@ pub open-upto-spec : {M : Type 1} → statement M
 open-upto-spec =
     tie.close
     (tie.spec
-    Inv-loop
-    μ-loop
-    loop-holds
-    sub-if1
-    mul-if1
-    element-copy-out-if1
-    returns
-    sub-n
-    loop-less
-    loop-again
+    Inv-loop μ-loop loop-holds (λ c. search needs) mul-if1 element-copy-out-if1 returns (λ c. search needs) (λ c. search needs) loop-again
     returns-2)

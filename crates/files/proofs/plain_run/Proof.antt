@@ -16,12 +16,6 @@ Inv-loop image at count upto cells g marks₀ reciprocal i₀ marks i = (i ≤ c
 abbrev μ-loop : tie.MeasureT-loop
 μ-loop image at count upto cells g marks₀ reciprocal i₀ marks i = count - i
 
-guarded-run-requires : tie.Need-guarded-run-requires Inv-loop μ-loop
-guarded-run-requires c κs = search needs
-
-returns : tie.Need-returns Inv-loop μ-loop
-returns c = search needs
-
 reciprocal-requires : tie.Need-reciprocal-requires Inv-loop μ-loop
 reciprocal-requires c κs = c .before .before .pre .0 .limits .slice-low
 
@@ -29,12 +23,6 @@ loop-holds : tie.Need-loop-holds Inv-loop μ-loop
 loop-holds c =
     let s = c .before .before .before in
     (omega arith, closed-none (s .args .image .now) (s .args .g) (placesFrom (s .args .image .now) (s .args .at)) (s .args .upto) (s .args .cells .now) _)
-
-mul-plain-place : tie.Need-mul-plain-place Inv-loop μ-loop
-mul-plain-place c = search needs
-
-add-plain-place : tie.Need-add-plain-place Inv-loop μ-loop
-add-plain-place c = search needs
 
 plain-place-requires : tie.Need-plain-place-requires Inv-loop μ-loop
 plain-place-requires c κs =
@@ -48,12 +36,6 @@ returns-2 c =
     let s = l .before .before .before .before in
     closed-end (s .args .image .now) (s .args .g) (placesFrom (s .args .image .now) (s .args .at)) (s .args .upto) (s .args .cells .now) (l .loop .i) (s .pre .1) (l .loop .inv .1) _ (l .loop .inv .0)
     (c .before .plain-place .ensures .not (not-true _ (c .if2 .taken)))
-
-add-i : tie.Need-add-i Inv-loop μ-loop
-add-i c = search needs
-
-loop-less : tie.Need-loop-less Inv-loop μ-loop
-loop-less c = search needs
 
 loop-again : tie.Need-loop-again Inv-loop μ-loop
 loop-again c =
@@ -74,17 +56,5 @@ pub plain-run-spec : {M : Type 1} → statement M
 plain-run-spec =
     tie.close
     (tie.spec
-    Inv-loop
-    μ-loop
-    guarded-run-requires
-    returns
-    reciprocal-requires
-    loop-holds
-    mul-plain-place
-    add-plain-place
-    plain-place-requires
-    returns-2
-    add-i
-    loop-less
-    loop-again
-    returns-3)
+    Inv-loop μ-loop (λ c κs. search needs) (λ c. search needs) reciprocal-requires loop-holds (λ c. search needs) (λ c. search needs)
+    plain-place-requires returns-2 (λ c. search needs) (λ c. search needs) loop-again returns-3)

@@ -34,12 +34,6 @@ met c =
 loop-holds : tie.Need-loop-holds Inv-loop μ-loop
 loop-holds c = (omega arith, places-none _ _ _ _ _)
 
-mul-place-sound : tie.Need-mul-place-sound Inv-loop μ-loop
-mul-place-sound c = search needs
-
-add-place-sound : tie.Need-add-place-sound Inv-loop μ-loop
-add-place-sound c = search needs
-
 place-sound-requires : tie.Need-place-sound-requires Inv-loop μ-loop
 place-sound-requires c κs =
     let l = c .before .before in
@@ -51,18 +45,6 @@ returns c =
     let l = c .before .before .before .before in
     let a = l .before .before .args in
     place-stop (a .image .now) (a .g) (lives l) (placesFrom (a .image .now) (a .at)) (l .loop .i) (l .loop .inv .1) (c .before .place-sound .ensures) (a .count) (omega arith) (not-true _ (c .if1 .taken))
-
-add-i : tie.Need-add-i Inv-loop μ-loop
-add-i c = search needs
-
-mul-plain-run : tie.Need-mul-plain-run Inv-loop μ-loop
-mul-plain-run c = search needs
-
-add-plain-run : tie.Need-add-plain-run Inv-loop μ-loop
-add-plain-run c = search needs
-
-sub-plain-run : tie.Need-sub-plain-run Inv-loop μ-loop
-sub-plain-run c = search needs
 
 plain-run-requires : tie.Need-plain-run-requires Inv-loop μ-loop
 plain-run-requires c κs =
@@ -99,19 +81,5 @@ pub rest-sound-spec : {M : Type 1} → statement M
 rest-sound-spec =
     tie.close
     (tie.spec
-    Inv-loop
-    μ-loop
-    loop-holds
-    mul-place-sound
-    add-place-sound
-    place-sound-requires
-    returns
-    add-i
-    mul-plain-run
-    add-plain-run
-    sub-plain-run
-    plain-run-requires
-    add-i-2
-    loop-less
-    loop-again
-    returns-2)
+    Inv-loop μ-loop loop-holds (λ c. search needs) (λ c. search needs) place-sound-requires returns (λ c. search needs) (λ c. search needs)
+    (λ c. search needs) (λ c. search needs) plain-run-requires add-i-2 loop-less loop-again returns-2)

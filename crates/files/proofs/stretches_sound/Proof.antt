@@ -39,30 +39,6 @@ turn-of c =
 loop-holds : tie.Need-loop-holds Inv-loop μ-loop
 loop-holds c = (omega arith, omega arith, λ h. refl, places-none _ _ _ _ _)
 
-pair-length-requires : tie.Need-pair-length-requires Inv-loop μ-loop
-pair-length-requires c κs = search needs
-
-sub-lesser : tie.Need-sub-lesser Inv-loop μ-loop
-sub-lesser c = search needs
-
-lesser-requires : tie.Need-lesser-requires Inv-loop μ-loop
-lesser-requires c κs = search needs
-
-pair-start-requires : tie.Need-pair-start-requires Inv-loop μ-loop
-pair-start-requires c κs = search needs
-
-cast-run-sound : tie.Need-cast-run-sound Inv-loop μ-loop
-cast-run-sound c = search needs
-
-mul-run-sound : tie.Need-mul-run-sound Inv-loop μ-loop
-mul-run-sound c = search needs
-
-cast-run-sound-2 : tie.Need-cast-run-sound-2 Inv-loop μ-loop
-cast-run-sound-2 c = search needs
-
-mul-run-sound-2 : tie.Need-mul-run-sound-2 Inv-loop μ-loop
-mul-run-sound-2 c = search needs
-
 run-sound-requires : tie.Need-run-sound-requires Inv-loop μ-loop
 run-sound-requires c κs =
     let read = c .before .before in
@@ -82,12 +58,6 @@ returns c =
     let a = at .before .before .args in
     places-stop (a .image .now) (a .g) (lives at) (placesIn (a .image .now) (a .g)) (16 * at .loop .b) (at .loop .inv .3) _ _ (turn-places t) (c .before .run-sound .ensures)
     (16 * a .size) (omega (arith, t .high)) (not-true _ (c .if1 .taken))
-
-add-b : tie.Need-add-b Inv-loop μ-loop
-add-b c = search needs
-
-add-j : tie.Need-add-j Inv-loop μ-loop
-add-j c = search needs
 
 loop-less : tie.Need-loop-less Inv-loop μ-loop
 loop-less c = omega (arith, turn-of (c .before .before .before .before) .more)
@@ -118,21 +88,6 @@ pub stretches-sound-spec : {M : Type 1} → statement M
 stretches-sound-spec =
     tie.close
     (tie.spec
-    Inv-loop
-    μ-loop
-    loop-holds
-    pair-length-requires
-    sub-lesser
-    lesser-requires
-    pair-start-requires
-    cast-run-sound
-    mul-run-sound
-    cast-run-sound-2
-    mul-run-sound-2
-    run-sound-requires
-    returns
-    add-b
-    add-j
-    loop-less
-    loop-again
-    returns-2)
+    Inv-loop μ-loop loop-holds (λ c κs. search needs) (λ c. search needs) (λ c κs. search needs) (λ c κs. search needs) (λ c. search needs)
+    (λ c. search needs) (λ c. search needs) (λ c. search needs) run-sound-requires returns (λ c. search needs) (λ c. search needs) loop-less
+    loop-again returns-2)

@@ -27,12 +27,6 @@ mul-word c =
           (bits-more (a .slices) (span 1 (a .used)) (a .w) (l .b) (l .word) (omega arith) (l .inv .1)),
     )
 
-slice-at-requires : tie.Need-slice-at-requires Inv-loop μ-loop
-slice-at-requires c κs = omega arith
-
-map-bit-requires : tie.Need-map-bit-requires Inv-loop μ-loop
-map-bit-requires c κs = omega arith
-
 -- one bit more
 turn : (c : tie.After-map-bit Inv-loop μ-loop) → BitsDone (c .before .before .before .before .args .slices) (span 1 (c .before .before .before .before .args .used)) (c .before .before .before .before .args .w) (c .before .before .before .loop .b + 1) (c .before .before .before .loop .word * 2 + c .map-bit .result)
 turn c =
@@ -46,12 +40,6 @@ add-word c =
     let a = c .before .before .before .before .args in
     omega (arith, bits-fit (a .slices) (span 1 (a .used)) (a .w) _ _ (turn c))
 
-add-b : tie.Need-add-b Inv-loop μ-loop
-add-b c = omega arith
-
-loop-less : tie.Need-loop-less Inv-loop μ-loop
-loop-less c = omega arith
-
 loop-again : tie.Need-loop-again Inv-loop μ-loop
 loop-again c = (omega arith, turn c)
 
@@ -64,14 +52,5 @@ pub map-word-spec : {M : Type 1} → statement M
 map-word-spec =
     tie.close
     (tie.spec
-    Inv-loop
-    μ-loop
-    loop-holds
-    mul-word
-    slice-at-requires
-    map-bit-requires
-    add-word
-    add-b
-    loop-less
-    loop-again
-    returns)
+    Inv-loop μ-loop loop-holds mul-word (λ c κs. omega arith) (λ c κs. omega arith) add-word (λ c. omega arith) (λ c. omega arith)
+    loop-again returns)

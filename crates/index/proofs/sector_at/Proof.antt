@@ -15,31 +15,10 @@ Inv-loop image q joined n rest₀ j₀ rest j = (rest < 0x100000000) × (sectorF
 abbrev μ-loop : tie.MeasureT-loop
 μ-loop image q joined n rest₀ j₀ rest j = n - j
 
-pair-count-requires : tie.Need-pair-count-requires Inv-loop μ-loop
-pair-count-requires c κs = search needs
-
-cast-n : tie.Need-cast-n Inv-loop μ-loop
-cast-n c = search needs
-
 loop-holds : tie.Need-loop-holds Inv-loop μ-loop
 loop-holds c =
     let a = c .before .before .args in
     (search needs, rw sub-zero (ap (λ (n : ℕ). sectorFrom (a .image .now) (a .q .0) n 0 (a .joined)) (c .pair-count .ensures)))
-
-pair-length-requires : tie.Need-pair-length-requires Inv-loop μ-loop
-pair-length-requires c κs = search needs
-
-cast-length : tie.Need-cast-length Inv-loop μ-loop
-cast-length c = search needs
-
-pair-start-requires : tie.Need-pair-start-requires Inv-loop μ-loop
-pair-start-requires c κs = search needs
-
-cast-sector-after : tie.Need-cast-sector-after Inv-loop μ-loop
-cast-sector-after c = search needs
-
-sector-after-requires : tie.Need-sector-after-requires Inv-loop μ-loop
-sector-after-requires c κs = search needs
 
 returns : tie.Need-returns Inv-loop μ-loop
 returns c =
@@ -50,12 +29,6 @@ returns c =
     ∙ ap (λ (w : ℕ). (w + l .loop .rest) % 65536) (c .before .pair-start .ensures)
     ∙ sym (sector-here (a .image .now) (a .q .0) n (l .loop .j) (l .loop .rest) (c .before .before .before .before .loop-test .taken) (omega (arith, c .before .before .before .pair-length .ensures)))
     ∙ l .loop .inv .1
-
-add-j : tie.Need-add-j Inv-loop μ-loop
-add-j c = search needs
-
-loop-less : tie.Need-loop-less Inv-loop μ-loop
-loop-less c = search needs
 
 loop-again : tie.Need-loop-again Inv-loop μ-loop
 loop-again c =
@@ -76,18 +49,5 @@ pub sector-at-spec : {M : Type 1} → statement M
 sector-at-spec =
     tie.close
     (tie.spec
-    Inv-loop
-    μ-loop
-    pair-count-requires
-    cast-n
-    loop-holds
-    pair-length-requires
-    cast-length
-    pair-start-requires
-    cast-sector-after
-    sector-after-requires
-    returns
-    add-j
-    loop-less
-    loop-again
-    returns-2)
+    Inv-loop μ-loop (λ c κs. search needs) (λ c. search needs) loop-holds (λ c κs. search needs) (λ c. search needs) (λ c κs. search needs)
+    (λ c. search needs) (λ c κs. search needs) returns (λ c. search needs) (λ c. search needs) loop-again returns-2)

@@ -15,31 +15,10 @@ Inv-loop image q n total₀ j₀ total j = (total ≤ j * 65535) × (total + sec
 abbrev μ-loop : tie.MeasureT-loop
 μ-loop image q n total₀ j₀ total j = n - j
 
-pair-count-requires : tie.Need-pair-count-requires Inv-loop μ-loop
-pair-count-requires c κs = search needs
-
-cast-n : tie.Need-cast-n Inv-loop μ-loop
-cast-n c = search needs
-
 loop-holds : tie.Need-loop-holds Inv-loop μ-loop
 loop-holds c =
     let a = c .before .before .args in
     (omega arith, rw (zero-add, sub-zero) (ap (λ (n : ℕ). sectorsFrom (a .image .now) (a .q .0) n 0) (c .pair-count .ensures)))
-
-pair-length-requires : tie.Need-pair-length-requires Inv-loop μ-loop
-pair-length-requires c κs = search needs
-
-cast-total : tie.Need-cast-total Inv-loop μ-loop
-cast-total c = search needs
-
-add-total : tie.Need-add-total Inv-loop μ-loop
-add-total c = search needs
-
-add-j : tie.Need-add-j Inv-loop μ-loop
-add-j c = search needs
-
-loop-less : tie.Need-loop-less Inv-loop μ-loop
-loop-less c = search needs
 
 loop-again : tie.Need-loop-again Inv-loop μ-loop
 loop-again c =
@@ -57,15 +36,5 @@ pub sector-total-at-spec : {M : Type 1} → statement M
 sector-total-at-spec =
     tie.close
     (tie.spec
-    Inv-loop
-    μ-loop
-    pair-count-requires
-    cast-n
-    loop-holds
-    pair-length-requires
-    cast-total
-    add-total
-    add-j
-    loop-less
-    loop-again
-    returns)
+    Inv-loop μ-loop (λ c κs. search needs) (λ c. search needs) loop-holds (λ c κs. search needs) (λ c. search needs) (λ c. search needs)
+    (λ c. search needs) (λ c. search needs) loop-again returns)

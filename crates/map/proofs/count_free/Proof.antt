@@ -15,29 +15,11 @@ Inv-loop image free₀ w₀ free w = (w ≤ 256) × (free ≡ onesBelow image w)
 abbrev μ-loop : tie.MeasureT-loop
 μ-loop image free₀ w₀ free w = 256 - w
 
-loop-holds : tie.Need-loop-holds Inv-loop μ-loop
-loop-holds c = search needs
-
-add-word : tie.Need-add-word Inv-loop μ-loop
-add-word c = search needs
-
-mul-word : tie.Need-mul-word Inv-loop μ-loop
-mul-word c = search needs
-
-shared-slice-read-word : tie.Need-shared-slice-read-word Inv-loop μ-loop
-shared-slice-read-word c = search needs
-
 cast-free : tie.Need-cast-free Inv-loop μ-loop
 cast-free c = let few = ones-le 16 _ (c .shared-slice-known .given (2304 + c .before .before .loop .w) .fits) in omega arith
 
 add-free : tie.Need-add-free Inv-loop μ-loop
 add-free c = let few = ones-le 16 _ (c .shared-slice-known .given (2304 + c .before .before .loop .w) .fits) in omega arith
-
-add-w : tie.Need-add-w Inv-loop μ-loop
-add-w c = search needs
-
-loop-less : tie.Need-loop-less Inv-loop μ-loop
-loop-less c = search needs
 
 loop-again : tie.Need-loop-again Inv-loop μ-loop
 loop-again c =
@@ -52,15 +34,5 @@ pub count-free-spec : {M : Type 1} → statement M
 count-free-spec =
     tie.close
     (tie.spec
-    Inv-loop
-    μ-loop
-    loop-holds
-    add-word
-    mul-word
-    shared-slice-read-word
-    cast-free
-    add-free
-    add-w
-    loop-less
-    loop-again
-    returns)
+    Inv-loop μ-loop (λ c. search needs) (λ c. search needs) (λ c. search needs) (λ c. search needs) cast-free add-free (λ c. search needs)
+    (λ c. search needs) loop-again returns)

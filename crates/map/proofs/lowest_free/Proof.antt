@@ -30,15 +30,6 @@ abbrev μ-scan : tie.MeasureT-scan
 scan-holds : tie.Need-scan-holds Inv-loop μ-loop Inv-scan μ-scan
 scan-holds c = (search needs, none-first _)
 
-add-word : tie.Need-add-word Inv-loop μ-loop Inv-scan μ-scan
-add-word c = search needs
-
-mul-word : tie.Need-mul-word Inv-loop μ-loop Inv-scan μ-scan
-mul-word c = search needs
-
-shared-slice-read-word : tie.Need-shared-slice-read-word Inv-loop μ-loop Inv-scan μ-scan
-shared-slice-read-word c = search needs
-
 cast-first : tie.Need-cast-first Inv-loop μ-loop Inv-scan μ-scan
 cast-first c =
     let h = leading-le 16 (getD (c .before .before .before .before .args .image .now) (2304 + c .before .before .scan .w) 0) in
@@ -50,20 +41,8 @@ loop-holds c = (
   none-leading _ (c .before .before .scan .w) (c .shared-slice-known2 .given _ .fits) (c .before .before .scan .inv .1),
 )
 
-bit-word-requires : tie.Need-bit-word-requires Inv-loop μ-loop Inv-scan μ-scan
-bit-word-requires c κs = search needs
-
 div-if2 : tie.Need-div-if2 Inv-loop μ-loop Inv-scan μ-scan
 div-if2 c = rw (c .bit-word .ensures) (pow-pos _)
-
-slice-at-requires : tie.Need-slice-at-requires Inv-loop μ-loop Inv-scan μ-scan
-slice-at-requires c κs = search needs
-
-add-b : tie.Need-add-b Inv-loop μ-loop Inv-scan μ-scan
-add-b c = search needs
-
-loop-less : tie.Need-loop-less Inv-loop μ-loop Inv-scan μ-scan
-loop-less c = search needs
 
 loop-again : tie.Need-loop-again Inv-loop μ-loop Inv-scan μ-scan
 loop-again c =
@@ -74,12 +53,6 @@ loop-again c =
       search needs,
       none-next image (16 * w + b + 1) _ (omega arith) (c .before .before .before .loop .inv .1) (omega (arith, mapBit-le image (16 * w + b + 1))),
     )
-
-add-w : tie.Need-add-w Inv-loop μ-loop Inv-scan μ-scan
-add-w c = search needs
-
-scan-less : tie.Need-scan-less Inv-loop μ-loop Inv-scan μ-scan
-scan-less c = search needs
 
 scan-again : tie.Need-scan-again Inv-loop μ-loop Inv-scan μ-scan
 scan-again c = (search needs, λ j p q. c .before .loop .inv .1 j p (omega arith))
@@ -101,24 +74,6 @@ pub lowest-free-spec : {M : Type 1} → statement M
 lowest-free-spec =
     tie.close
     (tie.spec
-    Inv-loop
-    μ-loop
-    Inv-scan
-    μ-scan
-    scan-holds
-    add-word
-    mul-word
-    shared-slice-read-word
-    cast-first
-    loop-holds
-    bit-word-requires
-    div-if2
-    slice-at-requires
-    add-b
-    loop-less
-    loop-again
-    add-w
-    scan-less
-    scan-again
-    returns
-    returns-2)
+    Inv-loop μ-loop Inv-scan μ-scan scan-holds (λ c. search needs) (λ c. search needs) (λ c. search needs) cast-first loop-holds
+    (λ c κs. search needs) div-if2 (λ c κs. search needs) (λ c. search needs) (λ c. search needs) loop-again (λ c. search needs)
+    (λ c. search needs) scan-again returns returns-2)

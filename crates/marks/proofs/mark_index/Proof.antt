@@ -35,32 +35,17 @@ next c =
     passed-more (a .image .now) (a .g) (a .q .0) (entry c .pre .1) (head c .loop .inv .1) (c .before .mark-pair .result) (omega arith)
     (c .before .before .before .if3 .left) (c .before .mark-pair .ensures)
 
-cast-at : tie.Need-cast-at Inv-loop μ-loop
-cast-at c = search needs
-
-mul-at : tie.Need-mul-at Inv-loop μ-loop
-mul-at c = search needs
-
-mul-pairs : tie.Need-mul-pairs Inv-loop μ-loop
-mul-pairs c = search needs
-
 shared-slice-read-pairs : tie.Need-shared-slice-read-pairs Inv-loop μ-loop
 shared-slice-read-pairs c = omega (arith, c .before .before .pre .0 .size, inside (c .before .before))
 
 cast-pairs : tie.Need-cast-pairs Inv-loop μ-loop
 cast-pairs c = fits-widen tt (c .shared-slice-known2 .given _)
 
-refused-requires : tie.Need-refused-requires Inv-loop μ-loop
-refused-requires c κs = search needs
-
 returns : tie.Need-returns Inv-loop μ-loop
 returns c =
     let a = c .before .before .before .before .before .args in
     refuse-index (a .image .now) (a .g) (a .q .0) (c .refused .ensures) (λ held marked block once.
     omega (arith, block .some, count-is (a .image .now) (a .g) (a .q .0)))
-
-refused-requires-2 : tie.Need-refused-requires-2 Inv-loop μ-loop
-refused-requires-2 c κs = search needs
 
 returns-2 : tie.Need-returns-2 Inv-loop μ-loop
 returns-2 c =
@@ -71,38 +56,11 @@ returns-2 c =
 loop-holds : tie.Need-loop-holds Inv-loop μ-loop
 loop-holds c = (omega arith, passed-none _ _ _ _)
 
-mul-sectors : tie.Need-mul-sectors Inv-loop μ-loop
-mul-sectors c = search needs
-
-add-sectors : tie.Need-add-sectors Inv-loop μ-loop
-add-sectors c = search needs
-
-add-sectors-2 : tie.Need-add-sectors-2 Inv-loop μ-loop
-add-sectors-2 c = search needs
-
-mul-sectors-2 : tie.Need-mul-sectors-2 Inv-loop μ-loop
-mul-sectors-2 c = search needs
-
 shared-slice-read-sectors : tie.Need-shared-slice-read-sectors Inv-loop μ-loop
 shared-slice-read-sectors c = omega (arith, c .before .before .before .before .before .before .before .pre .0 .size, inside (c .before .before .before .before .before .before .before))
 
-mul-t21 : tie.Need-mul-t21 Inv-loop μ-loop
-mul-t21 c = search needs
-
-add-t22 : tie.Need-add-t22 Inv-loop μ-loop
-add-t22 c = search needs
-
-add-t24 : tie.Need-add-t24 Inv-loop μ-loop
-add-t24 c = search needs
-
-mul-t23 : tie.Need-mul-t23 Inv-loop μ-loop
-mul-t23 c = search needs
-
 shared-slice-read-t26 : tie.Need-shared-slice-read-t26 Inv-loop μ-loop
 shared-slice-read-t26 c = omega (arith, c .before .before .before .before .before .before .before .before .pre .0 .size, inside (c .before .before .before .before .before .before .before .before))
-
-refused-requires-3 : tie.Need-refused-requires-3 Inv-loop μ-loop
-refused-requires-3 c κs = search needs
 
 returns-3 : tie.Need-returns-3 Inv-loop μ-loop
 returns-3 c =
@@ -111,12 +69,6 @@ returns-3 c =
     let a = s .args in
     refuse-index (a .image .now) (a .g) (a .q .0) (c .refused3 .ensures) (λ held marked block once.
     same-start (a .image .now) (a .g) (a .q .0) (s .pre .0) (l .inv .1) (omega (arith, count-is (a .image .now) (a .g) (a .q .0))) (c .before .before .if3 .taken) block)
-
-mark-pair-requires : tie.Need-mark-pair-requires Inv-loop μ-loop
-mark-pair-requires c κs = search needs
-
-refused-requires-4 : tie.Need-refused-requires-4 Inv-loop μ-loop
-refused-requires-4 c κs = search needs
 
 returns-4 : tie.Need-returns-4 Inv-loop μ-loop
 returns-4 c =
@@ -138,20 +90,8 @@ add-t26 c =
     let e = c .before in
     omega (arith, e .before .mark-pair .ensures .high (omega arith), entry e .pre .0 .limits .sectors)
 
-add-j : tie.Need-add-j Inv-loop μ-loop
-add-j c = search needs
-
-loop-less : tie.Need-loop-less Inv-loop μ-loop
-loop-less c = search needs
-
 loop-again : tie.Need-loop-again Inv-loop μ-loop
 loop-again c = (omega arith, next (c .before))
-
-add-t14 : tie.Need-add-t14 Inv-loop μ-loop
-add-t14 c = search needs
-
-mul-t31 : tie.Need-mul-t31 Inv-loop μ-loop
-mul-t31 c = search needs
 
 shared-slice-read-t16 : tie.Need-shared-slice-read-t16 Inv-loop μ-loop
 shared-slice-read-t16 c = omega (arith, c .before .before .before .before .before .before .before .pre .0 .size, inside (c .before .before .before .before .before .before .before))
@@ -168,39 +108,8 @@ pub mark-index-spec : {M : Type 1} → statement M
 mark-index-spec =
     tie.close
     (tie.spec
-    Inv-loop
-    μ-loop
-    cast-at
-    mul-at
-    mul-pairs
-    shared-slice-read-pairs
-    cast-pairs
-    refused-requires
-    returns
-    refused-requires-2
-    returns-2
-    loop-holds
-    mul-sectors
-    add-sectors
-    add-sectors-2
-    mul-sectors-2
-    shared-slice-read-sectors
-    mul-t21
-    add-t22
-    add-t24
-    mul-t23
-    shared-slice-read-t26
-    refused-requires-3
-    returns-3
-    mark-pair-requires
-    refused-requires-4
-    returns-4
-    add-slices
-    add-t26
-    add-j
-    loop-less
-    loop-again
-    add-t14
-    mul-t31
-    shared-slice-read-t16
-    returns-5)
+    Inv-loop μ-loop (λ c. search needs) (λ c. search needs) (λ c. search needs) shared-slice-read-pairs cast-pairs (λ c κs. search needs)
+    returns (λ c κs. search needs) returns-2 loop-holds (λ c. search needs) (λ c. search needs) (λ c. search needs) (λ c. search needs)
+    shared-slice-read-sectors (λ c. search needs) (λ c. search needs) (λ c. search needs) (λ c. search needs) shared-slice-read-t26
+    (λ c κs. search needs) returns-3 (λ c κs. search needs) (λ c κs. search needs) returns-4 add-slices add-t26 (λ c. search needs)
+    (λ c. search needs) loop-again (λ c. search needs) (λ c. search needs) shared-slice-read-t16 returns-5)

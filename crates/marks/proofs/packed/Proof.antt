@@ -21,25 +21,10 @@ loop-holds c = (omega arith, sym (packed-none _ _), omega arith)
 mul-word : tie.Need-mul-word Inv-loop μ-loop
 mul-word c = omega (arith, packed-room (c .before .loop .word) 0 (c .before .loop .i) (omega arith) (c .before .loop .inv .2) (omega arith))
 
-add-wide : tie.Need-add-wide Inv-loop μ-loop
-add-wide c = search needs
-
-element-copy-out-wide : tie.Need-element-copy-out-wide Inv-loop μ-loop
-element-copy-out-wide c = search needs
-
-wide-requires : tie.Need-wide-requires Inv-loop μ-loop
-wide-requires c κs = search needs
-
 add-word : tie.Need-add-word Inv-loop μ-loop
 add-word c =
     let l = c .before .before .before .loop in
     omega (arith, packed-room (l .word) (c .wide .result) (l .i) (omega arith) (l .inv .2) (omega arith))
-
-add-i : tie.Need-add-i Inv-loop μ-loop
-add-i c = search needs
-
-loop-less : tie.Need-loop-less Inv-loop μ-loop
-loop-less c = search needs
 
 loop-again : tie.Need-loop-again Inv-loop μ-loop
 loop-again c =
@@ -59,15 +44,5 @@ pub packed-spec : {M : Type 1} → statement M
 packed-spec =
     tie.close
     (tie.spec
-    Inv-loop
-    μ-loop
-    loop-holds
-    mul-word
-    add-wide
-    element-copy-out-wide
-    wide-requires
-    add-word
-    add-i
-    loop-less
-    loop-again
-    returns)
+    Inv-loop μ-loop loop-holds mul-word (λ c. search needs) (λ c. search needs) (λ c κs. search needs) add-word (λ c. search needs)
+    (λ c. search needs) loop-again returns)

@@ -17,15 +17,6 @@ abbrev μ-loop : tie.MeasureT-loop
 loop-holds : tie.Need-loop-holds Inv-loop μ-loop
 loop-holds c = (omega arith, omega arith, c .pre .2, upto-none _ _)
 
-element-write-table : tie.Need-element-write-table Inv-loop μ-loop
-element-write-table c = search needs
-
-add-c : tie.Need-add-c Inv-loop μ-loop
-add-c c = search needs
-
-loop-less : tie.Need-loop-less Inv-loop μ-loop
-loop-less c = search needs
-
 loop-again : tie.Need-loop-again Inv-loop μ-loop
 loop-again c =
     let l = c .before .loop in
@@ -35,4 +26,6 @@ returns : tie.Need-returns Inv-loop μ-loop
 returns c = upto-all _ (omega arith) (c .before .loop .inv .2) (c .before .loop .inv .3)
 
 pub class-range-spec : {M : Type 1} → statement M
-class-range-spec = tie.close (tie.spec Inv-loop μ-loop loop-holds element-write-table add-c loop-less loop-again returns)
+class-range-spec =
+    tie.close
+    (tie.spec Inv-loop μ-loop loop-holds (λ c. search needs) (λ c. search needs) (λ c. search needs) loop-again returns)

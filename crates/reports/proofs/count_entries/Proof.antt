@@ -16,9 +16,6 @@ abbrev μ-loop : tie.MeasureT-loop
 loop-holds : tie.Need-loop-holds Inv-loop μ-loop
 loop-holds c = (omega arith, count-none _)
 
-sector-at-requires : tie.Need-sector-at-requires Inv-loop μ-loop
-sector-at-requires c κs = tt
-
 count-slots-requires : tie.Need-count-slots-requires Inv-loop μ-loop
 count-slots-requires c κs =
     let turn = c .before in
@@ -40,12 +37,6 @@ add-count c =
       slots-most image (sector .sector-at .result .0) 16,
     )
 
-add-b : tie.Need-add-b Inv-loop μ-loop
-add-b c = omega arith
-
-loop-less : tie.Need-loop-less Inv-loop μ-loop
-loop-less c = omega arith
-
 loop-again : tie.Need-loop-again Inv-loop μ-loop
 loop-again c =
     let sector = c .before in
@@ -62,13 +53,4 @@ pub count-entries-spec : {M : Type 1} → statement M
 count-entries-spec =
     tie.close
     (tie.spec
-    Inv-loop
-    μ-loop
-    loop-holds
-    sector-at-requires
-    count-slots-requires
-    add-count
-    add-b
-    loop-less
-    loop-again
-    returns)
+    Inv-loop μ-loop loop-holds (λ c κs. tt) count-slots-requires add-count (λ c. omega arith) (λ c. omega arith) loop-again returns)

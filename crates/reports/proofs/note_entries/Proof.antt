@@ -16,9 +16,6 @@ abbrev μ-loop : tie.MeasureT-loop
 loop-holds : tie.Need-loop-holds Inv-loop μ-loop
 loop-holds c = (omega arith, turn-start _ _ _)
 
-sector-at-requires : tie.Need-sector-at-requires Inv-loop μ-loop
-sector-at-requires c κs = tt
-
 note-slots-requires : tie.Need-note-slots-requires Inv-loop μ-loop
 note-slots-requires c κs =
     let sector = c .before in
@@ -29,12 +26,6 @@ note-slots-requires c κs =
     let room = turn-room (λ b. slotRecords image (sysSector image b) 16) (l .loop .b) (start .args .n) (turn .loop-test .taken) in
     rw (sector .sector-at .ensures)
     (start .pre .0 .inside (l .loop .b) (turn .loop-test .taken), omega (arith, l .loop .inv .1 .end, noted-length (l .loop .inv .1), start .pre .1))
-
-add-b : tie.Need-add-b Inv-loop μ-loop
-add-b c = omega arith
-
-loop-less : tie.Need-loop-less Inv-loop μ-loop
-loop-less c = omega arith
 
 loop-again : tie.Need-loop-again Inv-loop μ-loop
 loop-again c =
@@ -57,13 +48,4 @@ pub note-entries-spec : {M : Type 1} → statement M
 note-entries-spec =
     tie.close
     (tie.spec
-    Inv-loop
-    μ-loop
-    loop-holds
-    sector-at-requires
-    note-slots-requires
-    add-b
-    loop-less
-    loop-again
-    same-length
-    returns)
+    Inv-loop μ-loop loop-holds (λ c κs. tt) note-slots-requires (λ c. omega arith) (λ c. omega arith) loop-again same-length returns)

@@ -24,12 +24,6 @@ note-slot-requires c κs =
     let room = turn-room (slotRecord (a .image .now) (a .q .0)) (l .loop .slot) 16 (omega arith) in
     (start .pre .0, omega arith, omega (arith, l .loop .inv .1 .end, noted-length (l .loop .inv .1), start .pre .1))
 
-add-slot : tie.Need-add-slot Inv-loop μ-loop
-add-slot c = omega arith
-
-loop-less : tie.Need-loop-less Inv-loop μ-loop
-loop-less c = omega arith
-
 loop-again : tie.Need-loop-again Inv-loop μ-loop
 loop-again c =
     let noted = c .before .before in
@@ -48,13 +42,4 @@ returns c =
 pub note-slots-spec : {M : Type 1} → statement M
 note-slots-spec =
     tie.close
-    (tie.spec
-    Inv-loop
-    μ-loop
-    loop-holds
-    note-slot-requires
-    add-slot
-    loop-less
-    loop-again
-    same-length
-    returns)
+    (tie.spec Inv-loop μ-loop loop-holds note-slot-requires (λ c. omega arith) (λ c. omega arith) loop-again same-length returns)

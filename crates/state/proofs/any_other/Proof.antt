@@ -20,27 +20,12 @@ abbrev μ-loop : tie.MeasureT-loop
 loop-holds : tie.Need-loop-holds Inv-loop μ-loop
 loop-holds c = (omega arith, refl)
 
-mul-user : tie.Need-mul-user Inv-loop μ-loop
-mul-user c = omega arith
-
-element-copy-out-user : tie.Need-element-copy-out-user Inv-loop μ-loop
-element-copy-out-user c = omega arith
-
-is-other-requires : tie.Need-is-other-requires Inv-loop μ-loop
-is-other-requires c κs = tt
-
 returns : tie.Need-returns Inv-loop μ-loop
 returns c =
     let turn = c .before .before .before in
     let start = turn .before .before in
     let three = users-length (start .args .t1) _ (start .good .0) in
     sym (turn .before .loop .inv .1 ∙ any-hit (isOther (start .args .kind) (start .args .sender)) _ 3 _ vacantUser three (turn .loop-test .taken) (sym (c .before .is-other .ensures) ∙ c .if1 .taken))
-
-add-u : tie.Need-add-u Inv-loop μ-loop
-add-u c = omega arith
-
-loop-less : tie.Need-loop-less Inv-loop μ-loop
-loop-less c = omega arith
 
 loop-again : tie.Need-loop-again Inv-loop μ-loop
 loop-again c =
@@ -56,4 +41,8 @@ returns-2 c =
     sym (c .before .loop .inv .1 ∙ any-end (isOther (start .args .kind) (start .args .sender)) _ 3 _ vacantUser three (c .loop-test .left))
 
 pub any-other-spec : {M : Type 1} → statement M
-any-other-spec = tie.close (tie.spec Inv-loop μ-loop loop-holds mul-user element-copy-out-user is-other-requires returns add-u loop-less loop-again returns-2)
+any-other-spec =
+    tie.close
+    (tie.spec
+    Inv-loop μ-loop loop-holds (λ c. omega arith) (λ c. omega arith) (λ c κs. tt) returns (λ c. omega arith) (λ c. omega arith) loop-again
+    returns-2)

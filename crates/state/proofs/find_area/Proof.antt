@@ -22,27 +22,12 @@ abbrev μ-loop : tie.MeasureT-loop
 loop-holds : tie.Need-loop-holds Inv-loop μ-loop
 loop-holds c = (omega arith, refl)
 
-mul-area : tie.Need-mul-area Inv-loop μ-loop
-mul-area c = omega arith
-
-element-copy-out-area : tie.Need-element-copy-out-area Inv-loop μ-loop
-element-copy-out-area c = omega arith
-
-is-named-requires : tie.Need-is-named-requires Inv-loop μ-loop
-is-named-requires c κs = tt
-
 returns : tie.Need-returns Inv-loop μ-loop
 returns c =
     let turn = c .before .before .before in
     let start = turn .before .before in
     let eight = areas-length (start .args .t1) _ (start .good .0) in
     area-found (sym (turn .before .loop .inv .1 ∙ first-hit (isNamed (packed (start .args .name))) _ 8 _ pastArea eight (turn .loop-test .taken) (sym (c .before .is-named .ensures) ∙ c .if1 .taken)))
-
-add-j : tie.Need-add-j Inv-loop μ-loop
-add-j c = omega arith
-
-loop-less : tie.Need-loop-less Inv-loop μ-loop
-loop-less c = omega arith
 
 loop-again : tie.Need-loop-again Inv-loop μ-loop
 loop-again c =
@@ -58,4 +43,8 @@ returns-2 c =
     area-found (sym (c .before .loop .inv .1 ∙ first-end (isNamed (packed (start .args .name))) _ 8 _ pastArea eight (c .loop-test .left)))
 
 pub find-area-spec : {M : Type 1} → statement M
-find-area-spec = tie.close (tie.spec Inv-loop μ-loop loop-holds mul-area element-copy-out-area is-named-requires returns add-j loop-less loop-again returns-2)
+find-area-spec =
+    tie.close
+    (tie.spec
+    Inv-loop μ-loop loop-holds (λ c. omega arith) (λ c. omega arith) (λ c κs. tt) returns (λ c. omega arith) (λ c. omega arith) loop-again
+    returns-2)

@@ -22,24 +22,12 @@ abbrev μ-loop : tie.MeasureT-loop
 loop-holds : tie.Need-loop-holds Inv-loop μ-loop
 loop-holds c = (omega arith, refl)
 
-mul-user : tie.Need-mul-user Inv-loop μ-loop
-mul-user c = omega arith
-
-element-copy-out-user : tie.Need-element-copy-out-user Inv-loop μ-loop
-element-copy-out-user c = omega arith
-
 returns : tie.Need-returns Inv-loop μ-loop
 returns c =
     let turn = c .before .before .before in
     let start = turn .before .before in
     let three = users-length (start .args .t1) _ (start .good .0) in
     user-found (sym (turn .before .loop .inv .1 ∙ first-hit (hasId (start .args .sender)) _ 3 _ vacantUser three (turn .loop-test .taken) (eq-eqb _ _ (c .if1 .taken))))
-
-add-u : tie.Need-add-u Inv-loop μ-loop
-add-u c = omega arith
-
-loop-less : tie.Need-loop-less Inv-loop μ-loop
-loop-less c = omega arith
 
 loop-again : tie.Need-loop-again Inv-loop μ-loop
 loop-again c =
@@ -55,4 +43,7 @@ returns-2 c =
     user-found (sym (c .before .loop .inv .1 ∙ first-end (hasId (start .args .sender)) _ 3 _ vacantUser three (c .loop-test .left)))
 
 pub find-user-spec : {M : Type 1} → statement M
-find-user-spec = tie.close (tie.spec Inv-loop μ-loop loop-holds mul-user element-copy-out-user returns add-u loop-less loop-again returns-2)
+find-user-spec =
+    tie.close
+    (tie.spec
+    Inv-loop μ-loop loop-holds (λ c. omega arith) (λ c. omega arith) returns (λ c. omega arith) (λ c. omega arith) loop-again returns-2)

@@ -21,24 +21,12 @@ abbrev μ-loop : tie.MeasureT-loop
 loop-holds : tie.Need-loop-holds Inv-loop μ-loop
 loop-holds c = (omega arith, refl)
 
-mul-area : tie.Need-mul-area Inv-loop μ-loop
-mul-area c = omega arith
-
-element-copy-out-area : tie.Need-element-copy-out-area Inv-loop μ-loop
-element-copy-out-area c = omega arith
-
 returns : tie.Need-returns Inv-loop μ-loop
 returns c =
     let turn = c .before .before .before in
     let start = turn .before .before in
     let eight = areas-length (start .args .t1) _ (start .good .0) in
     vacant-found (sym (turn .before .loop .inv .1 ∙ first-hit (isVacant) _ 8 _ pastArea eight (turn .loop-test .taken) (c .if1 .taken)))
-
-add-j : tie.Need-add-j Inv-loop μ-loop
-add-j c = omega arith
-
-loop-less : tie.Need-loop-less Inv-loop μ-loop
-loop-less c = omega arith
 
 loop-again : tie.Need-loop-again Inv-loop μ-loop
 loop-again c =
@@ -54,4 +42,7 @@ returns-2 c =
     vacant-found (sym (c .before .loop .inv .1 ∙ first-end (isVacant) _ 8 _ pastArea eight (c .loop-test .left)))
 
 pub vacant-area-of-spec : {M : Type 1} → statement M
-vacant-area-of-spec = tie.close (tie.spec Inv-loop μ-loop loop-holds mul-area element-copy-out-area returns add-j loop-less loop-again returns-2)
+vacant-area-of-spec =
+    tie.close
+    (tie.spec
+    Inv-loop μ-loop loop-holds (λ c. omega arith) (λ c. omega arith) returns (λ c. omega arith) (λ c. omega arith) loop-again returns-2)

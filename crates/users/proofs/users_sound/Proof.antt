@@ -21,18 +21,6 @@ abbrev μ-loop : tie.MeasureT-loop
 loop-holds : tie.Need-loop-holds Inv-loop μ-loop
 loop-holds c = (omega arith, λ k h. absurd (omega arith))
 
-mul-area : tie.Need-mul-area Inv-loop μ-loop
-mul-area c = omega arith
-
-element-copy-out-area : tie.Need-element-copy-out-area Inv-loop μ-loop
-element-copy-out-area c = omega arith
-
-is-open-requires : tie.Need-is-open-requires Inv-loop μ-loop
-is-open-requires c κs = tt
-
-area-legal-requires : tie.Need-area-legal-requires Inv-loop μ-loop
-area-legal-requires c κs = tt
-
 returns : tie.Need-returns Inv-loop μ-loop
 returns c =
     let test = c .before in
@@ -41,12 +29,6 @@ returns c =
     let start = turn .before .before in
     let shape = shaped (start .args .t1) _ (start .good .0) in
     (fails (λ s. refutes _ (test .area-legal .ensures) (c .if2 .taken) (each-area _ shape s _ (turn .loop-test .taken) (sym (first .before .is-open .ensures) ∙ first .if1 .taken))), shape)
-
-add-j : tie.Need-add-j Inv-loop μ-loop
-add-j c = omega arith
-
-loop-less : tie.Need-loop-less Inv-loop μ-loop
-loop-less c = omega arith
 
 loop-again : tie.Need-loop-again Inv-loop μ-loop
 loop-again c =
@@ -69,15 +51,5 @@ pub users-sound-spec : {M : Type 1} → statement M
 users-sound-spec =
     tie.close
     (tie.spec
-    Inv-loop
-    μ-loop
-    loop-holds
-    mul-area
-    element-copy-out-area
-    is-open-requires
-    area-legal-requires
-    returns
-    add-j
-    loop-less
-    loop-again
-    returns-2)
+    Inv-loop μ-loop loop-holds (λ c. omega arith) (λ c. omega arith) (λ c κs. tt) (λ c κs. tt) returns (λ c. omega arith) (λ c. omega arith)
+    loop-again returns-2)

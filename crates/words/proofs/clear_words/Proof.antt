@@ -15,33 +15,9 @@ Inv-loop image₀ from count at i₀ image i = (i ≤ count) × (image ≡ store
 abbrev μ-loop : tie.MeasureT-loop
 μ-loop image₀ from count at i₀ image i = count - i
 
-cast-at : tie.Need-cast-at Inv-loop μ-loop
-cast-at c = search needs
-
-mul-at : tie.Need-mul-at Inv-loop μ-loop
-mul-at c = search needs
-
-add-at : tie.Need-add-at Inv-loop μ-loop
-add-at c = search needs
-
 loop-holds : tie.Need-loop-holds Inv-loop μ-loop
 unfolding zeroWords
 loop-holds c = (search needs, sym (store-none _ _), refl)
-
-add-image : tie.Need-add-image Inv-loop μ-loop
-add-image c = search needs
-
-mul-image : tie.Need-mul-image Inv-loop μ-loop
-mul-image c = search needs
-
-slice-write-image : tie.Need-slice-write-image Inv-loop μ-loop
-slice-write-image c = search needs
-
-add-i : tie.Need-add-i Inv-loop μ-loop
-add-i c = search needs
-
-loop-less : tie.Need-loop-less Inv-loop μ-loop
-loop-less c = search needs
 
 loop-again : tie.Need-loop-again Inv-loop μ-loop
 loop-again c =
@@ -50,9 +26,6 @@ loop-again c =
       store-more _ _ i 0 (zeroWords i) (zeroWords (i + 1)) _ (length-zeroWords i) (zeroWords-snoc i) (c .before .loop .inv .1),
       search needs,
     )
-
-same-length : tie.Need-same-length Inv-loop μ-loop
-same-length c = search needs
 
 returns : tie.Need-returns Inv-loop μ-loop
 returns c =
@@ -63,17 +36,5 @@ pub clear-words-spec : {M : Type 1} → statement M
 clear-words-spec =
     tie.close
     (tie.spec
-    Inv-loop
-    μ-loop
-    cast-at
-    mul-at
-    add-at
-    loop-holds
-    add-image
-    mul-image
-    slice-write-image
-    add-i
-    loop-less
-    loop-again
-    same-length
-    returns)
+    Inv-loop μ-loop (λ c. search needs) (λ c. search needs) (λ c. search needs) loop-holds (λ c. search needs) (λ c. search needs)
+    (λ c. search needs) (λ c. search needs) (λ c. search needs) loop-again (λ c. search needs) returns)
