@@ -22,4 +22,3 @@ fn main() {
     let n = io::read_full(0, &mut text);
     cases::run(&mut image, &text[..n]);
 }
-// x

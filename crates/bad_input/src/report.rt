@@ -1,6 +1,7 @@
 // What comes of a case.
 
 use crate::unit::Disc;
+use perform::Outcome;
 use types::Area;
 use types::Message;
 use types::Role;
@@ -90,22 +91,27 @@ fn either(first: bool, yes: &[u8], other: &[u8]) {
     io::write_all(1, other);
 }
 
+// Init by the one call, which lends it a word that it has no use for.
+fn init(words: &mut [u16], state: State, unit: u16) -> Outcome {
+    let mut lent: [u16; 1] = [0];
+    perform::perform(words, state, Message::Init { unit: unit }, &mut lent)
+}
+
+// Writes Init's answer, and whether the words are a sound unit.
+fn tell(words: &[u16], state: State, result: u16) {
+    io::write_all(1, b": ");
+    io::print_hex(1, result as u64, 4);
+    either(soundness::sound(words, state), b", sound", b", not sound");
+}
+
 // What Init answers with the image's first words, and whether they are a sound unit.
 fn answer(words: &mut [u16], count: usize, state: State, unit: u16) -> State {
-    let mut lent: [u16; 1] = [0];
     if words.len() < count {
         return state;
     }
-    let init = Message::Init { unit: unit };
-    let outcome = perform::perform(&mut words[..count], state, init, &mut lent);
+    let outcome = init(&mut words[..count], state, unit);
     let answer = outcome.answer;
-    io::write_all(1, b": ");
-    io::print_hex(1, answer.result as u64, 4);
-    either(
-        soundness::sound(&words[..count], state),
-        b", sound",
-        b", not sound",
-    );
+    tell(&words[..count], state, answer.result);
     outcome.state
 }
 
