@@ -7,10 +7,8 @@ ghost use lib.ListN.{length};
 ghost use Rattle.disc.specs.Decide.{Decides};
 ghost use Rattle.disc.specs.Names.{pack};
 ghost use Rattle.disc.specs.Stretches.{sectorIn};
-ghost use Rattle.disc.specs.Entries.{placeCount};
 ghost use Rattle.names.specs.Classes.{ClassesOf};
-ghost use Rattle.sound.specs.Parts.{SoundNames};
-ghost use Rattle.entries.specs.Sys.{sysSlices, placesIn, SysIn};
+ghost use Rattle.entries.specs.Sys.{sysSlices, placesIn, SysNames, SysIn};
 ghost use Rattle.entries.specs.Legal.{ownEntry, PlacesLegal, Judging};
 ghost use Rattle.entries.specs.Names.{NamesAlone};
 ghost use Rattle.alone.specs.Scan.{Standing, NoneBefore, Passed, Scanned};
@@ -61,7 +59,8 @@ fn is_first(
     sys: Catalog,
 ) -> bool
     requires { ⌜ SysIn (now image) g sys × Standing (now image) g (sys .layers) (pack (name .0) (name .1) (name .2)) (q .0) (b .0) i ⌝ }
-    ensures { λ r. ⌜ Decides r (NoneBefore (placesIn (now (image .entry)) g) (g .keys) (pack (name .0) (name .1) (name .2)) (16 * b .0 + i)) ⌝ }
+    ensures { λ r. ⌜ Decides r
+        (NoneBefore (placesIn (now (image .entry)) g) (g .keys) (pack (name .0) (name .1) (name .2)) (16 * b .0 + i)) ⌝ }
 {
     let Found::At(place) = catalog::find(image, sys, name) else {
         return false;
@@ -85,7 +84,9 @@ fn place_sound(
     classes: &[u8; 256],
     filter: &mut [u64; 4096],
 ) -> bool
-    requires { ⌜ Judging (now image) g expected (b .0 + 1) × ClassesOf (now classes) × (q .0 ≡ sectorIn (g .first .0) (g .slice) (sysSlices (now image) g) (b .0)) × (key ≡ b .0 % g .keys) × (i < 16) × Passed (placesIn (now image) g) (g .keys) (ownEntry expected) (now filter) (16 * b .0 + i) ⌝ }
+    requires { ⌜ Judging (now image) g expected (b .0 + 1) × ClassesOf (now classes)
+        × (q .0 ≡ sectorIn (g .first .0) (g .slice) (sysSlices (now image) g) (b .0)) × (key ≡ b .0 % g .keys) × (i < 16)
+        × Passed (placesIn (now image) g) (g .keys) (ownEntry expected) (now filter) (16 * b .0 + i) ⌝ }
     ensures { λ r. ⌜ Scanned r (placesIn (now (image .entry)) g) (g .keys) (ownEntry expected) (now (filter .exit)) (16 * b .0 + i + 1) ⌝ }
 {
     if !entries::place_legal(image, q, i, key, expected, classes) {
@@ -113,7 +114,9 @@ fn sector_sound(
     classes: &[u8; 256],
     filter: &mut [u64; 4096],
 ) -> bool
-    requires { ⌜ Judging (now image) g expected (b .0 + 1) × ClassesOf (now classes) × (q .0 ≡ sectorIn (g .first .0) (g .slice) (sysSlices (now image) g) (b .0)) × (key ≡ b .0 % g .keys) × Passed (placesIn (now image) g) (g .keys) (ownEntry expected) (now filter) (16 * b .0) ⌝ }
+    requires { ⌜ Judging (now image) g expected (b .0 + 1) × ClassesOf (now classes)
+        × (q .0 ≡ sectorIn (g .first .0) (g .slice) (sysSlices (now image) g) (b .0)) × (key ≡ b .0 % g .keys)
+        × Passed (placesIn (now image) g) (g .keys) (ownEntry expected) (now filter) (16 * b .0) ⌝ }
     ensures { λ r. ⌜ Scanned r (placesIn (now (image .entry)) g) (g .keys) (ownEntry expected) (now (filter .exit)) (16 * (b .0 + 1)) ⌝ }
 {
     let mut i = 0;
@@ -137,7 +140,9 @@ fn stretch_sound(
     classes: &[u8; 256],
     filter: &mut [u64; 4096],
 ) -> bool
-    requires { ⌜ Judging (now image) g expected (b .0 + n) × ClassesOf (now classes) × ((c : ℕ) → c < n → sectorIn (g .first .0) (g .slice) (sysSlices (now image) g) (b .0 + c) ≡ q .0 + c) × (q .0 + n < 65536) × Passed (placesIn (now image) g) (g .keys) (ownEntry expected) (now filter) (16 * b .0) ⌝ }
+    requires { ⌜ Judging (now image) g expected (b .0 + n) × ClassesOf (now classes)
+        × ((c : ℕ) → c < n → sectorIn (g .first .0) (g .slice) (sysSlices (now image) g) (b .0 + c) ≡ q .0 + c) × (q .0 + n < 65536)
+        × Passed (placesIn (now image) g) (g .keys) (ownEntry expected) (now filter) (16 * b .0) ⌝ }
     ensures { λ r. ⌜ Scanned r (placesIn (now (image .entry)) g) (g .keys) (ownEntry expected) (now (filter .exit)) (16 * (b .0 + n)) ⌝ }
 {
     let first = q.0;
@@ -173,14 +178,16 @@ fn stretches_sound(
     filter: &mut [u64; 4096],
 ) -> bool
     requires { ⌜ Judging (now image) g expected (expected .size) × ClassesOf (now classes) × (length (now filter) ≡ 4096) ⌝ }
-    ensures { λ r. ⌜ Scanned r (placesIn (now (image .entry)) g) (g .keys) (ownEntry expected) (now (filter .exit)) (16 * expected .size) ⌝ }
+    ensures { λ r. ⌜ Scanned r (placesIn (now (image .entry)) g) (g .keys) (ownEntry expected) (now (filter .exit))
+        (16 * expected .size) ⌝ }
 {
     let size = expected.size;
+    let sys = expected.catalog;
     let mut b = Block(0);
     let mut j = 0;
     while b.0 < size {
-        let n = entries::lesser(index::pair_length(image, Sector(6), j), size - b.0);
-        let start = index::pair_start(image, Sector(6), j);
+        let n = entries::lesser(index::pair_length(image, sys.index, j), size - b.0);
+        let start = index::pair_start(image, sys.index, j);
         if !stretch_sound(image, g, start, n, b, expected, classes, filter) {
             return false;
         }
@@ -193,7 +200,8 @@ fn stretches_sound(
 // Whether all places of SYS are legal, and the names in them alone.
 fn places_sound(image: &[u16], g: Geometry, expected: Expected) -> bool
     requires { ⌜ Judging (now image) g expected (expected .size) ⌝ }
-    ensures { λ r. ⌜ Decides r (PlacesLegal (placesIn (now (image .entry)) g) (g .keys) (ownEntry expected) (16 * expected .size) × NamesAlone (placesIn (now (image .entry)) g) (16 * expected .size)) ⌝ }
+    ensures { λ r. ⌜ Decides r (PlacesLegal (placesIn (now (image .entry)) g) (g .keys) (ownEntry expected) (16 * expected .size)
+        × NamesAlone (placesIn (now (image .entry)) g) (16 * expected .size)) ⌝ }
 {
     let classes = names::classes();
     let mut filter = [0u64; 4096];
@@ -203,13 +211,13 @@ fn places_sound(image: &[u16], g: Geometry, expected: Expected) -> bool
 // Whether the names in SYS's layers are those of a sound unit.
 pub fn names_sound(image: &[u16], g: Geometry, sys: Catalog) -> bool
     requires { ⌜ SysIn (now image) g sys ⌝ }
-    ensures { λ r. ⌜ Decides r (SoundNames (g .keys) (g .slice) (sys .layers) (sysSlices (now (image .entry)) g) (placesIn (now (image .entry)) g) (placeCount (g .keys) (sys .layers))) ⌝ }
+    ensures { λ r. ⌜ Decides r (SysNames (now (image .entry)) g (sys .layers)) ⌝ }
 {
     let expected = Expected {
         catalog: sys,
         inverse: entries::inverse(g.keys),
         size: g.keys * sys.layers,
-        reserved: entries::sys_sectors(image, g),
+        reserved: entries::sys_sectors(image, g, sys.index),
     };
     if !places_sound(image, g, expected) {
         return false;

@@ -18,6 +18,7 @@ use Rattle.types.specs.declared.Operation.the-variants.{Reserve, Position, Sens
 use Rattle.types.specs.State.{areaAt}
 use Rattle.disc.specs.Names.{named, unitIn}
 use Rattle.disc.proofs.Compare.{same-or}
+use Rattle.catalog.specs.declared.Unit.{Unit}
 use Rattle.state.specs.declared.Found.{Found}
 use Rattle.state.specs.declared.Found.the-variants.{At, Absent}
 use Rattle.state.specs.declared.Kind.the-variants.{Exclusive}
@@ -35,8 +36,7 @@ use Rattle.refine.proofs.StateLaws.{same-absent}
 use Rattle.steps.proofs.Whole.{represents}
 use Rattle.steps.proofs.AreaMessages.{area-low, area-found, area-other, sender-absent, sender-found, area-file}
 use Rattle.steps.proofs.AreaUnit.{area-shut, area-reserved, area-nobody, area-strange, area-asked, operation-reserve, operation-stranger, operation-user, user-position, user-sense, user-transput}
-use Rattle.unit.specs.declared.Opened.{Opened}
-use Rattle.unit.specs.Opened.{NumbersOf, Meant}
+use Rattle.unit.specs.Unit.{NumbersOf, Meant}
 use Rattle.unit.proofs.MeantLaws.{meant-known}
 use Rattle.sharing.specs.declared.AreaReply.{AreaReply}
 use Rattle.sharing.specs.Sharing.{areaReply, atPosition, positionWord, positionReached, reservedReply, releasedReply, positionReply}
@@ -119,7 +119,7 @@ module _ {image : List ℕ} {state : State} {p : Plain} {n j sender u : ℕ} {f 
       let low = reached-low block len in
       leaves position-outcome (moved-good seat (positionReached block len) low) (moved-represents seat (positionReached block len) low)
 
-module _ {image : List ℕ} {state : State} {o : Opened} {j sender u : ℕ} {lent : List ℕ} {reply : AreaReply} where
+module _ {image : List ℕ} {state : State} {o : Unit} {j sender u : ℕ} {lent : List ℕ} {reply : AreaReply} where
   pub step-release : {count : ℕ} → reply ≡ releasedReply state j u → UserSteps image state o j sender u (Reserve count) lent reply lent image
   unfolding userState
   step-release {count} e = record {
@@ -202,7 +202,7 @@ module _ (p : Plain) (f : File) (state : State) (j sender : ℕ) (operation : Op
   unfolding operationState
   state-stranger count found z e = rw (z, e) refl
 
-module _ (image : List ℕ) (state : State) (o : Opened) (j sender : ℕ) (operation : Operation) where
+module _ (image : List ℕ) (state : State) (o : Unit) (j sender : ℕ) (operation : Operation) where
   exclusive : (p : Plain) (n : ℕ) (f : File) → OperatesFrom image state o j sender p n f → plain.other plain.isExclusive sender (areaUsers state j) ≡ false
   exclusive p n f from = area-other (from .represents .areas) n j (from .named) Exclusive sender ∙ from .alone
 
@@ -286,7 +286,7 @@ module _ (p : Plain) (state : State) (sender : ℕ) (operation : Operation) (a :
   unfolding messageState
   state-admitted found j o f e s q = rw (e, s, q) refl
 
-module _ {image : List ℕ} {state : State} {o : Opened} (name : Name) (meant : Meant image state o (unitIn name)) (sender : ℕ) (operation : Operation) {n : ℕ} (is : n ≡ named name)
+module _ {image : List ℕ} {state : State} {o : Unit} (name : Name) (meant : Meant image state o (unitIn name)) (sender : ℕ) (operation : Operation) {n : ℕ} (is : n ≡ named name)
     {found : Found} (search : found ≡ areaNamed n state) where
   -- question 1 is answered yes
   mine : {p : Plain} → Represents image state p → known p (unitIn name) ≡ true

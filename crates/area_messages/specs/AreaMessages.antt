@@ -15,6 +15,7 @@ use Rattle.types.specs.declared.Operation.{Operation}
 use Rattle.types.specs.declared.Operation.the-variants.{Reserve, Position, Sense, Transput, Other}
 use Rattle.types.specs.State.{areaAt}
 use Rattle.disc.specs.Names.{named}
+use Rattle.catalog.specs.declared.Unit.{Unit}
 use Rattle.state.specs.declared.Found.{Found}
 use Rattle.state.specs.declared.Found.the-variants.{At, Absent}
 use Rattle.state.specs.declared.Kind.the-variants.{Exclusive}
@@ -26,8 +27,7 @@ use Rattle.plain.specs.Transput.{oneOf}
 use Rattle.plain.specs.Step.{isKnown, reserveCount, userStep, operationStep, stepArea}
 use Rattle.plain.specs.Good.{Good}
 use Rattle.refine.specs.Represents.{Represents}
-use Rattle.unit.specs.declared.Opened.{Opened}
-use Rattle.unit.specs.Opened.{NumbersOf}
+use Rattle.unit.specs.Unit.{NumbersOf}
 use Rattle.sharing.specs.declared.AreaReply.{AreaReply}
 use Rattle.sharing.specs.Sharing.{atPosition, positionReached}
 use Rattle.refine.specs.Leaves.{Leaves}
@@ -83,24 +83,28 @@ unfoldable pub messageState : Plain → State → ℕ → Operation → Answer �
 messageState p state sender operation a Absent f = state
 messageState p state sender operation a (At j) none = state
 messageState p state sender operation a (At j) (some f) =
-    cond (admitted (areaAt state j) sender operation) (operationState p f state j sender operation a (reserveWord operation) (entryOf sender (areaAt state j))) state
+    cond (admitted (areaAt state j) sender operation)
+    (operationState p f state j sender operation a (reserveWord operation) (entryOf sender (areaAt state j))) state
 
 -- ---- a user's operation
 
 -- Answer and lent words are the outcome's; image and state are those of its unit, and determined by the answer.
-pub record UserLeaves (x : Outcome) (image : List ℕ) (state : State) (p : Plain) (f : File) (j u : ℕ) (operation : Operation) (lent : List ℕ) (r : AreaReply) (filled after : List ℕ) : Type 0 where
+pub record UserLeaves (x : Outcome) (image : List ℕ) (state : State) (p : Plain) (f : File) (j u : ℕ) (operation : Operation)
+    (lent : List ℕ) (r : AreaReply) (filled after : List ℕ) : Type 0 where
   pub leaves : Leaves x (r .answer) filled after (r .state)
   pub written : after ≡ messageImage p image operation (r .answer) lent (some f)
   pub reached : r .state ≡ userState p f state j u operation (r .answer)
 
-pub record UserSteps (image : List ℕ) (state : State) (o : Opened) (j sender u : ℕ) (operation : Operation) (lent : List ℕ) (r : AreaReply) (filled after : List ℕ) : Type 0 where
+pub record UserSteps (image : List ℕ) (state : State) (o : Unit) (j sender u : ℕ) (operation : Operation) (lent : List ℕ)
+    (r : AreaReply) (filled after : List ℕ) : Type 0 where
   pub all : (p : Plain) (n : ℕ) (f : File) → Seat image state p n j sender u f → NumbersOf o p
-      → UserLeaves (userStep p n sender (areaUsers state j) (areaUser state j u) f operation lent) image state p f j u operation lent r filled after
+      → UserLeaves (userStep p n sender (areaUsers state j) (areaUser state j u) f operation lent)
+      image state p f j u operation lent r filled after
 
 -- ---- the operation
 
 -- Descriptor j is that of name n, whose file is f; the sender is not 0, and no other user is exclusive.
-pub record OperatesFrom (image : List ℕ) (state : State) (o : Opened) (j sender : ℕ) (p : Plain) (n : ℕ) (f : File) : Type 0 where
+pub record OperatesFrom (image : List ℕ) (state : State) (o : Unit) (j sender : ℕ) (p : Plain) (n : ℕ) (f : File) : Type 0 where
   pub good : Good p
   pub represents : Represents image state p
   pub numbers : NumbersOf o p
@@ -109,29 +113,36 @@ pub record OperatesFrom (image : List ℕ) (state : State) (o : Opened) (j sende
   pub nonzero : sender ≢ 0
   pub alone : anyOther Exclusive sender (areaAt state j) ≡ false
 
-pub record CanOperate (image : List ℕ) (state : State) (o : Opened) (j sender : ℕ) : Type 0 where
+pub record CanOperate (image : List ℕ) (state : State) (o : Unit) (j sender : ℕ) : Type 0 where
   pub p : Plain
   pub n : ℕ
   pub f : File
   pub can : OperatesFrom image state o j sender p n f
 
-pub record OperationLeaves (x : Outcome) (image : List ℕ) (state : State) (p : Plain) (f : File) (j sender : ℕ) (operation : Operation) (lent : List ℕ) (r : AreaReply) (filled after : List ℕ) : Type 0 where
+pub record OperationLeaves (x : Outcome) (image : List ℕ) (state : State) (p : Plain) (f : File) (j sender : ℕ) (operation : Operation)
+    (lent : List ℕ) (r : AreaReply) (filled after : List ℕ) : Type 0 where
   pub leaves : Leaves x (r .answer) filled after (r .state)
   pub written : after ≡ messageImage p image operation (r .answer) lent (some f)
   pub reached : r .state ≡ operationState p f state j sender operation (r .answer) (reserveWord operation) (entryOf sender (areaAt state j))
 
-pub record Operates (image : List ℕ) (state : State) (o : Opened) (j sender : ℕ) (operation : Operation) (lent : List ℕ) (r : AreaReply) (filled after : List ℕ) : Type 0 where
+pub record Operates (image : List ℕ) (state : State) (o : Unit) (j sender : ℕ) (operation : Operation) (lent : List ℕ)
+    (r : AreaReply) (filled after : List ℕ) : Type 0 where
   pub all : (p : Plain) (n : ℕ) (f : File) → OperatesFrom image state o j sender p n f
-      → OperationLeaves (operationStep p n sender (areaUsers state j) operation (reserveCount operation) lent) image state p f j sender operation lent r filled after
+      → OperationLeaves (operationStep p n sender (areaUsers state j) operation (reserveCount operation) lent) image state p f j sender
+      operation lent r filled after
 
 -- ---- the message
 
 -- Answer and lent words are the plain unit's; image and state are those of its unit, and determined by the answer.
-pub record AreaLeaves (image : List ℕ) (state : State) (p : Plain) (name : Name) (sender : ℕ) (operation : Operation) (lent : List ℕ) (r : AreaReply) (filled after : List ℕ) : Type 0 where
+pub record AreaLeaves (image : List ℕ) (state : State) (p : Plain) (name : Name) (sender : ℕ) (operation : Operation) (lent : List ℕ)
+    (r : AreaReply) (filled after : List ℕ) : Type 0 where
   pub leaves : Leaves (stepArea p name sender operation lent) (r .answer) filled after (r .state)
   pub written : after ≡ messageImage p image operation (r .answer) lent (tableFind (named name) (p .files))
-  pub reached : r .state ≡ messageState p state sender operation (r .answer) (areaNamed (named name) state) (tableFind (named name) (p .files))
+  pub reached : r .state
+      ≡ messageState p state sender operation (r .answer) (areaNamed (named name) state) (tableFind (named name) (p .files))
 
 -- The same of every unit that image and state represent.
-pub record AreaMessages (image : List ℕ) (state : State) (o : Opened) (name : Name) (sender : ℕ) (operation : Operation) (lent : List ℕ) (r : AreaReply) (filled after : List ℕ) : Type 0 where
-  pub all : (p : Plain) → Good p → Represents image state p → NumbersOf o p → AreaLeaves image state p name sender operation lent r filled after
+pub record AreaMessages (image : List ℕ) (state : State) (o : Unit) (name : Name) (sender : ℕ) (operation : Operation) (lent : List ℕ)
+    (r : AreaReply) (filled after : List ℕ) : Type 0 where
+  pub all : (p : Plain) → Good p → Represents image state p → NumbersOf o p
+      → AreaLeaves image state p name sender operation lent r filled after

@@ -3,9 +3,11 @@
 ghost use mathlib.Core.Path.{_≡_};
 ghost use Rattle.disc.specs.Names.{unitIn};
 ghost use Rattle.plain.specs.Step.{isKnown};
-ghost use Rattle.unit.specs.Opened.{Meant};
+ghost use Rattle.unit.specs.Unit.{Meant};
 ghost use Rattle.transput.specs.Transput.{Seated};
-ghost use Rattle.area_messages.specs.AreaMessages.{knownCount, knownTransput, reserveWord, UserSteps, CanOperate, Operates, AreaMessages};
+ghost use Rattle.area_messages.specs.AreaMessages.{knownCount, knownTransput, reserveWord, UserSteps, CanOperate, Operates};
+ghost use Rattle.area_messages.specs.AreaMessages.{AreaMessages};
+use catalog::Unit;
 use sharing::AreaReply;
 use state::Found;
 use state::Kind;
@@ -13,7 +15,6 @@ use types::Block;
 use types::Name;
 use types::Operation;
 use types::State;
-use unit::Opened;
 
 // Whether a Reserve has one of the counts 0, 2, 3 and 4.
 fn known_count(count: u16) -> bool
@@ -75,7 +76,7 @@ fn reserve_count(operation: Operation) -> u16
 // The operation, no Reserve 2 to 4, of the sender, who is the user of entry u of area descriptor j.
 fn user_step(
     image: &mut [u16],
-    o: Opened,
+    unit: Unit,
     state: State,
     j: usize,
     u: usize,
@@ -83,8 +84,9 @@ fn user_step(
     operation: Operation,
     lent: &mut [u16],
 ) -> AreaReply
-    requires { ⌜ Seated (now image) state o j sender u ⌝ }
-    ensures { λ r. ⌜ UserSteps (now (image .entry)) state o j sender u operation (now (lent .entry)) r (now (lent .exit)) (now (image .exit)) ⌝ }
+    requires { ⌜ Seated (now image) state unit j sender u ⌝ }
+    ensures { λ r. ⌜ UserSteps (now (image .entry)) state unit j sender u operation (now (lent .entry)) r
+        (now (lent .exit)) (now (image .exit)) ⌝ }
 {
     match operation {
         Operation::Reserve(_) => sharing::release(state, j, u),
@@ -94,7 +96,7 @@ fn user_step(
             operation: number,
             bytes,
             block,
-        } => { transput::transput(image, o, state, j, u, sender, number, bytes, block, lent) }
+        } => { transput::transput(image, unit, state, j, u, sender, number, bytes, block, lent) }
         Operation::Other(_) => sharing::reply(state, 0x0A00, 0, Block(0)),
     }
 }
@@ -102,15 +104,16 @@ fn user_step(
 // The operation of a sender who is not 0 on area descriptor j, which no other user has exclusively.
 fn operate(
     image: &mut [u16],
-    o: Opened,
+    unit: Unit,
     state: State,
     j: usize,
     sender: u16,
     operation: Operation,
     lent: &mut [u16],
 ) -> AreaReply
-    requires { ⌜ CanOperate (now image) state o j sender ⌝ }
-    ensures { λ r. ⌜ Operates (now (image .entry)) state o j sender operation (now (lent .entry)) r (now (lent .exit)) (now (image .exit)) ⌝ }
+    requires { ⌜ CanOperate (now image) state unit j sender ⌝ }
+    ensures { λ r. ⌜ Operates (now (image .entry)) state unit j sender operation (now (lent .entry)) r
+        (now (lent .exit)) (now (image .exit)) ⌝ }
 {
     let count = reserve_count(operation);
     if count != 0 {
@@ -120,21 +123,22 @@ fn operate(
     let Found::At(u) = state::find_user(area, sender) else {
         return sharing::reply(state, 0x0810, 0, Block(0));
     };
-    user_step(image, o, state, j, u, sender, operation, lent)
+    user_step(image, unit, state, j, u, sender, operation, lent)
 }
 
 // A message that means this unit to the area process of a name.
 pub fn area_message(
     image: &mut [u16],
-    o: Opened,
+    unit: Unit,
     state: State,
     name: Name,
     sender: u16,
     operation: Operation,
     lent: &mut [u16],
 ) -> AreaReply
-    requires { ⌜ Meant (now image) state o (unitIn name) ⌝ }
-    ensures { λ r. ⌜ AreaMessages (now (image .entry)) state o name sender operation (now (lent .entry)) r (now (lent .exit)) (now (image .exit)) ⌝ }
+    requires { ⌜ Meant (now image) state unit (unitIn name) ⌝ }
+    ensures { λ r. ⌜ AreaMessages (now (image .entry)) state unit name sender operation (now (lent .entry)) r
+        (now (lent .exit)) (now (image .exit)) ⌝ }
 {
     let Found::At(j) = state::find_area(state, names::stored(name)) else {
         return sharing::reply(state, 0x4800, 0, Block(0));
@@ -149,5 +153,5 @@ pub fn area_message(
     if !is_known(operation) {
         return sharing::reply(state, 0x0A00, 0, Block(0));
     }
-    operate(image, o, state, j, sender, operation, lent)
+    operate(image, unit, state, j, sender, operation, lent)
 }

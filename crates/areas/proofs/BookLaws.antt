@@ -10,15 +10,15 @@ use Rattle.disc.proofs.EntryLaws.{length-entry, three-words}
 use Rattle.words.specs.Store.{store}
 use Rattle.index.specs.Block.{sliceTotal}
 use Rattle.catalog.specs.declared.Place.{Place}
+use Rattle.catalog.specs.declared.Unit.{Unit}
 use Rattle.catalog.specs.Catalog.{placeStart, entryAt}
 use Rattle.catalog.proofs.WalkLaws.{length-entryAt}
 use Rattle.plain.specs.Unit.{Plain, File, sysOf, fileEntry}
 use Rattle.plain.specs.Areas.{bookLive}
 use Rattle.refine.specs.Writes.{bookedImage}
 use Rattle.refine.proofs.Ground.{Ground, ground, part-file, part-sectors}
-use Rattle.unit.specs.declared.Opened.{Opened}
 use Rattle.unit.specs.Files.{BlockOf}
-use Rattle.unit.proofs.OpenLaws.{on-catalog}
+use Rattle.unit.proofs.UnitLaws.{on-catalog}
 use Rattle.unit.proofs.FindLaws.{place-room}
 use Rattle.unit.proofs.LookUpLaws.{entry-at}
 use Rattle.unit.proofs.FileLaws.{block-total, total-fits, file-entry}
@@ -37,7 +37,7 @@ rebooked-entry name optional attributes size index reserved tail size′ index�
 
 -- ---- the writes
 
-module _ {image : List ℕ} {o : Opened} {place : Place} {sector size : ℕ} {p : Plain} {n : ℕ} {f : File} (can : CanBookFrom image o place sector size p n f) where
+module _ {image : List ℕ} {o : Unit} {place : Place} {sector size : ℕ} {p : Plain} {n : ℕ} {f : File} (can : CanBookFrom image o place sector size p n f) where
   gr : Ground p
   gr = ground p (can .on .good)
 
@@ -68,7 +68,7 @@ module _ {image : List ℕ} {o : Opened} {place : Place} {sector size : ℕ} {p 
       new-entry =
           let index : ℕ = indexSector (p .F) (p .s) (f .bookedSlices) (f .slices) in
           let live : ℕ = indexSector (p .F) (p .s) (length (f .slices)) (f .slices) in
-          let three = can .on .good .files n f (can .file) .optional .count in
+          let three = can .on .good .catalog .files n f (can .file) .optional .count in
           ap (λ (e : List ℕ). rebooked e size sector (o .slice * total)) (entry-at (on-catalog (can .on)) (can .at) ∙ file-entry (can .on .good) (can .at) f (can .file))
           ∙ rebooked-entry n (f .optional) (f .attributes) (f .booked) index (p .s * f .bookedSlices) (f .tail) size sector (o .slice * total) three
           ∙ ap₂ (λ (a b : ℕ). entryWords n (f .optional) (f .attributes) a b (o .slice * total) (f .tail)) (can .live) (can .index)
@@ -76,7 +76,7 @@ module _ {image : List ℕ} {o : Opened} {place : Place} {sector size : ℕ} {p 
 
       new-length : length new ≡ 16
       new-length =
-          let fg = can .on .good .files n f (can .file) in
+          let fg = can .on .good .catalog .files n f (can .file) in
           length-entry n (f .optional) (f .attributes) (length (f .sectors)) (indexSector (p .F) (p .s) (length (f .slices)) (f .slices)) (p .s * length (f .slices)) (f .tail)
           (fg .optional .count) (fg .tail .count)
 

@@ -15,6 +15,7 @@ use Rattle.names.specs.NameIs.{NameIs}
 use Rattle.catalog.specs.declared.Place.{Place}
 use Rattle.catalog.specs.declared.Found.{Found}
 use Rattle.catalog.specs.declared.Found.the-variants as place
+use Rattle.catalog.specs.declared.Unit.{Unit}
 use Rattle.catalog.specs.Catalog.{entryWord}
 use Rattle.state.specs.declared.Found.the-variants.{At, Absent}
 use Rattle.state.specs.Areas.{vacantAreaOf, areaOpened}
@@ -28,11 +29,10 @@ use Rattle.refine.specs.Represents.{Represents}
 use Rattle.refine.specs.Replies.{refused, written}
 use Rattle.refine.proofs.StateLaws.{same-room, same-full}
 use Rattle.steps.proofs.Whole.{on-disc}
-use Rattle.unit.specs.declared.Opened.{Opened}
-use Rattle.unit.specs.Opened.{NumbersOf, Meant}
+use Rattle.unit.specs.Unit.{NumbersOf, Meant}
 use Rattle.unit.specs.Find.{NameAt, NameFound, FindsName}
 use Rattle.unit.specs.Files.{nameOpen}
-use Rattle.unit.proofs.OpenLaws.{on-catalog}
+use Rattle.unit.proofs.UnitLaws.{on-catalog}
 use Rattle.unit.proofs.MeantLaws.{meant-known}
 use Rattle.unit.proofs.FileLaws.{found-file, live-size, live-index, name-open, name-closed, name-absent}
 use Rattle.areas.specs.Areas.{CreatesArea, dummyCreate, made}
@@ -64,7 +64,7 @@ module _ (p : Plain) (name : Name) (lent : List ℕ) (mine : T (known p (unitIn 
 
 -- ---- by what was found
 
-module _ {image : List ℕ} {o : Opened} {n : ℕ} {r : Found} (state : State) (name : Name) (meant : Meant image state o (unitIn name)) (is : n ≡ named name)
+module _ {image : List ℕ} {o : Unit} {n : ℕ} {r : Found} (state : State) (name : Name) (meant : Meant image state o (unitIn name)) (is : n ≡ named name)
     (finds : FindsName image o n r) where
   found : (p : Plain) → Good p → Represents image state p → NumbersOf o p → NameFound image p (named name) r
   found p g rep num = subst (λ (m : ℕ). NameFound image p m r) is (finds .all p (on-catalog (on-disc g rep)) num)

@@ -17,6 +17,7 @@ use Rattle.disc.specs.Names.{named, unitIn, isSystem}
 use Rattle.catalog.specs.declared.Place.{Place}
 use Rattle.catalog.specs.declared.Found.{Found}
 use Rattle.catalog.specs.declared.Found.the-variants as place
+use Rattle.catalog.specs.declared.Unit.{Unit}
 use Rattle.state.specs.declared.Found.the-variants.{At, Absent}
 use Rattle.state.specs.Areas.{areaNamed, areaClosed, userCount}
 use Rattle.plain.specs.Table.{Table, tableFind, tablePut, tableRemove}
@@ -32,10 +33,9 @@ use Rattle.refine.specs.Replies.{refused, written}
 use Rattle.refine.proofs.UserLaws.{users-count}
 use Rattle.refine.proofs.StateLaws.{named-inside, named-open, same-found, same-absent, same-index, same-size, same-users}
 use Rattle.steps.proofs.Whole.{on-disc}
-use Rattle.unit.specs.declared.Opened.{Opened}
-use Rattle.unit.specs.Opened.{NumbersOf, Meant}
+use Rattle.unit.specs.Unit.{NumbersOf, Meant}
 use Rattle.unit.specs.Find.{NameAt, NameFound, FindsName}
-use Rattle.unit.proofs.OpenLaws.{on-catalog}
+use Rattle.unit.proofs.UnitLaws.{on-catalog}
 use Rattle.unit.proofs.MeantLaws.{meant-known}
 use Rattle.areas.specs.Areas.{CanBookFrom, CanBook, Booked, RemovesArea, dummyRemove, books}
 
@@ -66,7 +66,7 @@ module _ (p : Plain) (name : Name) (lent : List ℕ) (mine : T (known p (unitIn 
 
 -- ---- by what was found
 
-module _ {image : List ℕ} {o : Opened} {n : ℕ} (state : State) (name : Name) (meant : Meant image state o (unitIn name)) (is : n ≡ named name) where
+module _ {image : List ℕ} {o : Unit} {n : ℕ} (state : State) (name : Name) (meant : Meant image state o (unitIn name)) (is : n ≡ named name) where
   pub removes-system : isSystem n ≡ true → RemovesArea image o state name image (record { result = 0x0A00; state = state })
   removes-system h = record {
     all = λ p g rep num. record { step = λ lent. refused (λ z. omega arith) (remove-system p name lent (meant-known meant rep) (ap isSystem (sym is) ∙ h)) (refl, refl) };
@@ -123,7 +123,7 @@ module _ {image : List ℕ} {o : Opened} {n : ℕ} (state : State) (name : Name)
           removes-lost e = record {
             all = λ p g rep num.
                 let f = file-of p g rep in
-                let entered = entry-of p (named name) (f .0) (g .files (named name) (f .0) (f .1) .ordinary) (f .1) in
+                let entered = entry-of p (named name) (f .0) (g .catalog .files (named name) (f .0) (f .1) .ordinary) (f .1) in
                 absurd (some≢none (sym entered ∙ name-of p g rep num .nothing e));
           }
 

@@ -10,6 +10,7 @@ use Rattle.disc.specs.Names.{named}
 use Rattle.disc.specs.Entries.{placeCount, nameAt, indexSector}
 use Rattle.names.specs.NameIs.{NameIs}
 use Rattle.catalog.specs.declared.Place.{Place}
+use Rattle.catalog.specs.declared.Unit.{Unit}
 use Rattle.state.specs.declared.Found.the-variants.{At, Absent}
 use Rattle.state.specs.Areas.{areaNamed, vacantAreaOf, areaOpened, areaClosed}
 use Rattle.plain.specs.Table.{tableFind, tablePut, tableRemove}
@@ -20,8 +21,7 @@ use Rattle.refine.specs.Represents.{Represents}
 use Rattle.refine.specs.OnDisc.{OnDisc}
 use Rattle.refine.specs.Writes.{bookedImage}
 use Rattle.refine.specs.Replies.{Replies}
-use Rattle.unit.specs.declared.Opened.{Opened}
-use Rattle.unit.specs.Opened.{NumbersOf, unitPlaces}
+use Rattle.unit.specs.Unit.{NumbersOf, unitPlaces}
 use Rattle.unit.specs.Find.{NameAt}
 use Rattle.areas.specs.declared.AreaDone.{AreaDone}
 
@@ -52,13 +52,13 @@ pub record CreateAreaStep (p : Plain) (state : State) (name : Name) (r : AreaDon
       → Replies p (stepCreateArea p name lent) lent (r .result) (r .state ≡ state) (AreaCreated p state (named name) (r .state))
 
 -- The same of every unit that image and state represent.
-pub record CreatesArea (image : List ℕ) (o : Opened) (state : State) (name : Name) (r : AreaDone) : Type 0 where
+pub record CreatesArea (image : List ℕ) (o : Unit) (state : State) (name : Name) (r : AreaDone) : Type 0 where
   pub all : (p : Plain) → Good p → Represents image state p → NumbersOf o p → CreateAreaStep p state name r
 
 -- ---- booking
 
 -- The entry of file f under name n stands in the place; sector and size are its index sector and length.
-pub record CanBookFrom (image : List ℕ) (o : Opened) (place : Place) (sector size : ℕ) (p : Plain) (n : ℕ) (f : File) : Type 0 where
+pub record CanBookFrom (image : List ℕ) (o : Unit) (place : Place) (sector size : ℕ) (p : Plain) (n : ℕ) (f : File) : Type 0 where
   pub on : OnDisc image p
   pub numbers : NumbersOf o p
   pub file : tableFind n (p .files) ≡ some f
@@ -66,14 +66,14 @@ pub record CanBookFrom (image : List ℕ) (o : Opened) (place : Place) (sector s
   pub index : sector ≡ indexSector (p .F) (p .s) (length (f .slices)) (f .slices)
   pub live : size ≡ length (f .sectors)
 
-pub record CanBook (image : List ℕ) (o : Opened) (place : Place) (sector size : ℕ) : Type 0 where
+pub record CanBook (image : List ℕ) (o : Unit) (place : Place) (sector size : ℕ) : Type 0 where
   pub unit : Plain
   pub name : ℕ
   pub file : File
   pub can : CanBookFrom image o place sector size unit name file
 
 -- "Length and slices are booked."
-pub record Booked (image : List ℕ) (o : Opened) (place : Place) (sector size : ℕ) (after : List ℕ) : Type 0 where
+pub record Booked (image : List ℕ) (o : Unit) (place : Place) (sector size : ℕ) (after : List ℕ) : Type 0 where
   pub all : (p : Plain) (n : ℕ) (f : File) (can : CanBookFrom image o place sector size p n f)
       → after ≡ bookedImage p (sysOf p) image (can .at .number) n f
 
@@ -105,5 +105,5 @@ pub record RemoveAreaStep (p : Plain) (image : List ℕ) (state : State) (name :
       (AreaRemoved p image state (named name) after (r .state))
 
 -- The same of every unit that image and state represent.
-pub record RemovesArea (image : List ℕ) (o : Opened) (state : State) (name : Name) (after : List ℕ) (r : AreaDone) : Type 0 where
+pub record RemovesArea (image : List ℕ) (o : Unit) (state : State) (name : Name) (after : List ℕ) (r : AreaDone) : Type 0 where
   pub all : (p : Plain) → Good p → Represents image state p → NumbersOf o p → RemoveAreaStep p image state name after r

@@ -1,14 +1,14 @@
 // Area create and remove, from the question whether the name is entered, or none of SYS and MAP, on.
 
 ghost use Rattle.disc.specs.Names.{unitIn};
-ghost use Rattle.unit.specs.Opened.{Meant};
+ghost use Rattle.unit.specs.Unit.{Meant};
 ghost use Rattle.areas.specs.Areas.{CanBook, Booked, CreatesArea, RemovesArea};
 use catalog::Found;
 use catalog::Place;
+use catalog::Unit;
 use types::Name;
 use types::Sector;
 use types::State;
-use unit::Opened;
 
 // The result word, and the state after the message.
 pub struct AreaDone {
@@ -17,12 +17,12 @@ pub struct AreaDone {
 }
 
 // Create area of the name in a message that means this unit. The image is only read.
-pub fn create_area(image: &[u16], o: Opened, state: State, name: Name) -> AreaDone
-    requires { ⌜ Meant (now image) state o (unitIn name) ⌝ }
-    ensures { λ r. ⌜ CreatesArea (now (image .entry)) o state name r ⌝ }
+pub fn create_area(image: &[u16], unit: Unit, state: State, name: Name) -> AreaDone
+    requires { ⌜ Meant (now image) state unit (unitIn name) ⌝ }
+    ensures { λ r. ⌜ CreatesArea (now (image .entry)) unit state name r ⌝ }
 {
     let n = names::stored(name);
-    let Found::At(place) = unit::find_name(image, o, n) else {
+    let Found::At(place) = unit::find_name(image, unit, n) else {
         return AreaDone {
             result: 0x4800,
             state: state,
@@ -56,24 +56,24 @@ pub fn create_area(image: &[u16], o: Opened, state: State, name: Name) -> AreaDo
 }
 
 // Books a live length and the slices of an index block in the entry of their file.
-fn book(image: &mut [u16], o: Opened, place: Place, index: Sector, length: u16)
-    requires { ⌜ CanBook (now image) o place (index .0) length ⌝ }
-    ensures { λ _. ⌜ Booked (now (image .entry)) o place (index .0) length (now (image .exit)) ⌝ }
+fn book(image: &mut [u16], unit: Unit, place: Place, index: Sector, length: u16)
+    requires { ⌜ CanBook (now image) unit place (index .0) length ⌝ }
+    ensures { λ _. ⌜ Booked (now (image .entry)) unit place (index .0) length (now (image .exit)) ⌝ }
 {
     let block = unit::file_block(image, index);
-    let total = index::slice_total(block, o.slice);
+    let total = index::slice_total(block, unit.slice);
     let mut entry = [0u16; 16];
     catalog::read_entry(image, place, &mut entry);
     entry[7] = length;
     entry[8] = index.0;
-    entry[9] = o.slice * total;
+    entry[9] = unit.slice * total;
     catalog::write_entry(image, place, &entry);
 }
 
 // Remove area of the name in a message that means this unit.
-pub fn remove_area(image: &mut [u16], o: Opened, state: State, name: Name) -> AreaDone
-    requires { ⌜ Meant (now image) state o (unitIn name) ⌝ }
-    ensures { λ r. ⌜ RemovesArea (now (image .entry)) o state name (now (image .exit)) r ⌝ }
+pub fn remove_area(image: &mut [u16], unit: Unit, state: State, name: Name) -> AreaDone
+    requires { ⌜ Meant (now image) state unit (unitIn name) ⌝ }
+    ensures { λ r. ⌜ RemovesArea (now (image .entry)) unit state name (now (image .exit)) r ⌝ }
 {
     let n = names::stored(name);
     if names::is_system(n) {
@@ -96,13 +96,13 @@ pub fn remove_area(image: &mut [u16], o: Opened, state: State, name: Name) -> Ar
         };
     }
     // An open area's name is entered.
-    let Found::At(place) = unit::find_name(image, o, n) else {
+    let Found::At(place) = unit::find_name(image, unit, n) else {
         return AreaDone {
             result: 0,
             state: state,
         };
     };
-    book(image, o, place, area.index, area.length);
+    book(image, unit, place, area.index, area.length);
     let next = state::close_area(state, j);
     AreaDone {
         result: 0,

@@ -17,6 +17,7 @@ use Rattle.index.proofs.ReadLaws.{read-sector}
 use Rattle.catalog.specs.declared.Place.{Place}
 use Rattle.catalog.specs.declared.Found.{Found}
 use Rattle.catalog.specs.declared.Found.the-variants.{At, Nothing}
+use Rattle.catalog.specs.declared.Unit.{Unit}
 use Rattle.catalog.specs.Catalog.{entryWord}
 use Rattle.plain.specs.Table.{tableFind}
 use Rattle.plain.specs.Unit.{Plain, File}
@@ -25,16 +26,15 @@ use Rattle.refine.specs.OnDisc.{OnDisc}
 use Rattle.refine.specs.Writes.{replacedImage}
 use Rattle.refine.proofs.Ground.{ground, block-in, file-data, file-slices}
 use Rattle.steps.proofs.OutputMessage.{block-inside}
-use Rattle.unit.specs.declared.Opened.{Opened}
-use Rattle.unit.specs.Opened.{NumbersOf}
+use Rattle.unit.specs.Unit.{NumbersOf}
 use Rattle.unit.specs.Find.{FindsName}
 use Rattle.unit.specs.Files.{BlockOf}
-use Rattle.unit.proofs.OpenLaws.{on-catalog}
+use Rattle.unit.proofs.UnitLaws.{on-catalog}
 use Rattle.blocks.specs.Blocks.{entryAttributes, AttributesOf, BlockFrom, SomeBlock, BlockSectorOf, BlockRead, BlockReplaced}
 
 -- ---- attributes
 
-module _ {image : List ℕ} {o : Opened} {n : ℕ} {found : Found} (finds : FindsName image o n found) where
+module _ {image : List ℕ} {o : Unit} {n : ℕ} {found : Found} (finds : FindsName image o n found) where
   pub attributes-none : found ≡ Nothing → AttributesOf image o n 0
   attributes-none e = record { all = λ p on num. sym (ap entryAttributes (finds .all p on num .nothing e)) }
 
@@ -46,9 +46,9 @@ module _ {image : List ℕ} {o : Opened} {n : ℕ} {found : Found} (finds : Find
   }
 
 -- those of a file
-pub file-attributes : {image : List ℕ} {o : Opened} {n r : ℕ} {p : Plain} {f : File} → AttributesOf image o n r → OnDisc image p → NumbersOf o p → tableFind n (p .files) ≡ some f → r ≡ f .attributes
+pub file-attributes : {image : List ℕ} {o : Unit} {n r : ℕ} {p : Plain} {f : File} → AttributesOf image o n r → OnDisc image p → NumbersOf o p → tableFind n (p .files) ≡ some f → r ≡ f .attributes
 file-attributes {n = n} {p = p} {f = f} h on num file =
-    let good = on .good .files n f file in
+    let good = on .good .catalog .files n f file in
     h .all p (on-catalog on) num ∙ ap entryAttributes (entry-of p n f (good .ordinary) file)
     ∙ entry-attributes n (f .optional) (f .attributes) (f .booked) (indexSector (p .F) (p .s) (f .bookedSlices) (f .slices)) (p .s * f .bookedSlices) (f .tail) (good .optional .count)
 
@@ -61,10 +61,10 @@ sector-is {k = k} {p} {n} {f} from e =
     let good = from .on .good in
     let g = ground p good in
     let positive : 1 ≤ p .s = omega (arith, good .limits .slice-low) in
-    let inside = need-cover (p .s) (length (f .sectors)) (length (f .slices)) positive (good .files n f (from .file) .covered) k (from .below) in
+    let inside = need-cover (p .s) (length (f .sectors)) (length (f .slices)) positive (good .catalog .files n f (from .file) .covered) k (from .below) in
     let far = file-data p g n f (from .file) (k + 1) (block-in p g n f (from .file) k (from .below)) in
     ap (λ (w : List ℕ). jointSector w 0 (k + 1)) e
-    ∙ read-sector (wholeIndex (p .F) (p .s) (f .slices)) (p .F) (p .s) 0 (f .slices) (good .files n f (from .file) .few) (holds-wholeIndex (p .F) (p .s) (f .slices)) positive
+    ∙ read-sector (wholeIndex (p .F) (p .s) (f .slices)) (p .F) (p .s) 0 (f .slices) (good .catalog .files n f (from .file) .few) (holds-wholeIndex (p .F) (p .s) (f .slices)) positive
     (file-slices p g n f (from .file)) (k + 1) (omega (arith, mul-comm (p .s) (length (f .slices)))) (omega (arith, far .1, good .limits .sectors))
 
 pub block-sector-of : {image : List ℕ} {index k r : ℕ} {words : List ℕ} → BlockOf image index words → r ≡ jointSector words 0 (k + 1) → BlockSectorOf image index k r

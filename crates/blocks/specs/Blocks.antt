@@ -7,12 +7,12 @@ use lib.ListN.{length, getD, take, drop}
 use Rattle.disc.specs.Stretches.{blockSector, fileFrom}
 use Rattle.disc.specs.Entries.{indexSector}
 use Rattle.words.specs.Store.{sectorWords}
+use Rattle.catalog.specs.declared.Unit.{Unit}
 use Rattle.plain.specs.Table.{tableFind}
 use Rattle.plain.specs.Unit.{Plain, File, entry}
 use Rattle.refine.specs.OnDisc.{OnDisc}
 use Rattle.refine.specs.Writes.{replacedImage}
-use Rattle.unit.specs.declared.Opened.{Opened}
-use Rattle.unit.specs.Opened.{NumbersOf, CatalogOn}
+use Rattle.unit.specs.Unit.{NumbersOf, CatalogOn}
 
 -- "6 attributes": the word of an entry, 0 if there is none.
 abbrev pub entryAttributes : Option (List ℕ) → ℕ
@@ -20,7 +20,7 @@ entryAttributes none = 0
 entryAttributes (some words) = getD words 6 0
 
 -- The attributes in the entry of name n, of every unit whose catalog is on the image.
-pub record AttributesOf (image : List ℕ) (o : Opened) (n r : ℕ) : Type 0 where
+pub record AttributesOf (image : List ℕ) (o : Unit) (n r : ℕ) : Type 0 where
   pub all : (p : Plain) → CatalogOn image p → NumbersOf o p → r ≡ entryAttributes (entry p n)
 
 -- Block k of file f with this index sector, of a unit on the image.

@@ -4,20 +4,20 @@
 ghost use Prim.Native.Nat.{_≤_};
 ghost use lib.ListN.{length};
 ghost use Rattle.disc.specs.Names.{pack};
-ghost use Rattle.unit.specs.Opened.{Searchable};
+ghost use Rattle.unit.specs.Unit.{Searchable};
 ghost use Rattle.blocks.specs.Blocks.{AttributesOf, SomeBlock, BlockSectorOf, BlockRead, BlockReplaced};
 use catalog::Found;
+use catalog::Unit;
 use types::Block;
 use types::Name;
 use types::Sector;
-use unit::Opened;
 
 // The attributes of a name as it is stored; 0 if it is not entered.
-pub fn attributes_of(image: &[u16], o: Opened, name: Name) -> u16
-    requires { ⌜ Searchable (now image) o ⌝ }
-    ensures { λ r. ⌜ AttributesOf (now (image .entry)) o (pack (name .0) (name .1) (name .2)) r ⌝ }
+pub fn attributes_of(image: &[u16], unit: Unit, name: Name) -> u16
+    requires { ⌜ Searchable (now image) unit ⌝ }
+    ensures { λ r. ⌜ AttributesOf (now (image .entry)) unit (pack (name .0) (name .1) (name .2)) r ⌝ }
 {
-    let Found::At(place) = unit::find_name(image, o, name) else {
+    let Found::At(place) = unit::find_name(image, unit, name) else {
         return 0;
     };
     catalog::entry_word(image, place, 6)

@@ -7,7 +7,8 @@ ghost use lib.ListN.{length, take, drop};
 ghost use Rattle.disc.specs.Names.{pack, packed};
 ghost use Rattle.disc.specs.Entries.{entryFrom, systemEntry};
 ghost use Rattle.words.specs.Store.{store, zeroWords};
-ghost use Rattle.catalog.specs.Catalog.{sysValue, keySector, placeStart, entryWord, entryAt, slotNamed, slotUnused, firstSlot, NamePlace, UnusedPlace};
+ghost use Rattle.catalog.specs.Catalog.{sysValue, keySector, placeStart, entryWord, entryAt};
+ghost use Rattle.catalog.specs.Catalog.{slotNamed, slotUnused, firstSlot, NamePlace, UnusedPlace};
 use types::Name;
 use types::Sector;
 
@@ -17,6 +18,14 @@ pub struct Catalog {
     pub from: u16,
     pub keys: u16,
     pub layers: u16,
+}
+
+// The numbers of a unit that its messages work with: s, F and M of document 01, and its catalog with H and L.
+pub struct Unit {
+    pub slice: u16,
+    pub first: Sector,
+    pub slices: u16,
+    pub catalog: Catalog,
 }
 
 // A place: one of the 16 slots of a sector.

@@ -52,7 +52,7 @@ module _ (p : Plain) (n m size attributes : ℕ) (f : File) (lent : List ℕ) wh
   refuses =
       asks-law (Refuses p lent) _ plain-no (λ a. asks-law (Refuses p lent) _ plain-no (λ b. asks-law (Refuses p lent) _ plain-no (λ c.
       asks-law (Refuses p lent) _ plain-no (λ d. asks-law (Refuses p lent) _ plain-no (λ e. asks-law (Refuses p lent) _ plain-no (λ g.
-      record { no = enough-no p t slices lent changeFiles }))))))
+      record { no = enough-no p (sysOf p) t slices lent changeFiles }))))))
 
   -- another answer than 0: a refusal
   pub change-no : (changeFile p n f m size attributes lent .answer .result ≡ 0 → ⊥)
@@ -68,7 +68,7 @@ module _ (p : Plain) (n m size attributes : ℕ) (f : File) (lent : List ℕ) wh
   change-yes =
       asks-law Yes _ (λ z. absurd (omega arith)) (λ a. asks-law Yes _ (λ z. absurd (omega arith)) (λ b. asks-law Yes _ (λ z. absurd (omega arith)) (λ c.
       asks-law Yes _ (λ z. absurd (omega arith)) (λ d. asks-law Yes _ (λ z. absurd (omega arith)) (λ e. asks-law Yes _ (λ z. absurd (omega arith)) (λ g z.
-      let r = enough-yes p t slices lent changeFiles z in
+      let r = enough-yes p (sysOf p) t slices lent changeFiles z in
       record {
         legal = a;
         allowed = b;
@@ -77,7 +77,7 @@ module _ (p : Plain) (n m size attributes : ℕ) (f : File) (lent : List ℕ) wh
         free = e;
         vacant = g;
         room = rw (le-leb _ _ (r .free)) tt;
-        sysFew = rw (le-leb _ _ (r .sys)) tt;
+        sysFew = rw (le-leb _ _ (r .catalog)) tt;
         few = rw (le-leb _ _ (r .file)) tt;
       }))))))
 

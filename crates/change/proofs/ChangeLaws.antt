@@ -15,6 +15,7 @@ use Rattle.disc.specs.Attributes.{givesEntryOnly}
 use Rattle.catalog.specs.declared.Place.{Place}
 use Rattle.catalog.specs.declared.Found.{Found}
 use Rattle.catalog.specs.declared.Found.the-variants.{At, Nothing}
+use Rattle.catalog.specs.declared.Unit.{Unit}
 use Rattle.plain.specs.Table.{tableFind, isSome}
 use Rattle.plain.specs.Unit.{Plain, File, entry}
 use Rattle.plain.specs.Good.{Good}
@@ -25,11 +26,10 @@ use Rattle.plain.proofs.UnitLaws.{system-none, ordinary-files}
 use Rattle.refine.specs.Represents.{Represents}
 use Rattle.refine.specs.Replies.{Replies, refused, written}
 use Rattle.steps.proofs.Whole.{on-disc}
-use Rattle.unit.specs.declared.Opened.{Opened}
-use Rattle.unit.specs.Opened.{NumbersOf, Meant}
+use Rattle.unit.specs.Unit.{NumbersOf, Meant}
 use Rattle.unit.specs.Find.{NameAt, NameFound, FindsName}
 use Rattle.unit.specs.Files.{nameOpen}
-use Rattle.unit.proofs.OpenLaws.{on-catalog}
+use Rattle.unit.proofs.UnitLaws.{on-catalog}
 use Rattle.unit.proofs.MeantLaws.{meant-known}
 use Rattle.unit.proofs.FileLaws.{found-file, name-open, name-closed}
 use Rattle.change.specs.Asked.{CanStandFrom}
@@ -62,7 +62,7 @@ module _ (p : Plain) (name : Name) (lent : List ℕ) (mine : T (known p (unitIn 
 
 -- ---- by what was found
 
-module _ {image : List ℕ} {o : Opened} {n : ℕ} {r : Found} (state : State) (name : Name) (lent : List ℕ) (meant : Meant image state o (unitIn name)) (is : n ≡ named name)
+module _ {image : List ℕ} {o : Unit} {n : ℕ} {r : Found} (state : State) (name : Name) (lent : List ℕ) (meant : Meant image state o (unitIn name)) (is : n ≡ named name)
     (finds : FindsName image o n r) where
   found : (p : Plain) → Good p → Represents image state p → NumbersOf o p → NameFound image p (named name) r
   found p g rep num = subst (λ (m : ℕ). NameFound image p m r) is (finds .all p (on-catalog (on-disc g rep)) num)

@@ -38,7 +38,7 @@ use Rattle.refine.specs.Leaves.{Leaves}
 use Rattle.refine.proofs.LeavesLaws.{leaves}
 use Rattle.unit.specs.Find.{FirstUnused}
 use Rattle.grow.specs.Grow.{GrownFrom}
-use Rattle.rewrite.specs.Rewrite.{Rewrites, stayed, moved}
+use Rattle.change.specs.Rewrite.{Rewrites, stayed, moved}
 use Rattle.change.specs.Change.{sizeThen, attributesThen, fileAfter, layersThen, Changed, stays, grows, ChangeDone, ChangeStep}
 use Rattle.change.proofs.AnswerLaws.{change-yes}
 

@@ -16,6 +16,7 @@ use Rattle.disc.specs.Attributes.{legalAttributes, legalWith}
 use Rattle.disc.specs.Stretches.{stretchCount}
 use Rattle.disc.proofs.DecideLaws.{true≢false}
 use Rattle.catalog.specs.declared.Place.{Place}
+use Rattle.catalog.specs.declared.Unit.{Unit}
 use Rattle.plain.specs.Table.{tableRemove}
 use Rattle.plain.specs.Unit.{Plain, File, freeSlices, entry, sysOf}
 use Rattle.plain.specs.Questions.{replies, done}
@@ -24,13 +25,13 @@ use Rattle.plain.specs.Catalog.{isRecord, newName, keptOr, attributesIn, sizeIn
 use Rattle.plain.proofs.ChangeUnit.{Changes, changeLayers, changeGrown, changedOn, changedUnit, ChangeAsked, change-outcome, change-changes, moved-vacant, moved-fits}
 use Rattle.plain.proofs.GrowUnit.{grownTo, not-grown, entry-grown}
 use Rattle.refine.specs.Replies.{Replies, refused, written}
-use Rattle.unit.specs.declared.Opened.{Opened}
 use Rattle.steps.specs.Units.{grownUnit}
 use Rattle.grow.specs.Grow.{CanGrowFrom, CanGrow, Grows}
-use Rattle.resize.specs.Resize.{slicesThen}
-use Rattle.rewrite.specs.declared.Standing.{Standing}
-use Rattle.rewrite.specs.declared.Wanted.{Wanted}
-use Rattle.rewrite.specs.Rewrite.{StandsAs, fileThen, CanRewriteFrom, CanRewrite, Rewrites, Rewritten}
+use Rattle.grow.proofs.BlockLaws.{sys-in}
+use Rattle.change.specs.Resize.{slicesThen}
+use Rattle.change.specs.declared.rewrite.Standing.{Standing}
+use Rattle.change.specs.declared.rewrite.Wanted.{Wanted}
+use Rattle.change.specs.Rewrite.{StandsAs, fileThen, CanRewriteFrom, CanRewrite, Rewrites, Rewritten}
 use Rattle.change.specs.Asked.{CanStandFrom, Stands, WantedOf, LayersFor, AskedAs, CanJudge, Judges}
 use Rattle.change.specs.Change.{sizeThen, attributesThen, fileAfter, unitAfter, layersThen, Changed, stays, grows}
 use Rattle.change.proofs.AnswerLaws.{change-no, change-yes}
@@ -62,7 +63,7 @@ layers-high true b l = omega arith
 layers-high false true l = omega arith
 layers-high false false l = omega arith
 
-module _ {image : List ℕ} {o : Opened} {n : ℕ} {place : Place} {lent : List ℕ} {now : Standing} {w : Wanted} {layers : ℕ}
+module _ {image : List ℕ} {o : Unit} {n : ℕ} {place : Place} {lent : List ℕ} {now : Standing} {w : Wanted} {layers : ℕ}
     (st : Stands image o place now) (wo : WantedOf (o .slice) n now lent w) (ly : LayersFor image o n w layers) where
   abbrev m : ℕ
   m = newName n lent
@@ -114,7 +115,7 @@ module _ {image : List ℕ} {o : Opened} {n : ℕ} {place : Place} {lent : List 
         -- ---- the writes on the unit q, with SYS as it was or grown
 
         module _ (long : 16 ≤ length lent) (words : Words lent) where
-          rewrite-from : (q : Plain) → changeGrown p n (newName n lent) (sizeThen f lent) (attributesThen f lent) f lent ≡ q → {i : List ℕ} {o′ : Opened} → StandsAs i o′ now q n f
+          rewrite-from : (q : Plain) → changeGrown p n (newName n lent) (sizeThen f lent) (attributesThen f lent) f lent ≡ q → {i : List ℕ} {o′ : Unit} → StandsAs i o′ now q n f
               → CanRewriteFrom i o′ now w lent q n (newName n lent) f
           rewrite-from q e s₂ =
               let sz : ℕ = sizeThen f lent in
@@ -196,10 +197,9 @@ module _ {image : List ℕ} {o : Opened} {n : ℕ} {place : Place} {lent : List 
                   layers-high (eqb m n) (leb (16 * p .layers) (placesTaken (p .H) (keyOf (p .H) m) (sysOf p) (tableRemove n (p .files)))) (p .layers),
                 )
 
-            grow-from : CanGrowFrom image o p
+            grow-from : CanGrowFrom image o p (sysOf p)
             grow-from = record {
-              on = can .on;
-              numbers = can .numbers;
+              catalog = sys-in (can .on) (can .numbers);
               room =
                   let h : taking p (sysOf p) (layersThen p n lent) 0 0 .forCatalog + (slicesAfter (p .s) (sizeThen f lent) f - length (f .slices)) ≤ freeSlices p = leb→le _ _ (asked .room) in
                   subst (λ (l : ℕ). taking p (sysOf p) l 0 0 .forCatalog ≤ freeSlices p) next-layers (omega arith);
@@ -209,7 +209,7 @@ module _ {image : List ℕ} {o : Opened} {n : ℕ} {place : Place} {lent : List 
             pub can-grow : CanGrow image o
             can-grow = record { unit = p; can = grow-from }
 
-            module _ {i : List ℕ} {o′ : Opened} (gw : Grows image o i o′) where
+            module _ {i : List ℕ} {o′ : Unit} (gw : Grows image o i o′) where
               grown-unit : changeGrown p n (newName n lent) (sizeThen f lent) (attributesThen f lent) f lent ≡ grownUnit p
               grown-unit = ap (grownTo p) next-layers
 

@@ -10,6 +10,7 @@ use Rattle.disc.specs.Stretches.{sysFrom}
 use Rattle.disc.specs.Entries.{nameAt}
 use Rattle.catalog.specs.Catalog.{entryWord}
 use Rattle.catalog.specs.declared.Place.{Place}
+use Rattle.catalog.specs.declared.Unit.{Unit}
 use Rattle.plain.specs.Unit.{Plain, File, sysOf}
 use Rattle.plain.proofs.UnitLaws.{not-system}
 use Rattle.plain.proofs.GrowUnit.{entry-but-sys}
@@ -18,22 +19,21 @@ use Rattle.refine.proofs.Ground.{ground, place-in, sys-ground}
 use Rattle.refine.proofs.Writers.{grown-sector}
 use Rattle.steps.proofs.GrowStep.{grow-old}
 use Rattle.steps.specs.Units.{layerSlices, grownUnit}
-use Rattle.unit.specs.declared.Opened.{Opened}
-use Rattle.unit.specs.Opened.{NumbersOf, unitPlaces}
+use Rattle.unit.specs.Unit.{NumbersOf, unitPlaces}
 use Rattle.unit.specs.Find.{PlaceIs, NameAt}
 use Rattle.grow.specs.Grow.{CanGrowFrom, GrownFrom}
 use Rattle.grow.proofs.GrowLaws.{grown-on}
-use Rattle.rewrite.specs.declared.Standing.{Standing}
-use Rattle.rewrite.specs.Rewrite.{StandsAs}
+use Rattle.change.specs.declared.rewrite.Standing.{Standing}
+use Rattle.change.specs.Rewrite.{StandsAs}
 
 -- a word of a place of the code is that of SYS's place
 place-word : (p : Plain) (image : List ℕ) {t : ℕ} {place : Place} → PlaceIs p (sysOf p) t place → (w : ℕ) → entryWord image place w ≡ unitPlaces image p t w
 place-word p image is w = ap₂ (λ (q slot : ℕ). word image q (slot * 16 + w)) (is .sector) (is .slot)
 
-module _ {image : List ℕ} {o : Opened} {now : Standing} {p : Plain} {n : ℕ} {f : File} (s : StandsAs image o now p n f) (can : CanGrowFrom image o p)
+module _ {image : List ℕ} {o : Unit} {now : Standing} {p : Plain} {n : ℕ} {f : File} (s : StandsAs image o now p n f) (can : CanGrowFrom image o p (sysOf p))
     {after : List ℕ} (g : GrownFrom image p after) where
   no-sys : n ≢ SYS
-  no-sys = not-system n (s .on .good .files n f (s .file) .ordinary) .0
+  no-sys = not-system n (s .on .good .catalog .files n f (s .file) .ordinary) .0
 
   -- SYS stands in another place
   apart : s .at .number ≢ g .place
@@ -42,7 +42,7 @@ module _ {image : List ℕ} {o : Opened} {now : Standing} {p : Plain} {n : ℕ} 
   kept : (w : ℕ) → w < 16 → unitPlaces after (grownUnit p) (s .at .number) w ≡ unitPlaces image p (s .at .number) w
   kept w x =
       ap (λ (i : List ℕ). unitPlaces i (grownUnit p) (s .at .number) w) (g .written)
-      ∙ grow-old (can .on) (can .room) (can .few) (g .place) (g .inside) (g .named) (s .at .number) w (s .at .is .inside) apart x
+      ∙ grow-old (can .catalog .on) (can .room) (can .few) (g .place) (g .inside) (g .named) (s .at .number) w (s .at .is .inside) apart x
 
   grown-is : PlaceIs (grownUnit p) (sysOf (grownUnit p)) (s .at .number) (now .place)
   grown-is =
@@ -60,7 +60,7 @@ module _ {image : List ℕ} {o : Opened} {now : Standing} {p : Plain} {n : ℕ} 
     holds = λ w x. place-word (grownUnit p) after grown-is w ∙ kept w x ∙ sym (place-word p image (s .at .is) w) ∙ s .at .holds w x;
   }
 
-  pub grown-stands : {o′ : Opened} → NumbersOf o′ (grownUnit p) → StandsAs after o′ now (grownUnit p) n f
+  pub grown-stands : {o′ : Unit} → NumbersOf o′ (grownUnit p) → StandsAs after o′ now (grownUnit p) n f
   grown-stands num = record {
     on = grown-on can g;
     numbers = num;

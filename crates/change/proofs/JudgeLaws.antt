@@ -7,17 +7,18 @@ use lib.Dec.{eqb}
 use Rattle.disc.specs.Names.{legalName}
 use Rattle.disc.specs.Attributes.{legalAttributes, legalWith, permanent}
 use Rattle.disc.specs.Slices.{lastOf}
+use Rattle.catalog.specs.declared.Unit.{Unit}
 use Rattle.plain.specs.Table.{isSome}
 use Rattle.plain.specs.Unit.{Plain, File, entry, sysOf}
 use Rattle.plain.specs.Questions.{Outcome}
 use Rattle.plain.specs.Taking.{Taking, taking, enough}
 use Rattle.plain.specs.Catalog.{slicesAfter, changeFile}
 use Rattle.refine.proofs.Ground.{ground, part-file}
-use Rattle.unit.specs.declared.Opened.{Opened}
-use Rattle.unit.specs.Opened.{OpenedOn}
+use Rattle.unit.specs.Unit.{UnitOn}
 use Rattle.grow.specs.Room.{AskedOf, CanAsk, RoomFor}
-use Rattle.rewrite.specs.declared.Standing.{Standing}
-use Rattle.rewrite.specs.declared.Wanted.{Wanted}
+use Rattle.grow.proofs.BlockLaws.{sys-in}
+use Rattle.change.specs.declared.rewrite.Standing.{Standing}
+use Rattle.change.specs.declared.rewrite.Wanted.{Wanted}
 use Rattle.change.specs.Asked.{allowedBy, TakenBy, AskedAs}
 use Rattle.change.proofs.AnswerLaws.{change-illegal, change-entered, change-room, room-same, changeFiles}
 
@@ -25,8 +26,8 @@ not-not : (b : Bool) → not (not b) ≡ b
 not-not true = refl
 not-not false = refl
 
-module _ {image : List ℕ} {o : Opened} {now : Standing} {w : Wanted} {layers : ℕ} {p : Plain} {n m : ℕ} {f : File} (a : AskedAs image o now w layers p n m f) where
-  pub asked-on : OpenedOn image o
+module _ {image : List ℕ} {o : Unit} {now : Standing} {w : Wanted} {layers : ℕ} {p : Plain} {n m : ℕ} {f : File} (a : AskedAs image o now w layers p n m f) where
+  pub asked-on : UnitOn image o
   asked-on = record { unit = p; on = a .stands .on; numbers = a .stands .numbers }
 
   abbrev count : ℕ
@@ -54,12 +55,11 @@ module _ {image : List ℕ} {o : Opened} {now : Standing} {w : Wanted} {layers :
     judge-entered lent t h =
         sym (change-entered p n m (w .size) (w .attributes) f lent (a .stands .closed) (sym allowed-is ∙ ok) (sym (taken-is t) ∙ h))
 
-    judge-asked : AskedOf image o (now .block .words) p (f .slices)
+    judge-asked : AskedOf image o (now .block .words) p (sysOf p) (f .slices)
     judge-asked = record {
-      on = a .stands .on;
-      numbers = a .stands .numbers;
+      catalog = sys-in (a .stands .on) (a .stands .numbers);
       words = a .stands .words;
-      few = a .stands .on .good .files n f (a .stands .file) .few;
+      few = a .stands .on .good .catalog .files n f (a .stands .file) .few;
       part = part-file p (ground p (a .stands .on .good)) n f (a .stands .file);
     }
 
@@ -68,21 +68,21 @@ module _ {image : List ℕ} {o : Opened} {now : Standing} {w : Wanted} {layers :
     judge-room {x = x} {more = more} lent t h e room =
         let fs = changeFiles p n m (w .size) (w .attributes) f lent in
         let t₀ : ℕ → ℕ → Taking = λ l k. taking p (sysOf p) l (lastOf (f .slices)) k in
-        room .all p (f .slices) judge-asked lent fs
+        room .all p (sysOf p) (f .slices) judge-asked lent fs
         ∙ ap₂ (λ (l k : ℕ). enough p (sysOf p) (t₀ l k) (f .slices ++ t₀ l k .fileNew) lent fs .answer .result) (a .layered) (e ∙ ap₂ (λ (y z : ℕ). y - z) (a .slices) (a .stands .slices))
         ∙ sym (ap (λ (y : Outcome). y .answer .result)
         (change-room p n m (w .size) (w .attributes) f lent (a .stands .closed) (sym allowed-is ∙ ok) (sym (taken-is t) ∙ h)
-        ∙ room-same p n m (w .size) (w .attributes) f lent (a .stands .on .good .files n f (a .stands .file) .few)))
+        ∙ room-same p n m (w .size) (w .attributes) f lent (a .stands .on .good .catalog .files n f (a .stands .file) .few)))
 
   pub can-ask : CanAsk image o (now .block .words)
   can-ask = record {
     unit = p;
+    own = sysOf p;
     slices = f .slices;
     asked = record {
-      on = a .stands .on;
-      numbers = a .stands .numbers;
+      catalog = sys-in (a .stands .on) (a .stands .numbers);
       words = a .stands .words;
-      few = a .stands .on .good .files n f (a .stands .file) .few;
+      few = a .stands .on .good .catalog .files n f (a .stands .file) .few;
       part = part-file p (ground p (a .stands .on .good)) n f (a .stands .file);
     };
   }

@@ -15,16 +15,16 @@ use Rattle.disc.proofs.Compare.{Tri, less, same, more, tri, tri-same}
 use Rattle.catalog.specs.declared.Place.{Place}
 use Rattle.catalog.specs.declared.Found.{Found}
 use Rattle.catalog.specs.declared.Found.the-variants.{At, Nothing}
+use Rattle.catalog.specs.declared.Unit.{Unit}
 use Rattle.plain.specs.Table.{Row, tableFind, tableRemove, isSome}
 use Rattle.plain.specs.Unit.{Plain, File, entry, sysOf}
 use Rattle.plain.specs.Taking.{hasKey, placesTaken, layersFor}
 use Rattle.plain.proofs.TableLaws.{weightAt, total-remove}
 use Rattle.refine.proofs.Ground.{ground, sys-ground, part-sectors}
-use Rattle.unit.specs.declared.Opened.{Opened}
-use Rattle.unit.specs.Opened.{NumbersOf, OpenedOn}
+use Rattle.unit.specs.Unit.{NumbersOf, UnitOn}
 use Rattle.unit.specs.Find.{FindsName, FindsUnused}
-use Rattle.unit.proofs.OpenLaws.{on-catalog}
-use Rattle.rewrite.specs.declared.Wanted.{Wanted}
+use Rattle.change.specs.declared.rewrite.Wanted.{Wanted}
+use Rattle.unit.proofs.UnitLaws.{on-catalog}
 use Rattle.change.specs.Asked.{LayersFor, TakenBy}
 
 -- a number is the same as itself, and another one is not
@@ -66,7 +66,7 @@ module _ (p : Plain) (n m : ℕ) (f : File) (found : tableFind n (p .files) ≡ 
 
 -- ---- by what the search found
 
-pub some-layers : {image : List ℕ} {o : Opened} → OpenedOn image o → (1 ≤ o .catalog .keys) × (o .catalog .layers + 1 < 65536)
+pub some-layers : {image : List ℕ} {o : Unit} → UnitOn image o → (1 ≤ o .catalog .keys) × (o .catalog .layers + 1 < 65536)
 some-layers h =
     let p = h .unit in
     let gr = ground p (h .on .good) in (
@@ -81,7 +81,7 @@ some-layers h =
       ),
     )
 
-module _ (image : List ℕ) (o : Opened) (n : ℕ) (w : Wanted) where
+module _ (image : List ℕ) (o : Unit) (n : ℕ) (w : Wanted) where
   abbrev m : ℕ
   m = pack (w .name .0) (w .name .1) (w .name .2)
 
@@ -102,7 +102,7 @@ module _ (image : List ℕ) (o : Opened) (n : ℕ) (w : Wanted) where
       pub layers-same : own ≡ k → LayersFor image o n w (o .catalog .layers)
       layers-same q = record {
         all = λ p f on num found. moving p
-            (num .catalog .layers ∙ layers-own p n m f found (sym (own-is p num) ∙ q ∙ key-is p num) (on .good .chains (keyOf (p .H) m)));
+            (num .catalog .layers ∙ layers-own p n m f found (sym (own-is p num) ∙ q ∙ key-is p num) (on .good .catalog .chains (keyOf (p .H) m)));
       }
 
       module _ (d : own ≢ k) where

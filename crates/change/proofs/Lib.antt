@@ -1,3 +1,7 @@
+pub mod ResizeLaws
+pub mod EntryLaws
+pub mod MoveLaws
+pub mod RewriteLaws
 pub mod AnswerLaws
 pub mod WantedLaws
 pub mod StandLaws

@@ -1,42 +1,27 @@
 -- A closed file as its entry and its index block have it.
-use mathlib.Core.Path.{_≡_, ap₂, _∙_}
+use mathlib.Core.Path.{_≡_, _∙_}
 use mathlib.Core.List.{List}
 use Prim.Native.Nat.{ℕ, _≤_, _<_}
-use native.Mathlib.Omega.{arith}
 use lib.ListN.{length}
-use Rattle.index.specs.Block.{wholeIndex, sliceTotal}
-use Rattle.index.proofs.BlockLaws.{holds-wholeIndex}
-use Rattle.index.proofs.ReadLaws.{read-total}
+use Rattle.disc.specs.Entries.{indexSector}
+use Rattle.index.specs.Block.{sliceTotal}
 use Rattle.catalog.specs.declared.Place.{Place}
+use Rattle.catalog.specs.declared.Unit.{Unit}
 use Rattle.catalog.specs.Catalog.{entryWord}
 use Rattle.plain.specs.Unit.{Plain, File}
-use Rattle.refine.proofs.Ground.{Ground, ground, part-file, part-few}
-use Rattle.unit.specs.declared.Opened.{Opened}
 use Rattle.unit.specs.Files.{BlockOf}
-use Rattle.unit.proofs.FileLaws.{file-words, live-index}
-use Rattle.rewrite.specs.declared.Standing.{Standing}
-use Rattle.rewrite.specs.Rewrite.{StandsAs}
+use Rattle.unit.proofs.FileLaws.{file-words, live-index, block-is, block-total, total-fits}
+use Rattle.change.specs.declared.rewrite.Standing.{Standing}
+use Rattle.change.specs.Rewrite.{StandsAs}
 use Rattle.change.specs.Asked.{CanStandFrom}
 
-module _ {image : List ℕ} {o : Opened} {place : Place} {p : Plain} {n : ℕ} {f : File} (can : CanStandFrom image o place p n f)
+module _ {image : List ℕ} {o : Unit} {place : Place} {p : Plain} {n : ℕ} {f : File} (can : CanStandFrom image o place p n f)
     {index : ℕ} {block : List ℕ} (e : index ≡ entryWord image place 8) (of : BlockOf image index block) where
-  gr : Ground p
-  gr = ground p (can .on .good)
+  its-index : index ≡ indexSector (p .F) (p .s) (length (f .slices)) (f .slices)
+  its-index = e ∙ live-index (can .on .good) (can .at) f (can .file) (can .closed)
 
-  block-is : block ≡ wholeIndex (p .F) (p .s) (f .slices)
-  block-is = of .all p (can .on) n f (can .file) (e ∙ live-index (can .on .good) (can .at) f (can .file) (can .closed))
-
-  total-is : sliceTotal (o .slice) block 0 ≡ length (f .slices)
-  total-is =
-      ap₂ (λ (s : ℕ) (w : List ℕ). sliceTotal s w 0) (can .numbers .slice) block-is
-      ∙ read-total (wholeIndex (p .F) (p .s) (f .slices)) (p .F) (p .s) 0 (f .slices) (can .on .good .files n f (can .file) .few)
-      (holds-wholeIndex (p .F) (p .s) (f .slices)) (omega (arith, can .on .good .limits .slice-low))
-
-  pub total-fits : (1 ≤ o .slice) × (sliceTotal (o .slice) block 0 < 65536)
-  total-fits = (
-    omega (arith, can .numbers .slice, can .on .good .limits .slice-low),
-    omega (arith, total-is, part-few p gr (f .slices) (part-file p gr n f (can .file)), can .on .good .limits .slices-high),
-  )
+  pub slices-fit : (1 ≤ o .slice) × (sliceTotal (o .slice) block 0 < 65536)
+  slices-fit = total-fits (can .on) (can .numbers) n f (can .file) of its-index
 
   pub stands-as : (r : Standing) → r .place ≡ place → r .attributes ≡ entryWord image place 6 → r .size ≡ entryWord image place 7 → r .slices ≡ sliceTotal (o .slice) block 0 → r .block .words ≡ block
       → StandsAs image o r p n f
@@ -50,6 +35,6 @@ module _ {image : List ℕ} {o : Opened} {place : Place} {p : Plain} {n : ℕ} {
         at = rw at (can .at);
         attributes = attributes ∙ w .attributes;
         size = size ∙ w .size;
-        slices = slices ∙ total-is;
-        words = words ∙ block-is;
+        slices = slices ∙ block-total (can .on) (can .numbers) n f (can .file) of its-index;
+        words = words ∙ block-is (can .on) (can .numbers) n f (can .file) of its-index;
       }

@@ -13,8 +13,8 @@ use Rattle.disc.specs.Names.{pack, nameOf, named, legalName}
 use Rattle.disc.specs.Attributes.{legalAttributes, legalWith, permanent}
 use Rattle.names.specs.NameIs.{NameIs}
 use Rattle.plain.specs.Catalog.{keptOr, newName}
-use Rattle.rewrite.specs.declared.Standing.{Standing}
-use Rattle.rewrite.specs.declared.Wanted.{Wanted}
+use Rattle.change.specs.declared.rewrite.Standing.{Standing}
+use Rattle.change.specs.declared.rewrite.Wanted.{Wanted}
 use Rattle.change.specs.Asked.{allowedBy}
 
 -- ---- kept or lent

@@ -10,35 +10,35 @@ use Rattle.disc.specs.Names.{packed, legalName}
 use Rattle.disc.specs.Attributes.{legalAttributes, legalWith, permanent}
 use Rattle.names.specs.NameIs.{NameIs}
 use Rattle.catalog.specs.declared.Place.{Place}
+use Rattle.catalog.specs.declared.Unit.{Unit}
 use Rattle.plain.specs.Table.{tableFind, tableRemove, isSome}
 use Rattle.plain.specs.Unit.{Plain, File, entry, sysOf}
 use Rattle.plain.specs.Taking.{layersFor}
 use Rattle.plain.specs.Catalog.{newName, keptOr, attributesIn, sizeIn, slicesAfter, changeFile}
 use Rattle.refine.specs.OnDisc.{OnDisc}
-use Rattle.unit.specs.declared.Opened.{Opened}
-use Rattle.unit.specs.Opened.{NumbersOf}
+use Rattle.unit.specs.Unit.{NumbersOf}
 use Rattle.unit.specs.Find.{NameAt}
-use Rattle.rewrite.specs.declared.Standing.{Standing}
-use Rattle.rewrite.specs.declared.Wanted.{Wanted}
-use Rattle.rewrite.specs.Rewrite.{StandsAs}
+use Rattle.change.specs.declared.rewrite.Standing.{Standing}
+use Rattle.change.specs.declared.rewrite.Wanted.{Wanted}
+use Rattle.change.specs.Rewrite.{StandsAs}
 
 -- ---- the file as it stands
 
 -- The entry of file f under name n, which has no area process, stands in the place.
-pub record CanStandFrom (image : List ℕ) (o : Opened) (place : Place) (p : Plain) (n : ℕ) (f : File) : Type 0 where
+pub record CanStandFrom (image : List ℕ) (o : Unit) (place : Place) (p : Plain) (n : ℕ) (f : File) : Type 0 where
   pub on : OnDisc image p
   pub numbers : NumbersOf o p
   pub file : tableFind n (p .files) ≡ some f
   pub closed : tableFind n (p .areas) ≡ none
   pub at : NameAt image p n place
 
-pub record CanStand (image : List ℕ) (o : Opened) (place : Place) : Type 0 where
+pub record CanStand (image : List ℕ) (o : Unit) (place : Place) : Type 0 where
   pub unit : Plain
   pub name : ℕ
   pub file : File
   pub can : CanStandFrom image o place unit name file
 
-pub record Stands (image : List ℕ) (o : Opened) (place : Place) (r : Standing) : Type 0 where
+pub record Stands (image : List ℕ) (o : Unit) (place : Place) (r : Standing) : Type 0 where
   pub all : (p : Plain) (n : ℕ) (f : File) → CanStandFrom image o place p n f → StandsAs image o r p n f
 
 -- ---- the file as it is to be
@@ -62,23 +62,23 @@ allowedBy f w =
 
 -- "With all 16 times L places taken by other names, SYS first grows": the layers after the message, of every unit on the image that
 -- has the file.
-pub record LayersFor (image : List ℕ) (o : Opened) (n : ℕ) (w : Wanted) (r : ℕ) : Type 0 where
+pub record LayersFor (image : List ℕ) (o : Unit) (n : ℕ) (w : Wanted) (r : ℕ) : Type 0 where
   pub all : (p : Plain) (f : File) → OnDisc image p → NumbersOf o p → tableFind n (p .files) ≡ some f
       → r ≡ cond (w .moves) (layersFor (p .H) (sysOf p) (packed (w .name)) (tableRemove n (p .files))) (p .layers)
 
 -- "6. New name unused? 1010h"
-pub record TakenBy (image : List ℕ) (o : Opened) (w : Wanted) (r : Bool) : Type 0 where
+pub record TakenBy (image : List ℕ) (o : Unit) (w : Wanted) (r : Bool) : Type 0 where
   pub all : (p : Plain) → OnDisc image p → NumbersOf o p → r ≡ w .moves && isSome (entry p (packed (w .name)))
 
 -- The file as it stands, as it is to be under name m, and SYS's layers then.
-pub record AskedAs (image : List ℕ) (o : Opened) (now : Standing) (w : Wanted) (layers : ℕ) (p : Plain) (n m : ℕ) (f : File) : Type 0 where
+pub record AskedAs (image : List ℕ) (o : Unit) (now : Standing) (w : Wanted) (layers : ℕ) (p : Plain) (n m : ℕ) (f : File) : Type 0 where
   pub stands : StandsAs image o now p n f
   pub name : NameIs (w .name) m
   pub moves : w .moves ≡ not (eqb m n)
   pub slices : w .slices ≡ slicesAfter (p .s) (w .size) f
   pub layered : layers ≡ cond (eqb m n) (p .layers) (layersFor (p .H) (sysOf p) m (tableRemove n (p .files)))
 
-pub record CanJudge (image : List ℕ) (o : Opened) (now : Standing) (w : Wanted) (layers : ℕ) : Type 0 where
+pub record CanJudge (image : List ℕ) (o : Unit) (now : Standing) (w : Wanted) (layers : ℕ) : Type 0 where
   pub unit : Plain
   pub old : ℕ
   pub new : ℕ
@@ -86,6 +86,6 @@ pub record CanJudge (image : List ℕ) (o : Opened) (now : Standing) (w : Wanted
   pub asked : AskedAs image o now w layers unit old new file
 
 -- The answer is the plain unit's, with whatever words are lent.
-pub record Judges (image : List ℕ) (o : Opened) (now : Standing) (w : Wanted) (layers r : ℕ) : Type 0 where
+pub record Judges (image : List ℕ) (o : Unit) (now : Standing) (w : Wanted) (layers r : ℕ) : Type 0 where
   pub all : (p : Plain) (n m : ℕ) (f : File) → AskedAs image o now w layers p n m f → (lent : List ℕ)
       → r ≡ changeFile p n f m (w .size) (w .attributes) lent .answer .result

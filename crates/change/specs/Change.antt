@@ -11,6 +11,7 @@ use Rattle.types.specs.declared.State.{State}
 use Rattle.disc.specs.Names.{named}
 use Rattle.disc.specs.Entries.{placeCount, nameAt}
 use Rattle.catalog.specs.declared.Place.{Place}
+use Rattle.catalog.specs.declared.Unit.{Unit}
 use Rattle.plain.specs.Table.{tableFind, tablePut, tableRemove}
 use Rattle.plain.specs.Unit.{Plain, File, withFiles, sysOf}
 use Rattle.plain.specs.Good.{Good}
@@ -18,12 +19,11 @@ use Rattle.plain.specs.Taking.{layersFor}
 use Rattle.plain.specs.Catalog.{newName, keptOr, attributesIn, sizeIn, slicesAfter, changed, changeFile, stepChange}
 use Rattle.refine.specs.Represents.{Represents}
 use Rattle.refine.specs.Replies.{Replies}
-use Rattle.unit.specs.declared.Opened.{Opened}
-use Rattle.unit.specs.Opened.{NumbersOf, unitPlaces}
+use Rattle.unit.specs.Unit.{NumbersOf, unitPlaces}
 use Rattle.steps.specs.Units.{grownUnit}
 use Rattle.grow.specs.Grow.{GrownFrom}
-use Rattle.resize.specs.Resize.{slicesThen}
-use Rattle.rewrite.specs.Rewrite.{Rewrites}
+use Rattle.change.specs.Resize.{slicesThen}
+use Rattle.change.specs.Rewrite.{Rewrites}
 use Rattle.change.specs.Asked.{CanStandFrom}
 
 -- ---- the unit afterwards
@@ -66,15 +66,16 @@ pub data Changed (p : Plain) (image : List ℕ) (n : ℕ) (f : File) (lent after
 
 -- ---- the questions from question 4 on, for a closed file
 
-pub record CanChange (image : List ℕ) (o : Opened) (n : ℕ) (place : Place) (lent : List ℕ) : Type 0 where
+pub record CanChange (image : List ℕ) (o : Unit) (n : ℕ) (place : Place) (lent : List ℕ) : Type 0 where
   pub unit : Plain
   pub file : File
   pub can : CanStandFrom image o place unit n file
   pub size : 16 ≤ length lent
 
-pub record FileChanges (image : List ℕ) (o : Opened) (n : ℕ) (place : Place) (lent after : List ℕ) (result : ℕ) : Type 0 where
+pub record FileChanges (image : List ℕ) (o : Unit) (n : ℕ) (place : Place) (lent after : List ℕ) (result : ℕ) : Type 0 where
   pub all : (p : Plain) (f : File) → CanStandFrom image o place p n f
-      → Replies p (changeFile p n f (newName n lent) (sizeThen f lent) (attributesThen f lent) lent) lent result (after ≡ image) (Changed p image n f lent after)
+      → Replies p (changeFile p n f (newName n lent) (sizeThen f lent) (attributesThen f lent) lent) lent result (after ≡ image)
+      (Changed p image n f lent after)
 
 -- ---- the message
 
@@ -89,5 +90,5 @@ pub record ChangeStep (p : Plain) (image : List ℕ) (name : Name) (lent after :
   pub step : Replies p (stepChange p name lent) lent result (after ≡ image) (ChangeDone p image (named name) lent after)
 
 -- The same of every unit that image and state represent.
-pub record Changes (image : List ℕ) (o : Opened) (state : State) (name : Name) (lent after : List ℕ) (result : ℕ) : Type 0 where
+pub record Changes (image : List ℕ) (o : Unit) (state : State) (name : Name) (lent after : List ℕ) (result : ℕ) : Type 0 where
   pub all : (p : Plain) → Good p → Represents image state p → NumbersOf o p → ChangeStep p image name lent after result

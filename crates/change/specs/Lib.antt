@@ -1,2 +1,5 @@
+pub mod Resize
+pub mod Move
+pub mod Rewrite
 pub mod Asked
 pub mod Change

@@ -1,5 +1,8 @@
 // Change, from question 3 on: the name, attributes, length, optional and tail of a file.
 
+mod resize;
+mod rewrite;
+
 ghost use mathlib.Core.Path.{_≡_};
 ghost use mathlib.Core.Bool.{cond};
 ghost use Prim.Native.Nat.{_-_, _≤_};
@@ -9,28 +12,28 @@ ghost use Rattle.disc.specs.Numbers.{need};
 ghost use Rattle.disc.specs.Names.{packed, unitIn};
 ghost use Rattle.names.specs.NameIs.{NameIs};
 ghost use Rattle.plain.specs.Catalog.{keptOr, newName};
-ghost use Rattle.unit.specs.Opened.{OpenedOn, Meant};
+ghost use Rattle.unit.specs.Unit.{UnitOn, Meant};
 ghost use Rattle.change.specs.Asked.{CanStand, Stands, WantedOf, allowedBy, LayersFor, TakenBy, CanJudge, Judges};
 ghost use Rattle.change.specs.Change.{CanChange, FileChanges, Changes};
 use catalog::Found;
 use catalog::Place;
+use catalog::Unit;
 use rewrite::Standing;
 use rewrite::Wanted;
 use types::Name;
 use types::Sector;
 use types::State;
-use unit::Opened;
 
 // The file whose entry stands in the place. Closed, it has the slices that its index block describes.
-fn standing(image: &[u16], o: Opened, place: Place) -> Standing
-    requires { ⌜ CanStand (now image) o place ⌝ }
-    ensures { λ r. ⌜ Stands (now (image .entry)) o place r ⌝ }
+fn standing(image: &[u16], unit: Unit, place: Place) -> Standing
+    requires { ⌜ CanStand (now image) unit place ⌝ }
+    ensures { λ r. ⌜ Stands (now (image .entry)) unit place r ⌝ }
 {
     let attributes = catalog::entry_word(image, place, 6);
     let size = catalog::entry_word(image, place, 7);
     let index = catalog::entry_word(image, place, 8);
     let block = unit::file_block(image, Sector(index));
-    let slices = index::slice_total(block, o.slice);
+    let slices = index::slice_total(block, unit.slice);
     Standing {
         place: place,
         attributes: attributes,
@@ -114,32 +117,32 @@ fn allowed(f: Standing, w: Wanted) -> bool
 }
 
 // SYS's layers after the message. Under a name of its own key the file's own place is unused then.
-fn layers_for(image: &[u16], o: Opened, n: Name, w: Wanted) -> u16
-    requires { ⌜ OpenedOn (now image) o ⌝ }
-    ensures { λ r. ⌜ LayersFor (now (image .entry)) o (packed n) w r ⌝ }
+fn layers_for(image: &[u16], unit: Unit, n: Name, w: Wanted) -> u16
+    requires { ⌜ UnitOn (now image) unit ⌝ }
+    ensures { λ r. ⌜ LayersFor (now (image .entry)) unit (packed n) w r ⌝ }
 {
     if !w.moves {
-        return o.catalog.layers;
+        return unit.catalog.layers;
     }
-    let key = numbers::key(w.name, o.catalog.keys);
-    if numbers::key(n, o.catalog.keys) == key {
-        return o.catalog.layers;
+    let key = numbers::key(w.name, unit.catalog.keys);
+    if numbers::key(n, unit.catalog.keys) == key {
+        return unit.catalog.layers;
     }
-    match unit::find_unused(image, o, key) {
-        Found::At(_) => o.catalog.layers,
-        Found::Nothing => o.catalog.layers + 1,
+    match unit::find_unused(image, unit, key) {
+        Found::At(_) => unit.catalog.layers,
+        Found::Nothing => unit.catalog.layers + 1,
     }
 }
 
 // Whether the new name is another one, and entered.
-fn is_taken(image: &[u16], o: Opened, w: Wanted) -> bool
-    requires { ⌜ OpenedOn (now image) o ⌝ }
-    ensures { λ r. ⌜ TakenBy (now (image .entry)) o w r ⌝ }
+fn is_taken(image: &[u16], unit: Unit, w: Wanted) -> bool
+    requires { ⌜ UnitOn (now image) unit ⌝ }
+    ensures { λ r. ⌜ TakenBy (now (image .entry)) unit w r ⌝ }
 {
     if !w.moves {
         return false;
     }
-    match unit::find_name(image, o, w.name) {
+    match unit::find_name(image, unit, w.name) {
         Found::At(_) => true,
         Found::Nothing => false,
     }
@@ -156,47 +159,53 @@ fn more_slices(had: u16, has: u16) -> u16
 }
 
 // Questions 4 to 8 for a closed file: 0, or the word of the first no.
-fn judged(image: &[u16], o: Opened, f: Standing, w: Wanted, layers: u16) -> u16
-    requires { ⌜ CanJudge (now image) o f w layers ⌝ }
-    ensures { λ r. ⌜ Judges (now (image .entry)) o f w layers r ⌝ }
+fn judged(image: &[u16], unit: Unit, f: Standing, w: Wanted, layers: u16) -> u16
+    requires { ⌜ CanJudge (now image) unit f w layers ⌝ }
+    ensures { λ r. ⌜ Judges (now (image .entry)) unit f w layers r ⌝ }
 {
     if !allowed(f, w) {
         return 0x1200;
     }
-    if is_taken(image, o, w) {
+    if is_taken(image, unit, w) {
         return 0x1010;
     }
-    grow::room(image, o, layers, f.block, more_slices(f.slices, w.slices))
+    grow::room(
+        image,
+        unit,
+        layers,
+        f.block,
+        more_slices(f.slices, w.slices),
+    )
 }
 
 // Change of a closed file whose entry stands in the place, with an entry lent: the result word.
-fn change_file(image: &mut [u16], o: Opened, n: Name, place: Place, lent: &[u16]) -> u16
-    requires { ⌜ CanChange (now image) o (packed n) place (now lent) ⌝ }
-    ensures { λ r. ⌜ FileChanges (now (image .entry)) o (packed n) place (now (lent .entry)) (now (image .exit)) r ⌝ }
+fn change_file(image: &mut [u16], unit: Unit, n: Name, place: Place, lent: &[u16]) -> u16
+    requires { ⌜ CanChange (now image) unit (packed n) place (now lent) ⌝ }
+    ensures { λ r. ⌜ FileChanges (now (image .entry)) unit (packed n) place (now (lent .entry)) (now (image .exit)) r ⌝ }
 {
-    let f = standing(image, o, place);
-    let w = wanted(o.slice, n, f, lent);
-    let layers = layers_for(image, o, n, w);
-    let answer = judged(image, o, f, w, layers);
+    let f = standing(image, unit, place);
+    let w = wanted(unit.slice, n, f, lent);
+    let layers = layers_for(image, unit, n, w);
+    let answer = judged(image, unit, f, w, layers);
     if answer != 0 {
         return answer;
     }
-    if layers <= o.catalog.layers {
-        rewrite::rewrite(image, o, f, w, lent);
+    if layers <= unit.catalog.layers {
+        rewrite::rewrite(image, unit, f, w, lent);
         return 0;
     }
-    let grown = grow::grow(image, o);
+    let grown = grow::grow(image, unit);
     rewrite::rewrite(image, grown, f, w, lent);
     0
 }
 
 // Change of the name in a message that means this unit: the result word.
-pub fn change(image: &mut [u16], o: Opened, state: State, name: Name, lent: &[u16]) -> u16
-    requires { ⌜ Meant (now image) state o (unitIn name) ⌝ }
-    ensures { λ r. ⌜ Changes (now (image .entry)) o state name (now (lent .entry)) (now (image .exit)) r ⌝ }
+pub fn change(image: &mut [u16], unit: Unit, state: State, name: Name, lent: &[u16]) -> u16
+    requires { ⌜ Meant (now image) state unit (unitIn name) ⌝ }
+    ensures { λ r. ⌜ Changes (now (image .entry)) unit state name (now (lent .entry)) (now (image .exit)) r ⌝ }
 {
     let n = names::stored(name);
-    let Found::At(place) = unit::find_name(image, o, n) else {
+    let Found::At(place) = unit::find_name(image, unit, n) else {
         return 0x5000;
     };
     if lent.len() < 16 {
@@ -211,5 +220,5 @@ pub fn change(image: &mut [u16], o: Opened, state: State, name: Name, lent: &[u1
     if unit::is_open(state, n) {
         return 0x1200;
     }
-    change_file(image, o, n, place, lent)
+    change_file(image, unit, n, place, lent)
 }

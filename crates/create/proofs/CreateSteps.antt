@@ -33,7 +33,7 @@ use Rattle.steps.proofs.NewFileStep.{new-file-stays, new-file-grows}
 use Rattle.steps.proofs.AreaSteps.{grow-areas, create-areas}
 use Rattle.steps.proofs.Whole.{on-disc, represents}
 use Rattle.steps.specs.Units.{layerSlices, grownUnit, newFileOf}
-use Rattle.unit.specs.Opened.{unitPlaces}
+use Rattle.unit.specs.Unit.{unitPlaces}
 use Rattle.create.specs.Create.{CreatedOn, Created, stays, grows, CreateStep, SetStep}
 
 -- ---- where the answer is 0, every question was answered yes
@@ -72,7 +72,7 @@ module _ {image : List ℕ} {p : Plain} (on : OnDisc image p) (n size attributes
   -- the key has no unused place
   full : 16 * p .layers ≤ placesTaken (p .H) (keyOf (p .H) n) (sysOf p) (p .files)
       → (t : ℕ) → t < placeCount (p .H) (p .layers) → t / 16 % p .H ≡ keyOf (p .H) n → Unused (unitPlaces image p) t → ⊥
-  full h t x k u = let r = unused-room p (on .good .names) (ordinary-files (on .good)) (on .layout .sys .places) (keyOf (p .H) n) t x k u in omega arith
+  full h t x k u = let r = unused-room p (on .good .catalog .names) (ordinary-files (on .good)) (on .layout .sys .places) (keyOf (p .H) n) t x k u in omega arith
 
   pub created-on : {after : List ℕ} → WordsOf 3 optional → WordsOf 6 tail → Created p image n size attributes optional tail after q → OnDisc after q
   created-on three six (stays c e) =

@@ -17,6 +17,7 @@ use Rattle.words.proofs.StoreLaws.{length-store}
 use Rattle.index.specs.Block.{wholeIndex, jointSector}
 use Rattle.index.proofs.BlockLaws.{wholeIndex-none}
 use Rattle.catalog.specs.declared.Place.{Place}
+use Rattle.catalog.specs.declared.Unit.{Unit}
 use Rattle.catalog.specs.Catalog.{placeStart}
 use Rattle.plain.specs.Unit.{Plain, File, sysOf, M, held, fileEntry}
 use Rattle.plain.specs.Catalog.{optionalIn, tailIn}
@@ -30,9 +31,8 @@ use Rattle.refine.proofs.Ground.{Ground, ground, top}
 use Rattle.steps.proofs.WriteLaws.{zeroed-size}
 use Rattle.steps.proofs.CreateStep.{create-on}
 use Rattle.steps.specs.Units.{newFileOf}
-use Rattle.unit.specs.declared.Opened.{Opened}
-use Rattle.unit.specs.Opened.{NumbersOf}
-use Rattle.unit.proofs.OpenLaws.{on-catalog}
+use Rattle.unit.specs.Unit.{NumbersOf}
+use Rattle.unit.proofs.UnitLaws.{on-catalog}
 use Rattle.unit.proofs.FindLaws.{place-room}
 use Rattle.slices.specs.FileBlock.{FileBlock}
 use Rattle.slices.specs.Take.{CanLengthenFrom, CanLengthen, Lengthened}
@@ -43,7 +43,7 @@ use Rattle.grow.proofs.BlockLaws.{counted-word}
 use Rattle.create.specs.Create.{unitWith, CreatedOn, AskedFrom, CanWriteFrom}
 use Rattle.create.proofs.LegalLaws.{Legal, legal-all}
 
-module _ {image : List ℕ} {o : Opened} {n size attributes : ℕ} {words : List ℕ} {p : Plain} (asked : AskedFrom image o n size attributes words p) where
+module _ {image : List ℕ} {o : Unit} {n size attributes : ℕ} {words : List ℕ} {p : Plain} (asked : AskedFrom image o n size attributes words p) where
   pub three : WordsOf 3 (optionalIn words)
   three = optional-words words (asked .lent) (asked .long)
 
@@ -58,7 +58,7 @@ pub none-file : {image none : List ℕ} {p : Plain} → OnDisc image p → none 
 none-file {image} {none} {p} on e =
     unit-file image none [] (on .good .limits) (on .layout .size) (e ∙ sym (wholeIndex-none (p .F) (p .s))) (omega arith) (λ k. omega arith)
 
-module _ {image : List ℕ} {o : Opened} {place : Place} {n size attributes : ℕ} {words : List ℕ} {p : Plain}
+module _ {image : List ℕ} {o : Unit} {place : Place} {n size attributes : ℕ} {words : List ℕ} {p : Plain}
     (can : CanWriteFrom image o place n size attributes words p) where
   asked : AskedFrom image o n size attributes words p
   asked = can .place-for .asked

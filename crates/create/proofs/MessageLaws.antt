@@ -16,23 +16,23 @@ use Rattle.disc.proofs.DecideLaws.{was-true, was-false}
 use Rattle.catalog.specs.declared.Place.{Place}
 use Rattle.catalog.specs.declared.Found.{Found}
 use Rattle.catalog.specs.declared.Found.the-variants.{At, Nothing}
+use Rattle.catalog.specs.declared.Unit.{Unit}
 use Rattle.plain.specs.Unit.{Plain, entry, sysOf}
 use Rattle.plain.specs.Questions.{Outcome, asks, replies}
 use Rattle.plain.specs.Catalog.{optionalIn, attributesIn, sizeIn, tailIn, newFile}
 use Rattle.plain.proofs.QuestionLaws.{asks-yes, asks-no}
 use Rattle.refine.specs.OnDisc.{OnDisc}
 use Rattle.refine.specs.Replies.{Replies, refused}
-use Rattle.unit.specs.declared.Opened.{Opened}
-use Rattle.unit.specs.Opened.{NumbersOf, OpenedOn, MeantOn}
+use Rattle.unit.specs.Unit.{NumbersOf, UnitOn, MeantOn}
 use Rattle.unit.specs.Find.{UnusedFound, FindsName, FindsUnused}
-use Rattle.unit.proofs.OpenLaws.{on-catalog}
+use Rattle.unit.proofs.UnitLaws.{on-catalog}
 use Rattle.unit.proofs.MeantLaws.{meant-on-known}
 use Rattle.create.specs.Create.{legalNew, NewFileStep, NewFileMade, Creates, Sets, AskedFrom, CanPlaceFrom, CanGrowForFrom}
 use Rattle.create.proofs.LegalLaws.{Legal, legal-all, not-legal}
 
 -- ---- a new file, up to its place
 
-module _ (image : List ℕ) (o : Opened) (n size attributes : ℕ) {b : Bool} (judged : b ≡ legalNew n size attributes) where
+module _ (image : List ℕ) (o : Unit) (n size attributes : ℕ) {b : Bool} (judged : b ≡ legalNew n size attributes) where
   pub refused-legal : (words : List ℕ) → not b ≡ true → NewFileMade image o n size attributes words image 0x1200
   refused-legal words h = record {
     all = λ p on-disc num. record {
@@ -82,7 +82,7 @@ module _ (image : List ℕ) (o : Opened) (n size attributes : ℕ) {b : Bool} (j
         grow-for e on-disc num = record { asked = asked on-disc num; full = unused-own on-disc num .nothing e }
 
 -- a key is one of the unit's
-pub key-below : {image : List ℕ} {o : Opened} {key : ℕ} (n : ℕ) → OpenedOn image o → key ≡ keyOf (o .catalog .keys) n → key < o .catalog .keys
+pub key-below : {image : List ℕ} {o : Unit} {key : ℕ} (n : ℕ) → UnitOn image o → key ≡ keyOf (o .catalog .keys) n → key < o .catalog .keys
 key-below {o = o} n opened q =
     let some-key : 1 ≤ o .catalog .keys = omega (arith, opened .numbers .catalog .keys, opened .on .good .limits .keys-low) in
     let small : keyOf (o .catalog .keys) n < o .catalog .keys = mod-lt _ some-key in
@@ -96,7 +96,7 @@ replies-after : {p : Plain} (b : Bool) (refusal : Outcome) {next : Outcome} {len
 replies-after {p} b refusal {next} {lent} {result} {Same} {Written} t r =
     subst (λ (x : Outcome). Replies p x lent result Same Written) (sym (asks-yes b refusal next t)) r
 
-module _ {image : List ℕ} {o : Opened} {n size attributes : ℕ} {words after : List ℕ} {result : ℕ} (name : Name) (is : n ≡ named name)
+module _ {image : List ℕ} {o : Unit} {n size attributes : ℕ} {words after : List ℕ} {result : ℕ} (name : Name) (is : n ≡ named name)
     (made : NewFileMade image o n size attributes words after result) where
   named-step : {p : Plain} → OnDisc image p → NumbersOf o p → NewFileStep p image (named name) size attributes (optionalIn words) (tailIn words) after result
   named-step {p} on-disc num =
@@ -109,7 +109,7 @@ module _ {image : List ℕ} {o : Opened} {n size attributes : ℕ} {words after 
     };
   }
 
-pub sets : {image : List ℕ} {o : Opened} {n : ℕ} {lent after : List ℕ} {result : ℕ} (name : Name) → MeantOn image o (unitIn name) → n ≡ named name → 16 ≤ length lent
+pub sets : {image : List ℕ} {o : Unit} {n : ℕ} {lent after : List ℕ} {result : ℕ} (name : Name) → MeantOn image o (unitIn name) → n ≡ named name → 16 ≤ length lent
     → NewFileMade image o n (sizeIn lent) (attributesIn lent) lent after result → Sets image o name lent after result
 sets {lent = lent} name meant is long made = record {
   all = λ p on-disc num own. record {
@@ -118,7 +118,7 @@ sets {lent = lent} name meant is long made = record {
 }
 
 -- "4. Lent record at least 16 words?"
-pub sets-short : {image : List ℕ} {o : Opened} (name : Name) (lent : List ℕ) → MeantOn image o (unitIn name) → length lent < 16 → Sets image o name lent image 0x1200
+pub sets-short : {image : List ℕ} {o : Unit} (name : Name) (lent : List ℕ) → MeantOn image o (unitIn name) → length lent < 16 → Sets image o name lent image 0x1200
 sets-short name lent meant short = record {
   all = λ p on-disc num own. record {
     step = replies-after _ _ (meant-on-known p meant own) (refused (λ z. omega arith) (asks-no _ _ _ (rw (lt-leb 16 (length lent) short) tt)) refl);

@@ -17,6 +17,7 @@ use Rattle.index.proofs.BlockLaws.{wholeIndex-none}
 use Rattle.catalog.specs.declared.Place.{Place}
 use Rattle.catalog.specs.declared.Found.{Found}
 use Rattle.catalog.specs.declared.Found.the-variants.{At, Nothing}
+use Rattle.catalog.specs.declared.Unit.{Unit}
 use Rattle.plain.specs.Table.{Table, tablePut, isSome}
 use Rattle.plain.specs.Unit.{Plain, File, entry, sysOf}
 use Rattle.plain.specs.Questions.{Outcome, replies, done}
@@ -29,12 +30,12 @@ use Rattle.refine.specs.OnDisc.{OnDisc}
 use Rattle.refine.specs.Replies.{refused, written}
 use Rattle.refine.proofs.Ground.{Ground, ground, sys-ground, part-sectors}
 use Rattle.steps.specs.Units.{grownUnit, fileWith, newFileOf}
-use Rattle.unit.specs.declared.Opened.{Opened}
-use Rattle.unit.specs.Opened.{NumbersOf, Searchable}
+use Rattle.unit.specs.Unit.{NumbersOf, Searchable}
 use Rattle.unit.specs.Find.{UnusedFound, FindsUnused}
-use Rattle.unit.proofs.OpenLaws.{on-catalog}
+use Rattle.unit.proofs.UnitLaws.{on-catalog}
 use Rattle.grow.specs.Room.{AskedOf, RoomFor}
 use Rattle.grow.specs.Grow.{CanGrowFrom, GrownFrom, Grows}
+use Rattle.grow.proofs.BlockLaws.{sys-in}
 use Rattle.grow.proofs.RoomLaws.{enough-yes, enough-no}
 use Rattle.grow.proofs.GrowLaws.{grown-on}
 use Rattle.create.specs.Create.{unitWith, stays, grows, NewFileStep, AskedFrom, CanPlaceFrom, CanGrowForFrom, CanWriteFrom, FileWritten}
@@ -46,7 +47,7 @@ roomOutcome p l n size attributes optional tail lent =
     let t : Taking = taking p (sysOf p) l 0 (need (p .s) size) in
     enough p (sysOf p) t (t .fileNew) lent (tablePut n (fileWith p size attributes optional tail (t .fileNew)) (p .files))
 
-module _ {image : List ℕ} {o : Opened} {n size attributes : ℕ} {words : List ℕ} {p : Plain} (asked : AskedFrom image o n size attributes words p) where
+module _ {image : List ℕ} {o : Unit} {n size attributes : ℕ} {words : List ℕ} {p : Plain} (asked : AskedFrom image o n size attributes words p) where
   abbrev optional : List ℕ
   optional = optionalIn words
 
@@ -57,10 +58,9 @@ module _ {image : List ℕ} {o : Opened} {n size attributes : ℕ} {words : List
   vacant = rw (asked .fresh) tt
 
   -- a file without slices
-  pub asked-of : {none : List ℕ} → none ≡ zeroWords 256 → AskedOf image o none p []
+  pub asked-of : {none : List ℕ} → none ≡ zeroWords 256 → AskedOf image o none p (sysOf p) []
   asked-of e = record {
-    on = asked .on;
-    numbers = asked .numbers;
+    catalog = sys-in (asked .on) (asked .numbers);
     words = e ∙ sym (wholeIndex-none (p .F) (p .s));
     few = omega arith;
     part = λ k. omega arith;
@@ -85,7 +85,7 @@ module _ {image : List ℕ} {o : Opened} {n size attributes : ℕ} {words : List
       room-word lent =
           let c : k ≡ need (p .s) size = count ∙ ap (λ (s : ℕ). need s size) (asked .numbers .slice) in
           let own : RoomFor image o l none (need (p .s) size) r = rw (is, c) at answer in
-          own .all p [] (asked-of e) lent (tablePut n (fileWith p size attributes optional tail (taking p (sysOf p) l 0 (need (p .s) size) .fileNew)) (p .files))
+          own .all p (sysOf p) [] (asked-of e) lent (tablePut n (fileWith p size attributes optional tail (taking p (sysOf p) l 0 (need (p .s) size) .fileNew)) (p .files))
 
       room-refused : (r ≡ 0 → ⊥) → NewFileStep p image n size attributes optional tail image r
       room-refused ne = record {
@@ -93,7 +93,7 @@ module _ {image : List ℕ} {o : Opened} {n size attributes : ℕ} {words : List
             let t : Taking = taking p (sysOf p) l 0 (need (p .s) size) in
             let files : Table File = tablePut n (fileWith p size attributes optional tail (t .fileNew)) (p .files) in
             refused ne
-            (rest-is lent ∙ enough-no p t (t .fileNew) lent files (λ z. ne (room-word lent ∙ z)) ∙ ap (λ (w : ℕ). replies p w lent) (sym (room-word lent)))
+            (rest-is lent ∙ enough-no p (sysOf p) t (t .fileNew) lent files (λ z. ne (room-word lent ∙ z)) ∙ ap (λ (w : ℕ). replies p w lent) (sym (room-word lent)))
             refl;
       }
 
@@ -101,7 +101,7 @@ module _ {image : List ℕ} {o : Opened} {n size attributes : ℕ} {words : List
       room-yes z =
           let t : Taking = taking p (sysOf p) l 0 (need (p .s) size) in
           let files : Table File = tablePut n (fileWith p size attributes optional tail (t .fileNew)) (p .files) in
-          let en = enough-yes p t (t .fileNew) [] files (sym (room-word []) ∙ z) in
+          let en = enough-yes p (sysOf p) t (t .fileNew) [] files (sym (room-word []) ∙ z) in
           let ok = legal asked in
           record {
             name = ok .name;
@@ -110,13 +110,13 @@ module _ {image : List ℕ} {o : Opened} {n size attributes : ℕ} {words : List
             given = ok .given;
             vacant = vacant;
             room = rw (le-leb _ _ (en .free)) tt;
-            sysFew = rw (le-leb _ _ (en .sys)) tt;
+            sysFew = rw (le-leb _ _ (en .catalog)) tt;
             few = rw (le-leb _ _ (en .file)) tt;
           }
 
 -- ---- the key has an unused place
 
-module _ {image : List ℕ} {o : Opened} {place : Place} {n size attributes : ℕ} {words : List ℕ} {p : Plain}
+module _ {image : List ℕ} {o : Unit} {place : Place} {n size attributes : ℕ} {words : List ℕ} {p : Plain}
     (can : CanPlaceFrom image o place n size attributes words p) where
   same-layers : layersFor (p .H) (sysOf p) n (p .files) ≡ p .layers
   same-layers = layers-stay (p .H) (sysOf p) n (p .files) (can .at .room)
@@ -144,7 +144,7 @@ module _ {image : List ℕ} {o : Opened} {place : Place} {n size attributes : �
 
 -- ---- it has none: SYS grows first
 
-module _ {image : List ℕ} {o : Opened} {n size attributes : ℕ} {words : List ℕ} {p : Plain} (can : CanGrowForFrom image o n size attributes words p) where
+module _ {image : List ℕ} {o : Unit} {n size attributes : ℕ} {words : List ℕ} {p : Plain} (can : CanGrowForFrom image o n size attributes words p) where
   num : NumbersOf o p
   num = can .asked .numbers
 
@@ -177,10 +177,9 @@ module _ {image : List ℕ} {o : Opened} {n size attributes : ℕ} {words : List
       yes-grown : Yes p (suc (p .layers)) n size attributes
       yes-grown = room-yes (can .asked) more-layers e next count answer z
 
-      pub can-grow : CanGrowFrom image o p
+      pub can-grow : CanGrowFrom image o p (sysOf p)
       can-grow = record {
-        on = can .asked .on;
-        numbers = num;
+        catalog = sys-in (can .asked .on) num;
         room = sys-room yes-grown;
         few = sys-few yes-grown;
       }
@@ -188,7 +187,7 @@ module _ {image : List ℕ} {o : Opened} {n size attributes : ℕ} {words : List
       new : NewFile (grownUnit p) n (newFileOf (grownUnit p) size attributes (optionalIn words) (tailIn words))
       new = new-grown p (suc (p .layers)) n size attributes (optionalIn words) (tailIn words) (can .asked .on .good) yes-grown (three (can .asked)) (six (can .asked))
 
-      module _ {middle : List ℕ} {o′ : Opened} (g : Grows image o middle o′) where
+      module _ {middle : List ℕ} {o′ : Unit} (g : Grows image o middle o′) where
         grown : GrownFrom image p middle × NumbersOf o′ (grownUnit p)
         grown = g .all p can-grow
 
@@ -207,7 +206,7 @@ module _ {image : List ℕ} {o : Opened} {n size attributes : ℕ} {words : List
 
           -- the new layer has unused places
           pub never-full : found ≡ Nothing → ⊥
-          never-full h = omega (arith, unused .nothing h, can .asked .on .good .chains (keyOf (p .H) n))
+          never-full h = omega (arith, unused .nothing h, can .asked .on .good .catalog .chains (keyOf (p .H) n))
 
           module _ {place : Place} (h : found ≡ At place) where
             pub grown-write : CanWriteFrom middle o′ place n size attributes words (grownUnit p)

@@ -14,6 +14,7 @@ use Rattle.disc.specs.Attributes.{legalAttributes, givesEntryOnly}
 use Rattle.disc.specs.Slices.{taken}
 use Rattle.disc.specs.Stretches.{stretchCount}
 use Rattle.catalog.specs.declared.Place.{Place}
+use Rattle.catalog.specs.declared.Unit.{Unit}
 use Rattle.plain.specs.Table.{tablePut}
 use Rattle.plain.specs.Unit.{Plain, File, sysOf, freeSlices, entry, withFiles}
 use Rattle.plain.specs.Taking.{placesTaken}
@@ -21,8 +22,7 @@ use Rattle.plain.specs.Catalog.{optionalIn, attributesIn, sizeIn, tailIn, newFi
 use Rattle.refine.specs.OnDisc.{OnDisc}
 use Rattle.refine.specs.Writes.{createdImage}
 use Rattle.refine.specs.Replies.{Replies}
-use Rattle.unit.specs.declared.Opened.{Opened}
-use Rattle.unit.specs.Opened.{NumbersOf}
+use Rattle.unit.specs.Unit.{NumbersOf}
 use Rattle.unit.specs.Find.{FirstUnused, UnusedAt}
 use Rattle.steps.specs.Units.{grownUnit, newFileOf}
 use Rattle.grow.specs.Grow.{GrownFrom}
@@ -62,8 +62,9 @@ pub record NewFileStep (p : Plain) (image : List ℕ) (n size attributes : ℕ) 
   pub step : (lent : List ℕ) → Replies p (newFile p n size attributes optional tail lent) lent result (after ≡ image)
       (Created p image n size attributes optional tail after)
 
-pub record NewFileMade (image : List ℕ) (o : Opened) (n size attributes : ℕ) (words after : List ℕ) (result : ℕ) : Type 0 where
-  pub all : (p : Plain) → OnDisc image p → NumbersOf o p → NewFileStep p image n size attributes (optionalIn words) (tailIn words) after result
+pub record NewFileMade (image : List ℕ) (o : Unit) (n size attributes : ℕ) (words after : List ℕ) (result : ℕ) : Type 0 where
+  pub all : (p : Plain) → OnDisc image p → NumbersOf o p
+      → NewFileStep p image n size attributes (optionalIn words) (tailIn words) after result
 
 -- "Create's optional and tail are zero."
 pub record CreateStep (p : Plain) (image : List ℕ) (name : Name) (size attributes : ℕ) (after : List ℕ) (result : ℕ) : Type 0 where
@@ -71,7 +72,7 @@ pub record CreateStep (p : Plain) (image : List ℕ) (name : Name) (size attribu
       (Created p image (named name) size attributes (replicate 3 0) (replicate 6 0) after)
 
 -- The same of every unit on the image that has the number in the name.
-pub record Creates (image : List ℕ) (o : Opened) (name : Name) (size attributes : ℕ) (after : List ℕ) (result : ℕ) : Type 0 where
+pub record Creates (image : List ℕ) (o : Unit) (name : Name) (size attributes : ℕ) (after : List ℕ) (result : ℕ) : Type 0 where
   pub all : (p : Plain) → OnDisc image p → NumbersOf o p → p .unit ≡ unitIn name → CreateStep p image name size attributes after result
 
 -- "Set takes size from entry word 9, name from the message, optional, attributes and tail from the entry."
@@ -79,13 +80,13 @@ pub record SetStep (p : Plain) (image : List ℕ) (name : Name) (lent after : Li
   pub step : Replies p (stepSet p name lent) lent result (after ≡ image)
       (Created p image (named name) (sizeIn lent) (attributesIn lent) (optionalIn lent) (tailIn lent) after)
 
-pub record Sets (image : List ℕ) (o : Opened) (name : Name) (lent after : List ℕ) (result : ℕ) : Type 0 where
+pub record Sets (image : List ℕ) (o : Unit) (name : Name) (lent after : List ℕ) (result : ℕ) : Type 0 where
   pub all : (p : Plain) → OnDisc image p → NumbersOf o p → p .unit ≡ unitIn name → SetStep p image name lent after result
 
 -- ---- what the steps in between start from
 
 -- Questions 4 and 6 are answered yes; the words are those of an entry.
-pub record AskedFrom (image : List ℕ) (o : Opened) (n size attributes : ℕ) (words : List ℕ) (p : Plain) : Type 0 where
+pub record AskedFrom (image : List ℕ) (o : Unit) (n size attributes : ℕ) (words : List ℕ) (p : Plain) : Type 0 where
   pub on : OnDisc image p
   pub numbers : NumbersOf o p
   pub legal : T (legalNew n size attributes)
@@ -94,42 +95,42 @@ pub record AskedFrom (image : List ℕ) (o : Opened) (n size attributes : ℕ) (
   pub lent : Words words
 
 -- The key has an unused place, or none.
-pub record CanPlaceFrom (image : List ℕ) (o : Opened) (place : Place) (n size attributes : ℕ) (words : List ℕ) (p : Plain) : Type 0 where
+pub record CanPlaceFrom (image : List ℕ) (o : Unit) (place : Place) (n size attributes : ℕ) (words : List ℕ) (p : Plain) : Type 0 where
   pub asked : AskedFrom image o n size attributes words p
   pub at : UnusedAt image p (sysOf p) (p .files) (keyOf (p .H) n) place
 
-pub record CanGrowForFrom (image : List ℕ) (o : Opened) (n size attributes : ℕ) (words : List ℕ) (p : Plain) : Type 0 where
+pub record CanGrowForFrom (image : List ℕ) (o : Unit) (n size attributes : ℕ) (words : List ℕ) (p : Plain) : Type 0 where
   pub asked : AskedFrom image o n size attributes words p
   pub full : 16 * p .layers ≤ placesTaken (p .H) (keyOf (p .H) n) (sysOf p) (p .files)
 
 -- Questions 7 and 8 too are answered yes, and the key has an unused place.
-pub record CanWriteFrom (image : List ℕ) (o : Opened) (place : Place) (n size attributes : ℕ) (words : List ℕ) (p : Plain) : Type 0 where
+pub record CanWriteFrom (image : List ℕ) (o : Unit) (place : Place) (n size attributes : ℕ) (words : List ℕ) (p : Plain) : Type 0 where
   pub place-for : CanPlaceFrom image o place n size attributes words p
   pub room : need (p .s) size ≤ freeSlices p
   pub few : stretchCount (newFileOf p size attributes (optionalIn words) (tailIn words) .slices) ≤ 127
 
 -- Some unit on the image is such.
-pub record CanWrite (image : List ℕ) (o : Opened) (place : Place) (n size attributes : ℕ) (words : List ℕ) : Type 0 where
+pub record CanWrite (image : List ℕ) (o : Unit) (place : Place) (n size attributes : ℕ) (words : List ℕ) : Type 0 where
   pub unit : Plain
   pub can : CanWriteFrom image o place n size attributes words unit
 
-pub record CanPlace (image : List ℕ) (o : Opened) (place : Place) (n size attributes : ℕ) (words : List ℕ) : Type 0 where
+pub record CanPlace (image : List ℕ) (o : Unit) (place : Place) (n size attributes : ℕ) (words : List ℕ) : Type 0 where
   pub unit : Plain
   pub can : CanPlaceFrom image o place n size attributes words unit
 
-pub record CanGrowFor (image : List ℕ) (o : Opened) (n size attributes : ℕ) (words : List ℕ) : Type 0 where
+pub record CanGrowFor (image : List ℕ) (o : Unit) (n size attributes : ℕ) (words : List ℕ) : Type 0 where
   pub unit : Plain
   pub can : CanGrowForFrom image o n size attributes words unit
 
 -- What they leave, for every such unit.
-pub record FileWritten (image : List ℕ) (o : Opened) (place : Place) (n size attributes : ℕ) (words after : List ℕ) : Type 0 where
+pub record FileWritten (image : List ℕ) (o : Unit) (place : Place) (n size attributes : ℕ) (words after : List ℕ) : Type 0 where
   pub all : (p : Plain) → CanWriteFrom image o place n size attributes words p
       → CreatedOn p image n (newFileOf p size attributes (optionalIn words) (tailIn words)) after
 
-pub record Placed (image : List ℕ) (o : Opened) (place : Place) (n size attributes : ℕ) (words after : List ℕ) (result : ℕ) : Type 0 where
+pub record Placed (image : List ℕ) (o : Unit) (place : Place) (n size attributes : ℕ) (words after : List ℕ) (result : ℕ) : Type 0 where
   pub all : (p : Plain) → CanPlaceFrom image o place n size attributes words p
       → NewFileStep p image n size attributes (optionalIn words) (tailIn words) after result
 
-pub record PlacedGrown (image : List ℕ) (o : Opened) (n size attributes : ℕ) (words after : List ℕ) (result : ℕ) : Type 0 where
+pub record PlacedGrown (image : List ℕ) (o : Unit) (n size attributes : ℕ) (words after : List ℕ) (result : ℕ) : Type 0 where
   pub all : (p : Plain) → CanGrowForFrom image o n size attributes words p
       → NewFileStep p image n size attributes (optionalIn words) (tailIn words) after result

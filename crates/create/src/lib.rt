@@ -7,14 +7,15 @@ ghost use Rattle.disc.specs.Names.{packed, unitIn};
 ghost use Rattle.disc.specs.Entries.{entryFrom};
 ghost use Rattle.words.specs.Store.{store};
 ghost use Rattle.catalog.specs.Catalog.{placeStart};
-ghost use Rattle.unit.specs.Opened.{OpenedOn, MeantOn};
-ghost use Rattle.create.specs.Create.{legalNew, CanWrite, FileWritten, CanPlace, Placed, CanGrowFor, PlacedGrown, NewFileMade, Creates, Sets};
+ghost use Rattle.create.specs.Create.{legalNew, CanWrite, FileWritten, CanPlace, Placed, CanGrowFor, PlacedGrown};
+ghost use Rattle.create.specs.Create.{NewFileMade, Creates, Sets};
+ghost use Rattle.unit.specs.Unit.{UnitOn, MeantOn};
 use catalog::Found;
 use catalog::Place;
+use catalog::Unit;
 use types::Block;
 use types::Name;
 use types::Sector;
-use unit::Opened;
 
 // Whether name, size and attributes are legal for a new file.
 fn is_legal(name: Name, size: u16, attributes: u16) -> bool
@@ -54,19 +55,19 @@ fn enter(
 // Takes a new file's slices, zeroes its blocks, which begin after the index sector, and enters it in the place.
 fn write_file(
     image: &mut [u16],
-    o: Opened,
+    unit: Unit,
     place: Place,
     name: Name,
     size: u16,
     attributes: u16,
     words: &[u16],
 )
-    requires { ⌜ CanWrite (now image) o place (packed name) size attributes (now words) ⌝ }
-    ensures { λ _. ⌜ FileWritten (now (image .entry)) o place (packed name) size attributes (now (words .entry)) (now (image .exit)) ⌝ }
+    requires { ⌜ CanWrite (now image) unit place (packed name) size attributes (now words) ⌝ }
+    ensures { λ _. ⌜ FileWritten (now (image .entry)) unit place (packed name) size attributes (now (words .entry)) (now (image .exit)) ⌝ }
 {
-    let count = numbers::need(o.slice, size);
+    let count = numbers::need(unit.slice, size);
     let none = index::empty_block();
-    let block = slices::take_more(image, none, o.first, o.slice, o.slices, count);
+    let block = slices::take_more(image, none, unit.first, unit.slice, unit.slices, count);
     slices::zero_sectors(image, block, 1, size);
     let sector = index::block_sector(block, 0, Block(0));
     enter(
@@ -76,65 +77,65 @@ fn write_file(
         size,
         attributes,
         sector,
-        o.slice * count,
+        unit.slice * count,
         words,
     );
-    slices::count_free(image, o.slice);
+    slices::count_free(image, unit.slice);
 }
 
 // The file in an unused place, once questions 7 and 8 are answered.
 fn create_in(
     image: &mut [u16],
-    o: Opened,
+    unit: Unit,
     place: Place,
     name: Name,
     size: u16,
     attributes: u16,
     words: &[u16],
 ) -> u16
-    requires { ⌜ CanPlace (now image) o place (packed name) size attributes (now words) ⌝ }
-    ensures { λ r. ⌜ Placed (now (image .entry)) o place (packed name) size attributes (now (words .entry)) (now (image .exit)) r ⌝ }
+    requires { ⌜ CanPlace (now image) unit place (packed name) size attributes (now words) ⌝ }
+    ensures { λ r. ⌜ Placed (now (image .entry)) unit place (packed name) size attributes (now (words .entry)) (now (image .exit)) r ⌝ }
 {
     let none = index::empty_block();
     let room = grow::room(
         image,
-        o,
-        o.catalog.layers,
+        unit,
+        unit.catalog.layers,
         none,
-        numbers::need(o.slice, size),
+        numbers::need(unit.slice, size),
     );
     if room != 0 {
         return room;
     }
-    write_file(image, o, place, name, size, attributes, words);
+    write_file(image, unit, place, name, size, attributes, words);
     0
 }
 
 // The same where the key has no unused place: SYS grows first, and the new layer has unused places of every key.
 fn create_grown(
     image: &mut [u16],
-    o: Opened,
+    unit: Unit,
     name: Name,
     size: u16,
     attributes: u16,
     words: &[u16],
 ) -> u16
-    requires { ⌜ CanGrowFor (now image) o (packed name) size attributes (now words) ⌝ }
-    ensures { λ r. ⌜ PlacedGrown (now (image .entry)) o (packed name) size attributes (now (words .entry)) (now (image .exit)) r ⌝ }
+    requires { ⌜ CanGrowFor (now image) unit (packed name) size attributes (now words) ⌝ }
+    ensures { λ r. ⌜ PlacedGrown (now (image .entry)) unit (packed name) size attributes (now (words .entry)) (now (image .exit)) r ⌝ }
 {
     let none = index::empty_block();
     let room = grow::room(
         image,
-        o,
-        o.catalog.layers + 1,
+        unit,
+        unit.catalog.layers + 1,
         none,
-        numbers::need(o.slice, size),
+        numbers::need(unit.slice, size),
     );
     if room != 0 {
         return room;
     }
-    let grown = grow::grow(image, o);
-    let Found::At(place) = unit::find_unused(image, grown, numbers::key(name, o.catalog.keys))
+    let grown = grow::grow(image, unit);
+    let Found::At(place) = unit::find_unused(image, grown, numbers::key(name, unit.catalog.keys))
     else {
         return 0;
     };
@@ -145,44 +146,45 @@ fn create_grown(
 // A new file under a name as it is stored; optional and tail are those of the words.
 fn new_file(
     image: &mut [u16],
-    o: Opened,
+    unit: Unit,
     name: Name,
     size: u16,
     attributes: u16,
     words: &[u16],
 ) -> u16
-    requires { ⌜ OpenedOn (now image) o × (16 ≤ length (now words)) ⌝ }
-    ensures { λ r. ⌜ NewFileMade (now (image .entry)) o (packed name) size attributes (now (words .entry)) (now (image .exit)) r ⌝ }
+    requires { ⌜ UnitOn (now image) unit × (16 ≤ length (now words)) ⌝ }
+    ensures { λ r. ⌜ NewFileMade (now (image .entry)) unit (packed name) size attributes (now (words .entry)) (now (image .exit)) r ⌝ }
 {
     if !is_legal(name, size, attributes) {
         return 0x1200;
     }
-    let Found::Nothing = unit::find_name(image, o, name) else {
+    let Found::Nothing = unit::find_name(image, unit, name) else {
         return 0x1010;
     };
-    let Found::At(place) = unit::find_unused(image, o, numbers::key(name, o.catalog.keys)) else {
-        return create_grown(image, o, name, size, attributes, words);
+    let Found::At(place) = unit::find_unused(image, unit, numbers::key(name, unit.catalog.keys))
+    else {
+        return create_grown(image, unit, name, size, attributes, words);
     };
-    create_in(image, o, place, name, size, attributes, words)
+    create_in(image, unit, place, name, size, attributes, words)
 }
 
 // Create from question 4 on, under the name in a message that means this unit: the result word. Optional and tail are zero.
-pub fn create(image: &mut [u16], o: Opened, name: Name, size: u16, attributes: u16) -> u16
-    requires { ⌜ MeantOn (now image) o (unitIn name) ⌝ }
-    ensures { λ r. ⌜ Creates (now (image .entry)) o name size attributes (now (image .exit)) r ⌝ }
+pub fn create(image: &mut [u16], unit: Unit, name: Name, size: u16, attributes: u16) -> u16
+    requires { ⌜ MeantOn (now image) unit (unitIn name) ⌝ }
+    ensures { λ r. ⌜ Creates (now (image .entry)) unit name size attributes (now (image .exit)) r ⌝ }
 {
     let words = [0u16; 16];
-    new_file(image, o, names::stored(name), size, attributes, &words)
+    new_file(image, unit, names::stored(name), size, attributes, &words)
 }
 
 // Set from question 4 on, under the name in a message that means this unit: the result word. Size, attributes, optional and tail are
 // those of the lent entry.
-pub fn set(image: &mut [u16], o: Opened, name: Name, lent: &[u16]) -> u16
-    requires { ⌜ MeantOn (now image) o (unitIn name) ⌝ }
-    ensures { λ r. ⌜ Sets (now (image .entry)) o name (now (lent .entry)) (now (image .exit)) r ⌝ }
+pub fn set(image: &mut [u16], unit: Unit, name: Name, lent: &[u16]) -> u16
+    requires { ⌜ MeantOn (now image) unit (unitIn name) ⌝ }
+    ensures { λ r. ⌜ Sets (now (image .entry)) unit name (now (lent .entry)) (now (image .exit)) r ⌝ }
 {
     if lent.len() < 16 {
         return 0x1200;
     }
-    new_file(image, o, names::stored(name), lent[9], lent[6], lent)
+    new_file(image, unit, names::stored(name), lent[9], lent[6], lent)
 }

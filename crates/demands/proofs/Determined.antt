@@ -32,13 +32,13 @@ use Rattle.names.specs.NameIs.{NameIs}
 use Rattle.names.proofs.NameIsLaws.{nameIs-unique}
 use Rattle.state.specs.declared.Found.the-variants.{At}
 use Rattle.state.specs.Areas.{areaClosed}
-use Rattle.unit.specs.Opened.{unitPlaces}
+use Rattle.unit.specs.Unit.{unitPlaces}
 use Rattle.unit.specs.Find.{FirstUnused}
 use Rattle.steps.specs.Units.{grownUnit}
 use Rattle.grow.specs.Grow.{GrownFrom}
 use Rattle.create.specs.Create.{CreatedOn, Created, stays, grows}
 use Rattle.remove.specs.Remove.{Removed}
-use Rattle.rewrite.specs.Rewrite.{Rewrites, stayed, moved}
+use Rattle.change.specs.Rewrite.{Rewrites, stayed, moved}
 use Rattle.areas.specs.Areas.{AreaMade, AreaCreated, dummyCreate, made, AreaBooked, AreaRemoved, dummyRemove, books}
 use Rattle.change.specs.Change as change
 use Rattle.change.proofs.ChangeUnit.{change-grown}
@@ -58,7 +58,7 @@ first-one {t = t} {u = u} x y =
     below-or t u (λ h. absurd (y .earlier t h (x .key) (x .unused))) (λ h. same-or t u (λ e. e) (λ d. absurd (x .earlier u (omega arith) (y .key) (y .unused))))
 
 file-positive : {p : Plain} → Good p → (n : ℕ) {f : File} → tableFind n (p .files) ≡ some f → n ≢ 0
-file-positive {p} g n {f} e z = omega (arith, find-above n 0 f (p .files) (g .names) e)
+file-positive {p} g n {f} e z = omega (arith, find-above n 0 f (p .files) (g .catalog .names) e)
 
 -- ---- two replies to one message
 

@@ -30,11 +30,11 @@ use Rattle.demands.specs.Listing.{listedName, ByName, ListedByName}
 
 module _ (p : Plain) (g : Good p) (rest : List ℕ) where
   sorted : SortedFrom 0 (entries p)
-  sorted = sorted-entries p (g .names)
+  sorted = sorted-entries p (g .catalog .names)
 
   ok : Entries (entries p)
   unfolding entry
-  ok n e h = (entry-length p g n e h, entry-named p (g .names) .name n e h)
+  ok n e h = (entry-length p g n e h, entry-named p (g .catalog .names) .name n e h)
 
   all : ListingOf (entries p) (joined (entries p))
   all = table-listing 0 (entries p) sorted ok

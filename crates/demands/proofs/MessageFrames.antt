@@ -48,7 +48,7 @@ module _ {p : Plain} (g : Good p) (n : ℕ) (f : File) (found : tableFind n (p .
 
   pub file-entry : (m : ℕ) → length (fileEntry (p .F) (p .s) m f) ≡ 16
   file-entry m =
-      let fg = g .files n f found in
+      let fg = g .catalog .files n f found in
       length-entry m (f .optional) (f .attributes) (f .booked) (indexSector (p .F) (p .s) (f .bookedSlices) (f .slices)) (p .s * f .bookedSlices) (f .tail) (fg .optional .count) (fg .tail .count)
 
 -- ---- Remove and Remove area: file f, whose entry stands in place t
@@ -64,7 +64,7 @@ module _ (p : Plain) (g : Good p) (n : ℕ) (f : File) (found : tableFind n (p .
   pub booked-keep : Same i (bookedImage p (sysOf p) i t n f) q
   unfolding bookedImage
   booked-keep =
-      let fg = g .files n f found in
+      let fg = g .catalog .files n f found in
       place-keep q p i t (fileEntry (p .F) (p .s) n (bookLive f))
       (length-entry n (f .optional) (f .attributes) (length (f .sectors)) (indexSector (p .F) (p .s) (length (f .slices)) (f .slices)) (p .s * length (f .slices)) (f .tail) (fg .optional .count) (fg .tail .count)) place
 
@@ -95,7 +95,7 @@ module _ (p : Plain) (g : Good p) (new : List ℕ) (files : Table File) (areas :
         (λ x lo hi. blocks x (omega arith))
 
     pub grown-keep : q ≢ mapSector → q ≢ sysIndexSector → Same i (grownSys p i t new) q
-    grown-keep map six = same-trans (taking-keep q i sysIndexSector (p .F) (p .s) (p .sys) new (g′ .sysFew) new-in-map far map (λ _. six)) layer-keep
+    grown-keep map six = same-trans (taking-keep q i sysIndexSector (p .F) (p .s) (p .sys) new (g′ .catalog .few) new-in-map far map (λ _. six)) layer-keep
 
 -- ---- Create and Set: the file f is entered under name n
 
@@ -116,7 +116,7 @@ module _ (p : Plain) (n : ℕ) (f : File) (g′ : Good (withFiles p (tablePut n 
 
     pub created-keep : OffIndex p f q → Same i (createdImage p (sysOf p) i t n f) q
     created-keep own =
-        same-trans (taking-keep q i _ (p .F) (p .s) [] (f .slices) (g′ .files n f here .few) (file-in-map g′ n f here) far (off .map) own) entered-keep
+        same-trans (taking-keep q i _ (p .F) (p .s) [] (f .slices) (g′ .catalog .files n f here .few) (file-in-map g′ n f here) far (off .map) own) entered-keep
 
 -- ---- Change: the file f of name n becomes f′ of name m
 
@@ -129,7 +129,7 @@ module _ (p : Plain) (n m : ℕ) (f f′ : File) (old : InMap (f .slices)) (re :
   sliced = resliced i (sectorIn (p .F) (p .s) (f′ .slices) 0) (p .F) (p .s) (f .slices) (f′ .slices)
 
   sliced-keep : OffIndex p f′ q → Same i sliced q
-  sliced-keep own = reslicing-keep q i _ (p .F) (p .s) re (g′ .files m f′ now .few) old (file-in-map g′ m f′ now) far (off .map) own
+  sliced-keep own = reslicing-keep q i _ (p .F) (p .s) re (g′ .catalog .files m f′ now .few) old (file-in-map g′ m f′ now) far (off .map) own
 
   off-new : (x : ℕ) → length (f .sectors) + fileFrom ≤ x → x < length (f .sectors) + fileFrom + (length (f′ .sectors) - length (f .sectors)) → q ≢ sectorIn (p .F) (p .s) (f′ .slices) x
   off-new x lo hi = off .joined x (omega arith) (omega arith)
@@ -175,7 +175,7 @@ module _ (p : Plain) (n : ℕ) (f f′ : File) (areas : Table (Table AreaUser)) 
     pub appended-keep : OffIndex p f′ q → Same i (appendedImage p i f new words) q
     appended-keep own =
         let all = file-in-map g′ n f′ then-file in
-        let few : stretchCount (f .slices ++ new) ≤ 127 = rw e at (g′ .files n f′ then-file .few) in
+        let few : stretchCount (f .slices ++ new) ≤ 127 = rw e at (g′ .catalog .files n f′ then-file .few) in
         same-trans
         (taking-keep q i _ (p .F) (p .s) (f .slices) new few
         (in-map-part (f′ .slices) new all (λ x. omega (arith, ap (occurrences x) e, occurrences-append x (f .slices) new))) far (off .map)

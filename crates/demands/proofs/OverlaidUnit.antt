@@ -21,12 +21,12 @@ use Rattle.refine.proofs.Ground.{ground}
 use Rattle.refine.proofs.Writers.{kit-kept, low-write}
 use Rattle.refine.proofs.SoundRepresents.{sound-represents, represents-sound}
 use Rattle.steps.specs.Units.{grownUnit}
-use Rattle.unit.specs.Opened.{unitPlaces}
+use Rattle.unit.specs.Unit.{unitPlaces}
 use Rattle.unit.specs.Find.{FirstUnused}
 use Rattle.grow.specs.Grow.{GrownFrom}
 use Rattle.create.specs.Create.{CreatedOn, Created, stays, grows}
 use Rattle.remove.specs.Remove.{Removed}
-use Rattle.rewrite.specs.Rewrite.{Rewrites, stayed, moved}
+use Rattle.change.specs.Rewrite.{Rewrites, stayed, moved}
 use Rattle.change.specs.Change as change
 use Rattle.areas.specs.Areas.{AreaBooked, AreaRemoved, dummyRemove, books}
 use Rattle.perform.specs.Perform.{Wrote}

@@ -18,7 +18,7 @@ use Rattle.refine.proofs.SoundRepresents.{sound-represents}
 use Rattle.steps.specs.Units.{grownUnit}
 use Rattle.grow.specs.Grow.{GrownFrom}
 use Rattle.create.specs.Create.{CreatedOn, Created, stays, grows}
-use Rattle.rewrite.specs.Rewrite.{Rewrites, stayed, moved}
+use Rattle.change.specs.Rewrite.{Rewrites, stayed, moved}
 use Rattle.change.specs.Change as change
 use Rattle.areas.specs.Areas.{AreaRemoved, dummyRemove, books}
 use Rattle.format.specs.declared.Formatted.{Formatted}

@@ -34,7 +34,7 @@ use Rattle.steps.proofs.ResizeLaws.{Resizes, resizes-taken}
 use Rattle.grow.specs.Grow.{GrownFrom}
 use Rattle.create.specs.Create.{Created, stays, grows}
 use Rattle.remove.specs.Remove.{Removed}
-use Rattle.rewrite.specs.Rewrite.{Rewrites, stayed, moved}
+use Rattle.change.specs.Rewrite.{Rewrites, stayed, moved}
 use Rattle.change.specs.Change as change
 use Rattle.areas.specs.Areas.{AreaRemoved, dummyRemove, books}
 use Rattle.area_messages.specs.AreaMessages.{messageImage}

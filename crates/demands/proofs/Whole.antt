@@ -162,7 +162,7 @@ module _ {p : Plain} (g : Good p) (i : List ℕ) (size : length i ≡ 256 * p .N
   changed-ends {j} {n} {f} {lent} found g′ (change.stays s c e) =
       let g″ = subst Good e g′ in
       subst (λ (v : Plain). IndexWhole p v j) (sym e)
-      (one-file (newName n lent) _ (tableRemove n (p .files)) (p .areas) (λ k a h. remove-some k n 0 (p .files) a (g .names) h .1)
+      (one-file (newName n lent) _ (tableRemove n (p .files)) (p .areas) (λ k a h. remove-some k n 0 (p .files) a (g .catalog .names) h .1)
       (λ has new. changed-whole p n f lent (file-in-map g n f found) g″ i size c (λ same. new n f found (sym same)) has))
   changed-ends {j} {n} {f} {lent} found g′ (change.grows s grown w c e) =
       let g″ = subst Good e g′ in
@@ -171,14 +171,14 @@ module _ {p : Plain} (g : Good p) (i : List ℕ) (size : length i ≡ 256 * p .N
       let now = changed-file (grownUnit p) n f lent in
       subst (λ (v : Plain). IndexWhole p v j) (sym e)
       (after-growth p
-      (one-file {p = grownUnit p} (newName n lent) _ (tableRemove n (p .files)) (p .areas) (λ k a h. remove-some k n 0 (p .files) a (g .names) h .1)
+      (one-file {p = grownUnit p} (newName n lent) _ (tableRemove n (p .files)) (p .areas) (λ k a h. remove-some k n 0 (p .files) a (g .catalog .names) h .1)
       (λ has new. changed-whole (grownUnit p) n f lent old g″ grown longer c (λ same. new n f found (sym same)) has))
       (grown-sys _ _ g″ w
       (changed-on-kept (grownUnit p) n f lent old g″ grown (omega (arith, far)) sysIndexSector (system-off g″ _ _ now) (system-index g″ _ _ now) c)))
 
   removed-ends : {j : List ℕ} {n : ℕ} {u : Plain} → Removed p i n j u → IndexWhole p u j
   removed-ends {j} {n} r = subst (λ (v : Plain). IndexWhole p v j) (sym (r .unit)) (record {
-    file = λ k a found has new. absurd (new k a (remove-some k n 0 (p .files) a (g .names) found .1) refl);
+    file = λ k a found has new. absurd (new k a (remove-some k n 0 (p .files) a (g .catalog .names) found .1) refl);
     sys = λ d. absurd (d refl);
   })
 

@@ -24,7 +24,7 @@ use Rattle.refine.specs.Writes.{takenImage, createdImage, changedImage, appende
 use Rattle.refine.proofs.Sectors.{Same, holds-kept}
 use Rattle.refine.proofs.Ground.{Ground, ground, joined-in, sys-ground, first-in, block-in, place-in, catalog-data, file-data, catalog-file, in-file}
 use Rattle.steps.proofs.ResizeLaws.{Resizes, resliced, remarked, resliced-cases, remarked-size}
-use Rattle.rewrite.specs.Rewrite.{Rewrites, stayed, moved}
+use Rattle.change.specs.Rewrite.{Rewrites, stayed, moved}
 use Rattle.change.specs.Change as change
 use Rattle.demands.proofs.MessageFrames.{Off, OffIndex, layer-keep, entered-keep, created-keep, rewritten-keep, moved-keep, stored-keep}
 use Rattle.demands.proofs.Slack.{changed-file, changed-resizes}
@@ -85,7 +85,7 @@ module _ (p : Plain) (good : Good p) (new : List ℕ) (files : Table File) (area
   pub grown-whole : (i : List ℕ) → 2560 ≤ length i → (t : ℕ) → t < placeCount (p .H) (p .layers) → 0 < length new → Holds (grownSys p i t new) sysIndexSector (wholeIndex (p .F) (p .s) (p .sys ++ new))
   grown-whole i far t inside has =
       let gr : Ground grown = ground grown g′ in
-      holds-kept (taken-whole i sysIndexSector (p .F) (p .s) (omega (arith, far)) (p .sys) new (g′ .sysFew) has)
+      holds-kept (taken-whole i sysIndexSector (p .F) (p .s) (omega (arith, far)) (p .sys) new (g′ .catalog .few) has)
       (layer-keep p good new files areas g′ i far t inside sysIndexSector (omega arith) (λ b h e. omega (arith, catalog-data (sys-ground gr) b (joined-in (sys-ground gr) b (omega (arith, h))) .0)))
 
 -- ---- Create and Set
@@ -99,7 +99,7 @@ module _ (p : Plain) (n : ℕ) (f : File) (g′ : Good (withFiles p (tablePut n 
 
   pub created-whole : 0 < length (f .slices) → Holds (createdImage p (sysOf p) i t n f) (sectorIn (p .F) (p .s) (f .slices) 0) (wholeIndex (p .F) (p .s) (f .slices))
   created-whole has =
-      holds-kept (taken-whole i _ (p .F) (p .s) (omega (arith, index-data g′ n f here has .1)) [] (f .slices) (g′ .files n f here .few) has)
+      holds-kept (taken-whole i _ (p .F) (p .s) (omega (arith, index-data g′ n f here has .1)) [] (f .slices) (g′ .catalog .files n f here .few) has)
       (entered-keep p n f g′ i far t inside _ (index-off g′ n f here has))
 
   pub created-system : Same i (createdImage p (sysOf p) i t n f) sysIndexSector
@@ -131,7 +131,7 @@ module _ (p : Plain) (n : ℕ) (f : File) (lent : List ℕ) (old : InMap (f .sli
       off = index-off g′ m f′ now has
 
       stored : Holds (resliced i q (p .F) (p .s) (f .slices) (f′ .slices)) q (wholeIndex (p .F) (p .s) (f′ .slices))
-      stored = resliced-whole i q (p .F) (p .s) (omega (arith, index-data g′ m f′ now has .1)) (changed-resizes p n f lent) (g′ .files m f′ now .few) d has
+      stored = resliced-whole i q (p .F) (p .s) (omega (arith, index-data g′ m f′ now has .1)) (changed-resizes p n f lent) (g′ .catalog .files m f′ now .few) d has
 
       go : Rewrites i p (c .t) n m f f′ j → Holds j q (wholeIndex (p .F) (p .s) (f′ .slices))
       go (stayed e w) =
@@ -146,6 +146,6 @@ module _ (p : Plain) (n : ℕ) (f f′ : File) (areas : Table (Table AreaUser)) 
   appended-whole some-new has =
       let there = find-put n f′ (p .files) in
       let low : sectorIn (p .F) (p .s) (f .slices ++ new) 0 < p .N = rw e at (index-data g′ n f′ there has .1) in
-      let few : stretchCount (f .slices ++ new) ≤ 127 = rw e at (g′ .files n f′ there .few) in
+      let few : stretchCount (f .slices ++ new) ≤ 127 = rw e at (g′ .catalog .files n f′ there .few) in
       let kept = stored-keep p n f f′ areas i (omega (arith, g′ .limits .first, g′ .limits .some-data)) words short _ (index-off g′ n f′ there has) g′ new more e in
       holds-kept (rw e (taken-whole i _ (p .F) (p .s) (omega arith) (f .slices) new few some-new)) kept

@@ -11,10 +11,8 @@ use borrow.Author.Tests.{eq-eqb, ne-eqb}
 use Rattle.disc.specs.Numbers.{ceilDiv}
 use Rattle.disc.specs.Names.{SYS}
 use Rattle.disc.specs.Stretches.{sysFrom}
-use Rattle.disc.specs.Entries.{placeCount}
 use Rattle.disc.proofs.Compare.{below-or}
 use Rattle.disc.proofs.Geometry.{ceil-cover}
-use Rattle.sound.specs.Parts.{SoundNames}
 use Rattle.catalog.specs.declared.Catalog.{Catalog}
 use Rattle.catalog.specs.declared.Place.{Place}
 use Rattle.catalog.specs.declared.Found.{Found}
@@ -22,7 +20,7 @@ use Rattle.catalog.specs.declared.Found.the-variants.{At, Nothing}
 use Rattle.catalog.specs.Catalog.{entryWord, placeNamed, NamePlace}
 use Rattle.catalog.proofs.PlaceLaws.{found-word}
 use Rattle.kit.specs.declared.Geometry.{Geometry}
-use Rattle.entries.specs.Sys.{sysSlices, placesIn, SysOf, SysIn}
+use Rattle.entries.specs.Sys.{sysSlices, SysNames, SysOf, SysIn}
 use Rattle.entries.specs.Names.{layersBy, fullSys, layersIn, LayersOf}
 use Rattle.entries.proofs.FindLaws.{FirstNamed, sys-in, sys-at, sys-none}
 use Rattle.entries.proofs.NamesLaws.{sound-sys, sound-key, sound-sys-words}
@@ -38,9 +36,6 @@ module _ {image : List ℕ} {g : Geometry} (sys : SysOf image g) {full : Catalog
 
   abbrev slices : List ℕ
   slices = sysSlices image g
-
-  abbrev Names : ℕ → Type 0
-  Names L = SoundNames H s L slices (placesIn image g) (placeCount H L)
 
   keys : 1 ≤ H
   keys = sys .unit .limits .keys-low
@@ -67,7 +62,7 @@ module _ {image : List ℕ} {g : Geometry} (sys : SysOf image g) {full : Catalog
     fits = λ d. absurd (d refl);
     only = λ L p f names.
         let t = names .sysEntered in
-        absurd (sys-none all same found e .lacks (t .place) (omega (arith, within L f, t .inside)) (sound-key _ _ _ _ _ _ names) (sound-sys _ _ _ _ _ _ names));
+        absurd (sys-none all same found e .lacks (t .place) (omega (arith, within L f, t .inside)) (sound-key _ _ _ _ _ names) (sound-sys _ _ _ _ _ names));
   }
 
   -- the length in the first entry of SYS
@@ -78,12 +73,12 @@ module _ {image : List ℕ} {g : Geometry} (sys : SysOf image g) {full : Catalog
     read-by : {c : ℕ} → c ≡ layersBy H s (length slices) size → c ≡ layersIn image g (placeNamed image (fullSys image g) SYS)
     read-by f = f ∙ ap (layersBy H s (length slices)) word ∙ read-as e
 
-    size-is : (L : ℕ) → Names L → size ≡ H * L
+    size-is : (L : ℕ) → SysNames image g L → size ≡ H * L
     size-is L names =
         let t = names .sysEntered in
         below-or (t .place) (first .place)
-        (λ h. absurd (first .earlier (t .place) h (sound-key _ _ _ _ _ _ names) (sound-sys _ _ _ _ _ _ names)))
-        (λ h. word ∙ found-word image (g .first .0) s slices sysFrom first 7 ∙ sound-sys-words _ _ _ _ _ _ names (first .place) (omega (arith, t .inside)) (first .has) .at 7 (lit< tt))
+        (λ h. absurd (first .earlier (t .place) h (sound-key _ _ _ _ _ names) (sound-sys _ _ _ _ _ names)))
+        (λ h. word ∙ found-word image (g .first .0) s slices sysFrom first 7 ∙ sound-sys-words _ _ _ _ _ names (first .place) (omega (arith, t .inside)) (first .has) .at 7 (lit< tt))
 
     module _ {layers : ℕ} (quotient : layers ≡ size / H) where
       layers-is : (L : ℕ) → size ≡ H * L → layers ≡ L

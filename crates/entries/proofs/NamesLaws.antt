@@ -6,6 +6,7 @@ use native.Mathlib.Omega.{arith}
 use lib.Dec.{lit<}
 use Rattle.disc.specs.Names.{keyOf, SYS, MAP}
 use Rattle.disc.specs.Entries.{placeCount, nameAt, sysEntry, mapEntry}
+use Rattle.disc.specs.Catalog as disc
 use Rattle.sound.specs.Places.{Used}
 use Rattle.sound.specs.Parts.{SoundNames}
 use Rattle.catalog.specs.declared.Catalog.{Catalog}
@@ -24,8 +25,17 @@ use Rattle.entries.proofs.FindLaws.{sys-at, sys-none}
 pub named-used : (P : ℕ → ℕ → ℕ) (t : ℕ) → 1 ≤ nameAt P t → Used P t
 named-used P t h u = omega (arith, unused-name u)
 
-module _ (P : ℕ → ℕ → ℕ) (H s L : ℕ) (slices : List ℕ) (count : ℕ) where
-  module _ (n : SoundNames H s L slices P count) where
+module _ (image : List ℕ) (H s F : ℕ) (c : disc.Catalog) where
+  abbrev P : ℕ → ℕ → ℕ
+  P = disc.placesIn image F s c
+
+  abbrev count : ℕ
+  count = disc.placesOf H c
+
+  abbrev own : List ℕ
+  own = sysEntry H s (c .layers) (c .slices)
+
+  module _ (n : SoundNames image H s F c) where
     -- the places in which SYS and MAP are entered have those names
     pub sound-sys : nameAt P (n .sysEntered .place) ≡ SYS
     sound-sys = let e = n .sysEntered in omega (arith, e .holds 0 (lit< tt), e .holds 1 (lit< tt), e .holds 2 (lit< tt))
@@ -37,7 +47,7 @@ module _ (P : ℕ → ℕ → ℕ) (H s L : ℕ) (slices : List ℕ) (count : �
     same-place : (e t x : ℕ) → e < count → t < count → nameAt P e ≡ x → nameAt P t ≡ x → 1 ≤ x → e ≡ t
     same-place e t x he ht a b p = n .alone e t he ht (named-used P e (omega arith)) (named-used P t (omega arith)) (a ∙ sym b)
 
-    pub sound-sys-words : (t : ℕ) → t < count → nameAt P t ≡ SYS → HoldsEntry P t (sysEntry H s L slices)
+    pub sound-sys-words : (t : ℕ) → t < count → nameAt P t ≡ SYS → HoldsEntry P t own
     sound-sys-words t h e =
         let p = n .sysEntered in
         let same = same-place (p .place) t SYS (p .inside) h sound-sys e (lit< tt) in
@@ -49,7 +59,7 @@ module _ (P : ℕ → ℕ → ℕ) (H s L : ℕ) (slices : List ℕ) (count : �
         let same = same-place (p .place) t MAP (p .inside) h sound-map e (lit< tt) in
         record { at = λ w l. ap (λ (x : ℕ). P x w) (sym same) ∙ p .holds w l }
 
-    pub sound-legal : NamesLegal P H (sysEntry H s L slices) count
+    pub sound-legal : NamesLegal P H own count
     sound-legal =
         record {
           places = record {
@@ -73,7 +83,7 @@ module _ (P : ℕ → ℕ → ℕ) (H s L : ℕ) (slices : List ℕ) (count : �
         let p = n .sysEntered in
         n .legal (p .place) (p .inside) (named-used P (p .place) (omega (arith, sound-sys))) .key ∙ ap (keyOf H) sound-sys
 
-  pub names-sound : NamesLegal P H (sysEntry H s L slices) count → NamesAlone P count → SoundNames H s L slices P count
+  pub names-sound : NamesLegal P H own count → NamesAlone P count → SoundNames image H s F c
   names-sound l a =
       let x = l .sysMet in
       let y = l .mapMet in

@@ -51,11 +51,11 @@ module _ {P : ℕ → ℕ → ℕ} {t : ℕ} where
   -- a place named SYS, or MAP, with the entry by which it is judged
   module _ {name other : Name} {m : Bool} (n : NameIn P t name) (test : m ≡ eqb (pack (name .0) (name .1) (name .2)) (pack (other .0) (other .1) (other .2))) where
     pub judged-sys : {r : Bool} (expected : Expected) → NameIs other SYS → m ≡ true
-        → Decides r (HoldsEntry P t (systemEntry (pack (name .0) (name .1) (name .2)) (expected .size) 6 (expected .reserved))) → Decides r (SystemLegal P (ownEntry expected) t)
+        → Decides r (HoldsEntry P t (systemEntry (pack (name .0) (name .1) (name .2)) (expected .size) (expected .catalog .index .0) (expected .reserved))) → Decides r (SystemLegal P (ownEntry expected) t)
     unfolding ownEntry
     judged-sys {r} expected o y d =
         let e : pack (name .0) (name .1) (name .2) ≡ SYS = eqb-true _ _ (sym test ∙ y) ∙ o .packed in
-        let h = subst (λ (x : ℕ). Decides r (HoldsEntry P t (systemEntry x (expected .size) 6 (expected .reserved)))) e d in
+        let h = subst (λ (x : ℕ). Decides r (HoldsEntry P t (systemEntry x (expected .size) (expected .catalog .index .0) (expected .reserved)))) e d in
         let f : nameAt P t ≡ SYS = sym (name-packed n) ∙ e in
         record {
           yes = λ z. record { sysWords = λ _. h .yes z; mapWords = λ x. absurd (omega arith) };

@@ -8,6 +8,7 @@ use native.Mathlib.Numerals.{add-one}
 use lib.ListN.{length}
 use Rattle.disc.specs.Words.{word}
 use Rattle.disc.specs.Stretches.{stretchCount, sectorIn}
+use Rattle.disc.specs.Kit.{sysIndexSector}
 use Rattle.disc.specs.Pairs.{pairLength, pairStart}
 use Rattle.disc.proofs.SliceLaws.{sum-law}
 use Rattle.disc.proofs.IndexLaws.{index-pairs}
@@ -64,9 +65,11 @@ module _ {image : List ℕ} {g : Geometry} (sys : SysOf image g) where
       let e = sys-sector j l h (omega arith) in
       omega (arith, sys-inside (sectorsBefore image 6 j + l) (omega (arith, sys-within j h)), e)
 
-  pub turn : {size b l n start : ℕ} (j : ℕ) → size ≤ g .slice * length (sysSlices image g) → j ≤ word image 6 0 → (b < size → b ≡ sectorsBefore image 6 j) → b < size
-      → l ≡ pairLength image 6 j → n ≡ min l (size - b) → start ≡ pairStart image 6 j → Turn image g size j b n start
-  turn {size} {b} {l} {n} {start} j room low at lt e f i =
+  pub turn : {size b l n start q : ℕ} → q ≡ sysIndexSector → (j : ℕ) → size ≤ g .slice * length (sysSlices image g) → j ≤ word image 6 0 → (b < size → b ≡ sectorsBefore image 6 j) → b < size
+      → l ≡ pairLength image q j → n ≡ min l (size - b) → start ≡ pairStart image q j → Turn image g size j b n start
+  turn {size} {b} {l} {n} {start} own j room low at lt e′ f i′ =
+      let e = e′ ∙ ap (λ (x : ℕ). pairLength image x j) own in
+      let i = i′ ∙ ap (λ (x : ℕ). pairStart image x j) own in
       let x = at lt in
       let h = sys-more j low (omega arith) in
       let p = pair-inside j h in

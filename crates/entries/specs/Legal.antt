@@ -7,7 +7,6 @@ use lib.Dec.{T}
 use Rattle.types.specs.declared.Name.{Name}
 use Rattle.disc.specs.Words.{word}
 use Rattle.disc.specs.Names.{legalName, keyOf, SYS, MAP}
-use Rattle.disc.specs.Kit.{sysIndexSector}
 use Rattle.disc.specs.Entries.{nameAt, systemEntry, mapEntry}
 use Rattle.sound.specs.Places.{Used}
 use Rattle.kit.specs.declared.Geometry.{Geometry}
@@ -31,9 +30,9 @@ pub record NameIn (P : ℕ → ℕ → ℕ) (t : ℕ) (name : Name) : Type 0 whe
 pub record HoldsEntry (P : ℕ → ℕ → ℕ) (t : ℕ) (entry : List ℕ) : Type 0 where
   pub at : (w : ℕ) → w < 16 → P t w ≡ getD entry w 0
 
--- SYS's own entry: "SYS has length H times L", and its reserved sectors.
+-- SYS's own entry: "SYS has length H times L", its index sector, and its reserved sectors.
 unfoldable pub ownEntry : Expected → List ℕ
-ownEntry e = systemEntry SYS (e .size) sysIndexSector (e .reserved)
+ownEntry e = systemEntry SYS (e .size) (e .catalog .index .0) (e .reserved)
 
 -- "SYS and MAP are entered with attributes 8010h, zero optional and tail, index 6 and 7": a place with one of the two names
 -- holds its entry.

@@ -7,15 +7,14 @@ use lib.Dec.{eqb}
 use lib.ListN.{length}
 use Rattle.disc.specs.Numbers.{ceilDiv}
 use Rattle.disc.specs.Names.{SYS, MAP}
-use Rattle.disc.specs.Entries.{placeCount, nameAt}
+use Rattle.disc.specs.Entries.{nameAt}
 use Rattle.sound.specs.Places.{Used}
-use Rattle.sound.specs.Parts.{SoundNames}
 use Rattle.catalog.specs.declared.Catalog.{Catalog}
 use Rattle.catalog.specs.declared.Found.{Found}
 use Rattle.catalog.specs.declared.Found.the-variants.{At, Nothing}
 use Rattle.catalog.specs.Catalog.{sysValue, entryWord, placeNamed}
 use Rattle.kit.specs.declared.Geometry.{Geometry}
-use Rattle.entries.specs.Sys.{sysSlices, placesIn}
+use Rattle.entries.specs.Sys.{sysSlices, SysNames}
 use Rattle.entries.specs.Legal.{PlacesLegal}
 
 -- Some place has the name n.
@@ -53,4 +52,4 @@ pub record LayersOf (image : List ℕ) (g : Geometry) (r : ℕ) : Type 0 where
   pub read : r ≡ layersIn image g (placeNamed image (fullSys image g) SYS)
   pub fits : (r ≡ 0 → ⊥) → (1 ≤ r) × (length (sysSlices image g) ≡ ceilDiv (g .keys * r) (g .slice))
   pub only : (L : ℕ) → 1 ≤ L → length (sysSlices image g) ≡ ceilDiv (g .keys * L) (g .slice)
-      → SoundNames (g .keys) (g .slice) L (sysSlices image g) (placesIn image g) (placeCount (g .keys) L) → r ≡ L
+      → SysNames image g L → r ≡ L

@@ -5,6 +5,7 @@ ghost use Prim.Native.Nat.{_+_, _*_, _/_, _%_, _≤_, _<_, min};
 ghost use lib.ListN.{length};
 ghost use Rattle.disc.specs.Decide.{Decides};
 ghost use Rattle.disc.specs.Names.{pack, keyOf};
+ghost use Rattle.disc.specs.Kit.{sysIndexSector};
 ghost use Rattle.disc.specs.Entries.{systemEntry};
 ghost use Rattle.names.specs.Classes.{ClassesOf};
 ghost use Rattle.sound.specs.Places.{Unused};
@@ -29,12 +30,12 @@ pub struct Expected {
     pub reserved: u16,
 }
 
-// The sectors of all of SYS's slices.
-pub fn sys_sectors(image: &[u16], g: Geometry) -> u16
-    requires { ⌜ SysOf (now image) g ⌝ }
+// The sectors of all of SYS's slices, which the index block in sector q describes.
+pub fn sys_sectors(image: &[u16], g: Geometry, q: Sector) -> u16
+    requires { ⌜ SysOf (now image) g × (q .0 ≡ sysIndexSector) ⌝ }
     ensures { λ r. ⌜ r ≡ g .slice * length (sysSlices (now (image .entry)) g) ⌝ }
 {
-    index::sector_total_at(image, Sector(6)) as u16
+    index::sector_total_at(image, q) as u16
 }
 
 // Whether the sixteen words of place i of sector q are 0; the bits of all are gathered, with no exit on the way.
@@ -90,7 +91,8 @@ fn is_entry(
     reserved: u16,
 ) -> bool
     requires { ⌜ (q .0 * 256 + 256 ≤ length (now image)) × (i < 16) ⌝ }
-    ensures { λ r. ⌜ Decides r (HoldsEntry (sectorPlaces (now (image .entry)) (q .0)) i (systemEntry (pack (name .0) (name .1) (name .2)) size (index .0) reserved)) ⌝ }
+    ensures { λ r. ⌜ Decides r (HoldsEntry (sectorPlaces (now (image .entry)) (q .0)) i
+        (systemEntry (pack (name .0) (name .1) (name .2)) size (index .0) reserved)) ⌝ }
 {
     let entry = catalog::system_entry(name, size, index, reserved);
     holds_entry(image, q, i, &entry)
@@ -102,13 +104,14 @@ fn named_legal(image: &[u16], q: Sector, i: usize, name: Name, expected: Expecte
     ensures { λ r. ⌜ Decides r (SystemLegal (sectorPlaces (now (image .entry)) (q .0)) (ownEntry expected) i) ⌝ }
 {
     if names::same_name(name, names::sys_name()) {
+        let sys = expected.catalog;
         return is_entry(
             image,
             q,
             i,
             name,
             expected.size,
-            Sector(6),
+            sys.index,
             expected.reserved,
         );
     }
@@ -162,7 +165,8 @@ pub fn place_legal(
     classes: &[u8; 256],
 ) -> bool
     requires { ⌜ (q .0 * 256 + 256 ≤ length (now image)) × (i < 16) × (key < expected .catalog .keys) × ClassesOf (now classes) ⌝ }
-    ensures { λ r. ⌜ Decides r (PlaceLegal (sectorPlaces (now (image .entry)) (q .0)) (expected .catalog .keys) key (ownEntry expected) i) ⌝ }
+    ensures { λ r. ⌜ Decides r
+        (PlaceLegal (sectorPlaces (now (image .entry)) (q .0)) (expected .catalog .keys) key (ownEntry expected) i) ⌝ }
 {
     let name = place_name(image, q, i);
     if name.0 == 0 {
@@ -200,7 +204,8 @@ pub fn lesser(a: u16, b: u16) -> u16
 
 // Whether SYS and MAP are entered too, where every place of SYS is legal.
 pub fn system_entered(image: &[u16], g: Geometry, expected: Expected) -> bool
-    requires { ⌜ Judging (now image) g expected (expected .size) × PlacesLegal (placesIn (now image) g) (g .keys) (ownEntry expected) (16 * expected .size) ⌝ }
+    requires { ⌜ Judging (now image) g expected (expected .size)
+        × PlacesLegal (placesIn (now image) g) (g .keys) (ownEntry expected) (16 * expected .size) ⌝ }
     ensures { λ r. ⌜ Decides r (NamesLegal (placesIn (now (image .entry)) g) (g .keys) (ownEntry expected) (16 * expected .size)) ⌝ }
 {
     let sys = expected.catalog;
@@ -219,7 +224,7 @@ pub fn find_layers(image: &[u16], g: Geometry) -> u16
     ensures { λ r. ⌜ LayersOf (now (image .entry)) g r ⌝ }
 {
     let keys = g.keys;
-    let reserved = sys_sectors(image, g);
+    let reserved = sys_sectors(image, g, Sector(6));
     let full = catalog::sys(keys, reserved / keys);
     let Found::At(place) = catalog::find(image, full, names::sys_name()) else {
         return 0;

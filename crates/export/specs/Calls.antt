@@ -10,7 +10,8 @@ use Rattle.types.specs.declared.Answer.{Answer}
 use Rattle.types.specs.declared.Operation.{Operation}
 use Rattle.types.specs.declared.Operation.the-variants.{Reserve, Position, Sense, Transput, Other}
 use Rattle.types.specs.declared.Message.{Message}
-use Rattle.types.specs.declared.Message.the-variants.{Init, Set, Create, LookUp, Change, Remove, CreateArea, RemoveArea, AreaMessage, UnitDescription, Listing}
+use Rattle.types.specs.declared.Message.the-variants.{Init, Set, Create, LookUp, Change, Remove}
+use Rattle.types.specs.declared.Message.the-variants.{CreateArea, RemoveArea, AreaMessage, UnitDescription, Listing}
 use Rattle.refine.specs.Demands.{Performed}
 use Rattle.perform.specs.Perform.{performed, Performs}
 use Rattle.format.specs.declared.Formatted.{Formatted}
@@ -44,7 +45,8 @@ numbered call m =
     cond (eqb call 5) (asked.Call (Remove (nameOf (m .name)))) (
     cond (eqb call 6) (asked.Call (CreateArea (nameOf (m .name)))) (
     cond (eqb call 7) (asked.Call (RemoveArea (nameOf (m .name)))) (
-    cond (eqb call 8) (asked.Call (AreaMessage (nameOf (m .name)) (m .sender) (operationOf (m .operation) (m .number) (m .bytes) (m .block)))) (
+    cond (eqb call 8)
+    (asked.Call (AreaMessage (nameOf (m .name)) (m .sender) (operationOf (m .operation) (m .number) (m .bytes) (m .block)))) (
     cond (eqb call 9) (asked.Call (UnitDescription (m .unit) (m .bytes))) (
     cond (eqb call 10) (asked.Call (Listing (m .unit))) asked.NoSuchCall))))))))))
 

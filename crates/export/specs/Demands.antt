@@ -33,8 +33,9 @@ use Rattle.export.specs.Runs.{UnitContract, UnitFormatContract, UnitCall
 -- Which words of the mirror a refused call changes: none, "save the sender's position where document 01 says so".
 pub data MirrorLeft (state next : UnitState) : Asked → Type 0 where
   everything : {a : Asked} → next ≡ state → MirrorLeft state next a
-  butPosition : {name : Name} {sender : ℕ} {operation : Operation} → Moves operation → (j u k : ℕ) → areaNamed (named name) (stateOf state) ≡ At j
-      → entryOf sender (areaAt (stateOf state) j) ≡ At u → next ≡ positioned state j u k → MirrorLeft state next (asked.Call (AreaMessage name sender operation))
+  butPosition : {name : Name} {sender : ℕ} {operation : Operation} → Moves operation → (j u k : ℕ)
+      → areaNamed (named name) (stateOf state) ≡ At j → entryOf sender (areaAt (stateOf state) j) ≡ At u → next ≡ positioned state j u k
+      → MirrorLeft state next (asked.Call (AreaMessage name sender operation))
 
 -- "No word of image, state or lent record changes, save the sender's position"; "returned byte counts are 0".
 pub record UnitRefused (image : List ℕ) (state : UnitState) (message : UnitMessage) (lent : List ℕ) (r : UnitPerformed) : Type 0 where
@@ -47,46 +48,53 @@ pub record UnitRefused (image : List ℕ) (state : UnitState) (message : UnitMes
 -- One of the calls is answered as demand 1 says, and of the mirror every word stays that stands for the same value; a number that no call
 -- has is answered FFFFh, and nothing changes.
 pub data UnitAnswered (image : List ℕ) (state : UnitState) (message : UnitMessage) (lent : List ℕ) (r : UnitPerformed) : Type 0 where
-  call : (m : Message) → askedOf message ≡ asked.Call m → Answered image (stateOf state) m lent (performedOf r) → r .state ≡ remirrored state (stateOf (r .state))
-      → UnitAnswered image state message lent r
+  call : (m : Message) → askedOf message ≡ asked.Call m → Answered image (stateOf state) m lent (performedOf r)
+      → r .state ≡ remirrored state (stateOf (r .state)) → UnitAnswered image state message lent r
   noSuchCall : askedOf message ≡ asked.NoSuchCall → NotCalled image state lent r → UnitAnswered image state message lent r
 
 pub record UnitDemand1 (C : UnitContract) (F : UnitFormatContract) : Type 0 where
   -- the numbers of the calls are 0 to 10
   pub numbers : (message : UnitMessage) → (10 < message .call) ↔ (askedOf message ≡ asked.NoSuchCall)
-  pub call : {image : List ℕ} {state : UnitState} {message : UnitMessage} {lent : List ℕ} {r : UnitPerformed} → C image state message lent r → UnitAnswered image state message lent r
+  pub call : {image : List ℕ} {state : UnitState} {message : UnitMessage} {lent : List ℕ} {r : UnitPerformed}
+      → C image state message lent r → UnitAnswered image state message lent r
   -- so every call of a list
-  pub every : {image end : List ℕ} {state stop : UnitState} {calls : List UnitCall} {replies : List UnitReply} → UnitRun C image state calls replies end stop
-      → UnitRun UnitAnswered image state calls replies end stop
+  pub every : {image end : List ℕ} {state stop : UnitState} {calls : List UnitCall} {replies : List UnitReply}
+      → UnitRun C image state calls replies end stop → UnitRun UnitAnswered image state calls replies end stop
   -- a word other than 0: no word of image, mirror and lent words changes, save the sender's position
-  pub refused : {image : List ℕ} {state : UnitState} {message : UnitMessage} {lent : List ℕ} {r : UnitPerformed} → C image state message lent r → r .answer .result ≢ 0
-      → UnitRefused image state message lent r
+  pub refused : {image : List ℕ} {state : UnitState} {message : UnitMessage} {lent : List ℕ} {r : UnitPerformed}
+      → C image state message lent r → r .answer .result ≢ 0 → UnitRefused image state message lent r
   pub format : {image : List ℕ} {state : UnitState} {bytes : ℕ} {lent : List ℕ} {r : UnitFormatted} → F image state bytes lent r
       → FormatAnswer image (stateOf state) bytes lent (r .image) (formattedOf r) × (r .state ≡ remirrored state (stateOf (r .state)))
-  pub format-refused : {image : List ℕ} {state : UnitState} {bytes : ℕ} {lent : List ℕ} {r : UnitFormatted} → F image state bytes lent r → r .result ≢ 0
-      → (r .image ≡ image) × (r .state ≡ state)
+  pub format-refused : {image : List ℕ} {state : UnitState} {bytes : ℕ} {lent : List ℕ} {r : UnitFormatted}
+      → F image state bytes lent r → r .result ≢ 0 → (r .image ≡ image) × (r .state ≡ state)
   -- every word of answer, image, mirror and lent words is determined; a listing's order too, by document 02, R-1
-  pub determined : {image : List ℕ} {state : UnitState} {message : UnitMessage} {lent : List ℕ} {r q : UnitPerformed} → C image state message lent r → C image state message lent q → r ≡ q
-  pub format-determined : {image : List ℕ} {state : UnitState} {bytes : ℕ} {lent : List ℕ} {r q : UnitFormatted} → F image state bytes lent r → F image state bytes lent q → r ≡ q
+  pub determined : {image : List ℕ} {state : UnitState} {message : UnitMessage} {lent : List ℕ} {r q : UnitPerformed}
+      → C image state message lent r → C image state message lent q → r ≡ q
+  pub format-determined : {image : List ℕ} {state : UnitState} {bytes : ℕ} {lent : List ℕ} {r q : UnitFormatted}
+      → F image state bytes lent r → F image state bytes lent q → r ≡ q
 
 -- ---- demand 2: as `Demand2`, of the states that the mirrors stand for
 
 pub record UnitDemand2 (C : UnitContract) (F : UnitFormatContract) : Type 0 where
   -- "Init, on a known unit with no area process, accepts exactly the images that meet document 01's rules of a sound unit"
-  pub exactly : {image : List ℕ} {state : UnitState} {message : UnitMessage} {unit : ℕ} {lent : List ℕ} {r : UnitPerformed} → C image state message lent r
-      → askedOf message ≡ asked.Call (Init unit) → Known (stateOf state) (Init unit) → (r .answer .result ≡ 0) ↔ SoundUnit image (stateOf state)
+  pub exactly : {image : List ℕ} {state : UnitState} {message : UnitMessage} {unit : ℕ} {lent : List ℕ} {r : UnitPerformed}
+      → C image state message lent r → askedOf message ≡ asked.Call (Init unit) → Known (stateOf state) (Init unit)
+      → (r .answer .result ≡ 0) ↔ SoundUnit image (stateOf state)
   -- and no other unit
-  pub only : {image : List ℕ} {state : UnitState} {message : UnitMessage} {unit : ℕ} {lent : List ℕ} {r : UnitPerformed} → C image state message lent r
-      → askedOf message ≡ asked.Call (Init unit) → r .answer .result ≡ 0 → Known (stateOf state) (Init unit)
+  pub only : {image : List ℕ} {state : UnitState} {message : UnitMessage} {unit : ℕ} {lent : List ℕ} {r : UnitPerformed}
+      → C image state message lent r → askedOf message ≡ asked.Call (Init unit) → r .answer .result ≡ 0 → Known (stateOf state) (Init unit)
   -- on accepting it leaves the image, and the state with which demand 3's list begins
-  pub accepted : {image : List ℕ} {state : UnitState} {message : UnitMessage} {unit : ℕ} {lent : List ℕ} {r : UnitPerformed} → C image state message lent r
-      → askedOf message ≡ asked.Call (Init unit) → r .answer .result ≡ 0 → (r .image ≡ image) × AcceptedState (stateOf (r .state)) × SoundUnit (r .image) (stateOf (r .state))
+  pub accepted : {image : List ℕ} {state : UnitState} {message : UnitMessage} {unit : ℕ} {lent : List ℕ} {r : UnitPerformed}
+      → C image state message lent r → askedOf message ≡ asked.Call (Init unit) → r .answer .result ≡ 0
+      → (r .image ≡ image) × AcceptedState (stateOf (r .state)) × SoundUnit (r .image) (stateOf (r .state))
   -- "and every image that Format .. writes meets them again"
-  pub format : {image : List ℕ} {state : UnitState} {bytes : ℕ} {lent : List ℕ} {r : UnitFormatted} → Words image → Words lent → F image state bytes lent r → r .result ≡ 0
+  pub format : {image : List ℕ} {state : UnitState} {bytes : ℕ} {lent : List ℕ} {r : UnitFormatted}
+      → Words image → Words lent → F image state bytes lent r → r .result ≡ 0
       → SoundUnit (r .image) (stateOf (r .state)) × Known (stateOf (r .state)) (Init (r .state .unit))
   -- "or a later call writes meets them again, together with the open area processes": after every list of C calls, Format and numbers
   -- that no call has among them
-  pub later : {image end : List ℕ} {state stop : UnitState} → SoundUnit image (stateOf state) → UnitLater C F image state end stop → SoundUnit end (stateOf stop)
+  pub later : {image end : List ℕ} {state stop : UnitState} → SoundUnit image (stateOf state) → UnitLater C F image state end stop
+      → SoundUnit end (stateOf stop)
   -- and whatever stood there before: after every such list no word of image and mirror has changed, or the rules are met
   pub written : {image end : List ℕ} {state stop : UnitState} → Words image → UnitLater C F image state end stop
       → ((end ≡ image) × (stop ≡ state)) ⊎ SoundUnit end (stateOf stop)
@@ -94,7 +102,8 @@ pub record UnitDemand2 (C : UnitContract) (F : UnitFormatContract) : Type 0 wher
 -- ---- demand 3
 
 -- Demand 3 of the calls that a list of C calls stands for.
-pub record UnitDemand3After (image : List ℕ) (state : UnitState) (calls : List UnitCall) (replies : List UnitReply) (end : List ℕ) (stop : UnitState) : Type 0 where
+pub record UnitDemand3After (image : List ℕ) (state : UnitState) (calls : List UnitCall) (replies : List UnitReply) (end : List ℕ)
+    (stop : UnitState) : Type 0 where
   pub plain : List Call
   pub answered : List Reply
   pub stand-for : StandFor calls replies plain answered
@@ -105,8 +114,10 @@ pub record UnitDemand3 (C : UnitContract) : Type 0 where
       → SoundUnit image (stateOf state) → AcceptedState (stateOf state) → UnitLentWords calls → UnitRun C image state calls replies end stop
       → UnitDemand3After image state calls replies end stop
   -- the same said of an accepted Init, without a word about the state that it left
-  pub after-init : {image end : List ℕ} {state stop : UnitState} {message : UnitMessage} {unit : ℕ} {words : List ℕ} {r : UnitPerformed} {calls : List UnitCall} {replies : List UnitReply}
-      → C image state message words r → askedOf message ≡ asked.Call (Init unit) → r .answer .result ≡ 0 → UnitLentWords calls → UnitRun C (r .image) (r .state) calls replies end stop
+  pub after-init : {image end : List ℕ} {state stop : UnitState} {message : UnitMessage} {unit : ℕ} {words : List ℕ}
+      {r : UnitPerformed} {calls : List UnitCall} {replies : List UnitReply}
+      → C image state message words r → askedOf message ≡ asked.Call (Init unit) → r .answer .result ≡ 0 → UnitLentWords calls
+      → UnitRun C (r .image) (r .state) calls replies end stop
       → UnitDemand3After (r .image) (r .state) calls replies end stop
 
 -- ---- the three demands

@@ -114,7 +114,8 @@ pub record Arrays (m : UnitState) : Type 0 where
   pub name : (j : ℕ) → j < 8 → length (mirrorArea m j .name) ≡ 3
   pub users : (j : ℕ) → j < 8 → length (mirrorArea m j .users) ≡ 3
 
--- What is claimed of the mirror that is left: it stands for the new state, and where the state stays, or but for a position, so do its words.
+-- What is claimed of the mirror that is left: it stands for the new state, and where the state stays, or but for a position, so do its
+-- words.
 pub record MirrorClaims : Type 0 where
   pub stands : (m : UnitState) (s : State) → Shaped s → stateOf (remirrored m s) ≡ s
   pub kept : (m : UnitState) → Arrays m → remirrored m (stateOf m) ≡ m

@@ -3,7 +3,8 @@
 ghost use mathlib.Core.Path.{_≡_};
 ghost use Rattle.disc.specs.Decide.{Decides};
 ghost use Rattle.sound.specs.Sound.{SoundUnit};
-ghost use Rattle.export.specs.Mirror.{isSet, roleOf, userOf, areaOf, stateOf, setWord, lowestNumber, roleNumber, remirroredUser, remirroredArea, remirrored};
+ghost use Rattle.export.specs.Mirror.{isSet, roleOf, userOf, areaOf, stateOf};
+ghost use Rattle.export.specs.Mirror.{setWord, lowestNumber, roleNumber, remirroredUser, remirroredArea, remirrored};
 ghost use Rattle.export.specs.Calls.{operationOf, askedOf, answerOf, unitPerformed, UnitPerforms, unitFormatted, UnitFormats};
 use types::Answer;
 use types::Area;
@@ -312,7 +313,8 @@ pub extern "C" fn ruzkemp_sound(image: &[u16], state: UnitState) -> bool
 
 // One call with the mirror by value.
 fn step(state: UnitState, image: &mut [u16], lent: &mut [u16], message: UnitMessage) -> UnitOutcome
-    ensures { λ r. ⌜ UnitPerforms (now (image .entry)) state message (now (lent .entry)) (unitPerformed (now (image .exit)) (r .state) (r .answer) (now (lent .exit))) ⌝ }
+    ensures { λ r. ⌜ UnitPerforms (now (image .entry)) state message (now (lent .entry))
+        (unitPerformed (now (image .exit)) (r .state) (r .answer) (now (lent .exit))) ⌝ }
 {
     let Asked::Call(asked) = asked_of(message) else {
         return UnitOutcome {
@@ -344,7 +346,8 @@ pub extern "C" fn ruzkemp_perform(
     lent: &mut [u16],
     message: UnitMessage,
 ) -> UnitAnswer
-    ensures { λ r. ⌜ UnitPerforms (now (image .entry)) (now (state .entry)) message (now (lent .entry)) (unitPerformed (now (image .exit)) (now (state .exit)) r (now (lent .exit))) ⌝ }
+    ensures { λ r. ⌜ UnitPerforms (now (image .entry)) (now (state .entry)) message (now (lent .entry))
+        (unitPerformed (now (image .exit)) (now (state .exit)) r (now (lent .exit))) ⌝ }
 {
     let s = *state;
     let o = step(s, image, lent, message);
@@ -354,7 +357,8 @@ pub extern "C" fn ruzkemp_perform(
 
 // Format with the mirror by value.
 fn format_step(state: UnitState, image: &mut [u16], lent: &[u16], bytes: u16) -> FormatOutcome
-    ensures { λ r. ⌜ UnitFormats (now (image .entry)) state bytes (now (lent .entry)) (unitFormatted (now (image .exit)) (r .state) (r .result)) ⌝ }
+    ensures { λ r. ⌜ UnitFormats (now (image .entry)) state bytes (now (lent .entry))
+        (unitFormatted (now (image .exit)) (r .state) (r .result)) ⌝ }
 {
     let own = state_of(state);
     let o = format::format(image, own, bytes, lent);
@@ -373,7 +377,8 @@ pub extern "C" fn ruzkemp_format(
     lent: &[u16],
     bytes: u16,
 ) -> u16
-    ensures { λ r. ⌜ UnitFormats (now (image .entry)) (now (state .entry)) bytes (now (lent .entry)) (unitFormatted (now (image .exit)) (now (state .exit)) r) ⌝ }
+    ensures { λ r. ⌜ UnitFormats (now (image .entry)) (now (state .entry)) bytes (now (lent .entry))
+        (unitFormatted (now (image .exit)) (now (state .exit)) r) ⌝ }
 {
     let s = *state;
     let o = format_step(s, image, lent, bytes);

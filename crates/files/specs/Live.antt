@@ -29,11 +29,15 @@ indexBy live booked = cond (live .opened) (live .index .0) booked
 abbrev pub lengthBy : Live → ℕ → ℕ
 lengthBy live booked = cond (live .opened) (live .length) booked
 
+-- What the numbers j of the lists say of an area process.
+abbrev pub liveAt : List ℕ → List ℕ → ℕ → Live
+liveAt indexes lengths j = record { opened = true; index = record { 0 = getD indexes j 0 }; length = getD lengths j 0 }
+
 -- The first of n names, from name j on, that is the given one.
 unfoldable pub liveFrom : List ℕ → List ℕ → List ℕ → ℕ → ℕ → ℕ → Live
 liveFrom names indexes lengths name j zero = closedFile
 liveFrom names indexes lengths name j (suc n) =
-    cond (eqb (getD names j 0) name) (record { opened = true; index = record { 0 = getD indexes j 0 }; length = getD lengths j 0 }) (liveFrom names indexes lengths name (suc j) n)
+    cond (eqb (getD names j 0) name) (liveAt indexes lengths j) (liveFrom names indexes lengths name (suc j) n)
 
 -- The same among the first `upto` names.
 unfoldable pub liveIn : List ℕ → List ℕ → List ℕ → ℕ → ℕ → Live

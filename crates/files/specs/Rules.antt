@@ -59,13 +59,15 @@ pub record DataSector (g : Geometry) (q : ℕ) : Type 0 where
 -- they are marked, and the answer has their number.
 pub record OwnMarking (image : List ℕ) (g : Geometry) (q : ℕ) (before after : List ℕ) (answer : Indexed) : Type 0 where
   pub marking : (held : List ℕ) → Marked (g .slices) before held
-      → Marking (answer .good) (OwnIfAny image (g .first .0) (g .slice) q) (g .slices) after held (slicesFrom image (g .first .0) (g .slice) q)
+      → Marking (answer .good) (OwnIfAny image (g .first .0) (g .slice) q) (g .slices) after held
+      (slicesFrom image (g .first .0) (g .slice) q)
   pub slices : answer .good ≡ true → answer .slices ≡ length (slicesFrom image (g .first .0) (g .slice) q)
 
 -- The same of the file with all its rules.
 pub record FileMarking (image : List ℕ) (g : Geometry) (entry : Entry) (live : Live) (before after : List ℕ) (answer : Bool) : Type 0 where
   pub marking : (held : List ℕ) → Marked (g .slices) before held
-      → Marking answer (FileRules image (g .first .0) (g .slice) entry live) (g .slices) after held (fileSlices image (g .first .0) (g .slice) entry live)
+      → Marking answer (FileRules image (g .first .0) (g .slice) entry live) (g .slices) after held
+      (fileSlices image (g .first .0) (g .slice) entry live)
 
 -- What the numbers of the entry of a closed file with some slices say beside its index block.
 pub record PlainNumbers (entry : Entry) : Type 0 where

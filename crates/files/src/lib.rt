@@ -9,14 +9,15 @@ ghost use lib.ListN.{length};
 ghost use Rattle.disc.specs.Decide.{Decides};
 ghost use Rattle.disc.specs.Entries.{placeCount, nameBy};
 ghost use Rattle.sound.specs.Places.{Booked};
-ghost use Rattle.sound.specs.Sound.{slicesBelow};
 ghost use Rattle.sound.specs.Parts.{Marking, MarksOf};
 ghost use Rattle.files.specs.Live.{indexBy, lengthBy, liveIn, openName, nameCell, CellsOf, FlatOf, OpenUpto};
 ghost use Rattle.kit.specs.Geometry.{UnitOf};
 ghost use Rattle.marks.specs.Marked.{SomeMarked};
 ghost use Rattle.entries.specs.Sys.{sysSlices, placesIn};
-ghost use Rattle.files.specs.Walk.{placesFrom, PlaceMarking, PlacesMarking, SysKnown, NamesKnown, OrdinaryPlace, OrdinaryPlaces, PlainMarking, PlainPlaces, SoundFiles};
+ghost use Rattle.files.specs.Walk.{placesFrom, PlaceMarking, PlacesMarking, SysMarked, NamesKnown, SysFiles, sysHeld};
+ghost use Rattle.files.specs.Walk.{OrdinaryPlace, OrdinaryPlaces, PlainMarking, PlainPlaces};
 ghost use Rattle.files.specs.Rules.{wordsAt, entryAt, FileNumbers, DataSector, OwnMarking, FileMarking, PlainNumbers, ClosedMarking};
+use catalog::Catalog;
 use kit::Geometry;
 use marks::Indexed;
 use types::Area;
@@ -253,7 +254,8 @@ fn own_index(image: &[u16], q: Sector, g: Geometry, marks: &mut [u8; 4096]) -> I
 // Judges the file whose entry stands at a word of the image, and marks its slices.
 fn file_sound(image: &[u16], at: usize, live: Live, g: Geometry, marks: &mut [u8; 4096]) -> bool
     requires { ⌜ UnitOf (now image) g × SomeMarked (g .slices) (now marks) × (at + 16 ≤ length (now image)) ⌝ }
-    ensures { λ r. ⌜ FileMarking (now (image .entry)) g (entryAt (now (image .entry)) at) live (now (marks .entry)) (now (marks .exit)) r ⌝ }
+    ensures { λ r. ⌜ FileMarking (now (image .entry)) g (entryAt (now (image .entry)) at) live
+        (now (marks .entry)) (now (marks .exit)) r ⌝ }
 {
     let entry = entry_at(image, at);
     let found = own_index(image, live_index(live, entry.index), g, marks);
@@ -284,7 +286,8 @@ fn plain_file(
     reciprocal: u32,
     marks: &mut [u8; 4096],
 ) -> bool
-    requires { ⌜ UnitOf (now image) g × SomeMarked (g .slices) (now marks) × (at + 16 ≤ length (now image)) × (reciprocal ≡ 65536 / g .slice + 1) ⌝ }
+    requires { ⌜ UnitOf (now image) g × SomeMarked (g .slices) (now marks) × (at + 16 ≤ length (now image))
+        × (reciprocal ≡ 65536 / g .slice + 1) ⌝ }
     ensures { λ r. ⌜ ClosedMarking (now (image .entry)) g (entryAt (now (image .entry)) at) (now (marks .entry)) (now (marks .exit)) r ⌝ }
 {
     let entry = entry_at(image, at);
@@ -314,7 +317,8 @@ fn place_sound(
     marks: &mut [u8; 4096],
 ) -> bool
     requires { ⌜ UnitOf (now image) g × SomeMarked (g .slices) (now marks) × (at + 16 ≤ length (now image)) × (upto ≤ 8) ⌝ }
-    ensures { λ r. ⌜ PlaceMarking (now (image .entry)) g (liveIn (now (names .entry)) (now (indexes .entry)) (now (lengths .entry)) upto) (wordsAt (now (image .entry)) at) (now (marks .entry)) (now (marks .exit)) r ⌝ }
+    ensures { λ r. ⌜ PlaceMarking (now (image .entry)) g (liveIn (now (names .entry)) (now (indexes .entry)) (now (lengths .entry)) upto)
+        (wordsAt (now (image .entry)) at) (now (marks .entry)) (now (marks .exit)) r ⌝ }
 {
     let name = name_at(image, at);
     if name == 0 {
@@ -336,7 +340,8 @@ fn plain_place(
     reciprocal: u32,
     marks: &mut [u8; 4096],
 ) -> bool
-    requires { ⌜ UnitOf (now image) g × SomeMarked (g .slices) (now marks) × (at + 16 ≤ length (now image)) × (reciprocal ≡ 65536 / g .slice + 1) × OrdinaryPlace (wordsAt (now image) at) ⌝ }
+    requires { ⌜ UnitOf (now image) g × SomeMarked (g .slices) (now marks) × (at + 16 ≤ length (now image))
+        × (reciprocal ≡ 65536 / g .slice + 1) × OrdinaryPlace (wordsAt (now image) at) ⌝ }
     ensures { λ r. ⌜ PlainMarking (now (image .entry)) g (wordsAt (now (image .entry)) at) (now (marks .entry)) (now (marks .exit)) r ⌝ }
 {
     let first = g.first;
@@ -357,8 +362,10 @@ fn guarded_run(
     g: Geometry,
     marks: &mut [u8; 4096],
 ) -> usize
-    requires { ⌜ UnitOf (now image) g × SomeMarked (g .slices) (now marks) × (at + 16 * count ≤ length (now image)) × OrdinaryPlaces (placesFrom (now image) at) count ⌝ }
-    ensures { λ r. ⌜ PlainPlaces (now (image .entry)) g (placesFrom (now (image .entry)) at) count upto (now (cells .entry)) (now (marks .entry)) (now (marks .exit)) r ⌝ }
+    requires { ⌜ UnitOf (now image) g × SomeMarked (g .slices) (now marks) × (at + 16 * count ≤ length (now image))
+        × OrdinaryPlaces (placesFrom (now image) at) count ⌝ }
+    ensures { λ r. ⌜ PlainPlaces (now (image .entry)) g (placesFrom (now (image .entry)) at) count upto (now (cells .entry))
+        (now (marks .entry)) (now (marks .exit)) r ⌝ }
 {
     let reciprocal = numbers::reciprocal(g.slice);
     let mut i: usize = 0;
@@ -385,8 +392,10 @@ fn plain_run(
     g: Geometry,
     marks: &mut [u8; 4096],
 ) -> usize
-    requires { ⌜ UnitOf (now image) g × SomeMarked (g .slices) (now marks) × (at + 16 * count ≤ length (now image)) × OrdinaryPlaces (placesFrom (now image) at) count ⌝ }
-    ensures { λ r. ⌜ PlainPlaces (now (image .entry)) g (placesFrom (now (image .entry)) at) count upto (now (cells .entry)) (now (marks .entry)) (now (marks .exit)) r ⌝ }
+    requires { ⌜ UnitOf (now image) g × SomeMarked (g .slices) (now marks) × (at + 16 * count ≤ length (now image))
+        × OrdinaryPlaces (placesFrom (now image) at) count ⌝ }
+    ensures { λ r. ⌜ PlainPlaces (now (image .entry)) g (placesFrom (now (image .entry)) at) count upto (now (cells .entry))
+        (now (marks .entry)) (now (marks .exit)) r ⌝ }
 {
     if upto != 0 {
         return guarded_run(image, at, count, upto, cells, g, marks);
@@ -416,8 +425,10 @@ fn rest_sound(
     g: Geometry,
     marks: &mut [u8; 4096],
 ) -> bool
-    requires { ⌜ UnitOf (now image) g × SomeMarked (g .slices) (now marks) × (at + 16 * count ≤ length (now image)) × (upto ≤ 8) × CellsOf (now names) upto (now cells) × OrdinaryPlaces (placesFrom (now image) at) count ⌝ }
-    ensures { λ r. ⌜ PlacesMarking (now (image .entry)) g (liveIn (now (names .entry)) (now (indexes .entry)) (now (lengths .entry)) upto) (placesFrom (now (image .entry)) at) count (now (marks .entry)) (now (marks .exit)) r ⌝ }
+    requires { ⌜ UnitOf (now image) g × SomeMarked (g .slices) (now marks) × (at + 16 * count ≤ length (now image)) × (upto ≤ 8)
+        × CellsOf (now names) upto (now cells) × OrdinaryPlaces (placesFrom (now image) at) count ⌝ }
+    ensures { λ r. ⌜ PlacesMarking (now (image .entry)) g (liveIn (now (names .entry)) (now (indexes .entry)) (now (lengths .entry)) upto)
+        (placesFrom (now (image .entry)) at) count (now (marks .entry)) (now (marks .exit)) r ⌝ }
 {
     let mut i: usize = 0;
     while i < count {
@@ -443,8 +454,10 @@ fn run_sound(
     g: Geometry,
     marks: &mut [u8; 4096],
 ) -> bool
-    requires { ⌜ UnitOf (now image) g × SomeMarked (g .slices) (now marks) × (at + 16 * count ≤ length (now image)) × (upto ≤ 8) × CellsOf (now names) upto (now cells) × OrdinaryPlaces (placesFrom (now image) at) count ⌝ }
-    ensures { λ r. ⌜ PlacesMarking (now (image .entry)) g (liveIn (now (names .entry)) (now (indexes .entry)) (now (lengths .entry)) upto) (placesFrom (now (image .entry)) at) count (now (marks .entry)) (now (marks .exit)) r ⌝ }
+    requires { ⌜ UnitOf (now image) g × SomeMarked (g .slices) (now marks) × (at + 16 * count ≤ length (now image)) × (upto ≤ 8)
+        × CellsOf (now names) upto (now cells) × OrdinaryPlaces (placesFrom (now image) at) count ⌝ }
+    ensures { λ r. ⌜ PlacesMarking (now (image .entry)) g (liveIn (now (names .entry)) (now (indexes .entry)) (now (lengths .entry)) upto)
+        (placesFrom (now (image .entry)) at) count (now (marks .entry)) (now (marks .exit)) r ⌝ }
 {
     let n = plain_run(image, at, count, upto, cells, g, marks);
     rest_sound(
@@ -461,10 +474,10 @@ fn run_sound(
     )
 }
 
-// Judges the places of the first `size` blocks of SYS, stretch by stretch.
+// Judges the places of all blocks of SYS, stretch by stretch.
 fn stretches_sound(
     image: &[u16],
-    size: u16,
+    sys: Catalog,
     names: &[u64; 8],
     indexes: &[u16; 8],
     lengths: &[u16; 8],
@@ -473,14 +486,17 @@ fn stretches_sound(
     g: Geometry,
     marks: &mut [u8; 4096],
 ) -> bool
-    requires { ⌜ SysKnown (now image) g (now marks) size × (upto ≤ 8) × CellsOf (now names) upto (now cells) × OrdinaryPlaces (placesIn (now image) g) (16 * size) ⌝ }
-    ensures { λ r. ⌜ PlacesMarking (now (image .entry)) g (liveIn (now (names .entry)) (now (indexes .entry)) (now (lengths .entry)) upto) (placesIn (now (image .entry)) g) (16 * size) (now (marks .entry)) (now (marks .exit)) r ⌝ }
+    requires { ⌜ SysMarked (now image) g (now marks) sys × (upto ≤ 8) × CellsOf (now names) upto (now cells)
+        × OrdinaryPlaces (placesIn (now image) g) (placeCount (g .keys) (sys .layers)) ⌝ }
+    ensures { λ r. ⌜ PlacesMarking (now (image .entry)) g (liveIn (now (names .entry)) (now (indexes .entry)) (now (lengths .entry)) upto)
+        (placesIn (now (image .entry)) g) (placeCount (g .keys) (sys .layers)) (now (marks .entry)) (now (marks .exit)) r ⌝ }
 {
+    let size = g.keys * sys.layers;
     let mut b: u16 = 0;
     let mut j: usize = 0;
     while b < size {
-        let n = entries::lesser(index::pair_length(image, Sector(6), j), size - b);
-        let start = index::pair_start(image, Sector(6), j);
+        let n = entries::lesser(index::pair_length(image, sys.index, j), size - b);
+        let start = index::pair_start(image, sys.index, j);
         if !run_sound(
             image,
             start.0 as usize * 256,
@@ -501,18 +517,19 @@ fn stretches_sound(
     true
 }
 
-// Judges all ordinary files, whose entries stand in the first `layers` layers of SYS, and marks their slices beside SYS's. Where one
-// is refused, no slice is left marked.
+// Judges all ordinary files, whose entries stand in the layers of SYS, and marks their slices beside SYS's. Where one is refused, no
+// slice is left marked.
 pub fn files_sound(
     image: &[u16],
     state: State,
     g: Geometry,
-    layers: u16,
+    sys: Catalog,
     marks: &mut [u8; 4096],
 ) -> bool
-    requires { ⌜ SysKnown (now image) g (now marks) (g .keys * layers) × NamesKnown (now image) g (placeCount (g .keys) layers) ⌝ }
+    requires { ⌜ SysMarked (now image) g (now marks) sys × NamesKnown (now image) g (placeCount (g .keys) (sys .layers)) ⌝ }
     ensures refused { λ r. ⌜ (r ≡ false → MarksOf (now (marks .exit)) []) ⌝ }
-    ensures marking { λ r. ⌜ Marking r (SoundFiles (now (image .entry)) state g (placeCount (g .keys) layers)) (g .slices) (now (marks .exit)) (sysSlices (now (image .entry)) g) (slicesBelow (now (image .entry)) state (g .first .0) (g .slice) (placesIn (now (image .entry)) g) (placeCount (g .keys) layers)) ⌝ }
+    ensures marking { λ r. ⌜ Marking r (SysFiles (now (image .entry)) state g (sys .layers)) (g .slices) (now (marks .exit))
+        (sysSlices (now (image .entry)) g) (sysHeld (now (image .entry)) state g (sys .layers)) ⌝ }
 {
     let mut names: [u64; 8] = [0; 8];
     let mut indexes: [u16; 8] = [0; 8];
@@ -523,7 +540,7 @@ pub fn files_sound(
     fill_cells(&names, upto, &mut cells);
     if !stretches_sound(
         image,
-        g.keys * layers,
+        sys,
         &names,
         &indexes,
         &lengths,

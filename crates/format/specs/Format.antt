@@ -85,4 +85,5 @@ pub data FormatAnswer (image : List ℕ) (state : State) (bytes : ℕ) (lent aft
   notLent : (RecordLent bytes lent → ⊥) → Refused 0x1080 image state after r → FormatAnswer image state bytes lent after r
   notAllowed : RecordLent bytes lent → (Formattable image state lent → ⊥) → Refused 0x1200 image state after r
       → FormatAnswer image state bytes lent after r
-  written : RecordLent bytes lent → Formattable image state lent → Written image state lent after r → FormatAnswer image state bytes lent after r
+  written : RecordLent bytes lent → Formattable image state lent → Written image state lent after r
+      → FormatAnswer image state bytes lent after r

@@ -1,2 +1,3 @@
+pub mod Catalog
 pub mod Room
 pub mod Grow

@@ -6,7 +6,8 @@ use Prim.Native.Nat.{ℕ}
 use Rattle.types.specs.declared.Name.{Name}
 use Rattle.types.specs.declared.State.{State}
 use Rattle.types.specs.declared.Message.{Message}
-use Rattle.types.specs.declared.Message.the-variants.{Init, Set, Create, LookUp, Change, Remove, CreateArea, RemoveArea, AreaMessage, UnitDescription, Listing}
+use Rattle.types.specs.declared.Message.the-variants.{Init, Set, Create, LookUp, Change, Remove}
+use Rattle.types.specs.declared.Message.the-variants.{CreateArea, RemoveArea, AreaMessage, UnitDescription, Listing}
 use Rattle.types.specs.State.{NoneOpen, UnitKnown}
 use Rattle.disc.specs.Names.{unitIn}
 use Rattle.known.specs.declared.Class.{Class}

@@ -12,6 +12,7 @@ use Rattle.disc.specs.Stretches.{stretchCount, sectorIn}
 use Rattle.disc.specs.Map.{onesInMap}
 use Rattle.disc.specs.Entries.{indexSector}
 use Rattle.index.specs.Block.{wholeIndex, jointSector}
+use Rattle.catalog.specs.declared.Unit.{Unit}
 use Rattle.plain.specs.Table.{Table}
 use Rattle.plain.specs.Unit.{Plain, File, AreaUser, M, held, freeSlices}
 use Rattle.plain.specs.Transput.{slicesToTake}
@@ -21,7 +22,6 @@ use Rattle.refine.proofs.Ground.{ground, part-file}
 use Rattle.steps.proofs.OutputStep.{extended-counts}
 use Rattle.steps.proofs.OutputUnit.{Appends}
 use Rattle.steps.proofs.OutputMessage.{appends-extends, appends-room, appends-few}
-use Rattle.unit.specs.declared.Opened.{Opened}
 use Rattle.slices.specs.FileBlock.{FileBlock}
 use Rattle.slices.specs.Take.{CanLengthenFrom, CanLengthen, Lengthened}
 use Rattle.slices.proofs.BlockLaws.{sector-told, index-told}
@@ -45,7 +45,7 @@ appends p f k end z =
     go true false c e x y z = absurd (omega arith)
     go false b c e x y z = absurd (omega arith)
 
-module _ {image : List ℕ} {o : Opened} {block : List ℕ} {count : ℕ} {p : Plain} {n : ℕ} {users : Table AreaUser} {f : File} (can : CanExtendFrom image o block count p n users f) where
+module _ {image : List ℕ} {o : Unit} {block : List ℕ} {count : ℕ} {p : Plain} {n : ℕ} {users : Table AreaUser} {f : File} (can : CanExtendFrom image o block count p n users f) where
   abbrev new : List ℕ
   new = appendSlices p f
 

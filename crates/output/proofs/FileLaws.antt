@@ -14,13 +14,13 @@ use Rattle.disc.specs.Numbers.{need}
 use Rattle.disc.specs.Slices.{InRangeOnce}
 use Rattle.disc.proofs.SliceLaws.{sum-law}
 use Rattle.index.specs.Block.{wholeIndex, sliceTotal}
+use Rattle.catalog.specs.declared.Unit.{Unit}
 use Rattle.plain.specs.Table.{tableFind}
 use Rattle.plain.specs.Unit.{Plain, File, M, held, freeSlices}
 use Rattle.plain.specs.Transput.{oneIf, slicesToTake}
 use Rattle.plain.proofs.UnitLaws.{entry-of}
 use Rattle.refine.specs.OnDisc.{OnDisc}
 use Rattle.refine.proofs.Ground.{ground, part-file}
-use Rattle.unit.specs.declared.Opened.{Opened}
 use Rattle.slices.specs.declared.Next.{Next}
 use Rattle.slices.specs.FileBlock.{FileBlock}
 use Rattle.slices.specs.Take.{CanTakeFrom, nextWord, nextAsked, Chosen}
@@ -35,7 +35,7 @@ module _ {image : List ℕ} {p : Plain} (on : OnDisc image p) (n : ℕ) {f : Fil
   once k = omega (arith, on .good .once k, part-file p (ground p (on .good)) n f file k)
 
   pub file-block : {words : List ℕ} → words ≡ wholeIndex (p .F) (p .s) (f .slices) → FileBlock image words (p .F) (p .s) (M p) (f .slices)
-  file-block {words} e = unit-file image words (f .slices) (on .good .limits) (on .layout .size) e (on .good .files n f file .few) once
+  file-block {words} e = unit-file image words (f .slices) (on .good .limits) (on .layout .size) e (on .good .catalog .files n f file .few) once
 
   -- ---- the slices of its block
 
@@ -69,7 +69,7 @@ module _ {image : List ℕ} {p : Plain} (on : OnDisc image p) (n : ℕ) {f : Fil
 
 -- ---- the room for an append, by what the code finds
 
-module _ {image : List ℕ} {o : Opened} {words : List ℕ} {more : ℕ} where
+module _ {image : List ℕ} {o : Unit} {words : List ℕ} {more : ℕ} where
   pub room-by-none : more ≡ 0 → RoomFor image o words more 0
   room-by-none z = record { all = λ p on num n f file w m. room-none on n file w (sym m ∙ z) }
 

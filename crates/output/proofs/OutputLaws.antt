@@ -22,6 +22,7 @@ use Rattle.disc.specs.Stretches.{stretchCount}
 use Rattle.disc.specs.Entries.{indexSector}
 use Rattle.disc.proofs.Compare.{same-or, below-or}
 use Rattle.index.specs.Block.{wholeIndex, sliceTotal}
+use Rattle.catalog.specs.declared.Unit.{Unit}
 use Rattle.state.specs.Areas.{setArea, packed, moved, withLive}
 use Rattle.plain.specs.Table.{tableFind}
 use Rattle.plain.specs.Unit.{Plain, File, freeSlices}
@@ -40,10 +41,9 @@ use Rattle.steps.proofs.AreaMessages.{area-found, sender-found, output-areas, r
 use Rattle.steps.proofs.OutputStep.{wordsThere, extended-on, appended-stored}
 use Rattle.steps.proofs.OutputUnit.{transputAt, replace-done, append-fixed, append-full, append-many, append-done, Appends}
 use Rattle.steps.proofs.OutputMessage.{replaced-on, appended-on, appends-extends, appends-room, appends-few}
-use Rattle.unit.specs.declared.Opened.{Opened}
-use Rattle.unit.specs.Opened.{Searchable}
+use Rattle.unit.specs.Unit.{Searchable}
 use Rattle.unit.specs.Files.{BlockOf}
-use Rattle.unit.proofs.OpenLaws.{searchable}
+use Rattle.unit.proofs.UnitLaws.{searchable}
 use Rattle.sharing.specs.declared.AreaReply.{AreaReply}
 use Rattle.sharing.specs.Sharing.{areaReply, atPosition}
 use Rattle.refine.specs.Leaves.{Leaves}
@@ -107,7 +107,7 @@ record Ready (image : List ℕ) (p : Plain) (f : File) (k j : ℕ) (before : Lis
 
 -- ---- one unit
 
-module _ {image : List ℕ} {state : State} {o : Opened} {p q : Plain} {n j sender u : ℕ} {f : File} {k : ℕ} (at : Placed image state o p q n j sender u f k) where
+module _ {image : List ℕ} {state : State} {o : Unit} {p q : Plain} {n j sender u : ℕ} {f : File} {k : ℕ} (at : Placed image state o p q n j sender u f k) where
   placed-on : OnDisc image p
   placed-on = on-disc (at .seat .good) (at .seat .represents)
 
@@ -240,7 +240,7 @@ module _ {image : List ℕ} {state : State} {o : Opened} {p q : Plain} {n j send
 
 -- ---- what the functions ask
 
-module _ {image : List ℕ} {state : State} {o : Opened} {j u k : ℕ} (some : SomePlaced image state o j u k) where
+module _ {image : List ℕ} {state : State} {o : Unit} {j u k : ℕ} (some : SomePlaced image state o j u k) where
   pub searches : Searchable image o
   searches = searchable (record { unit = some .p; on = placed-on (some .placed); numbers = some .placed .numbers })
 
@@ -258,7 +258,7 @@ module _ {image : List ℕ} {state : State} {o : Opened} {j u k : ℕ} (some : S
 
 -- ---- every unit on the image, by what the code finds
 
-module _ {image : List ℕ} {state : State} {o : Opened} {j u k : ℕ} {area : Area} (own : area ≡ areaAt state j) where
+module _ {image : List ℕ} {state : State} {o : Unit} {j u k : ℕ} {area : Area} (own : area ≡ areaAt state j) where
   -- what was found is that of every file that is placed
   module _ {p q : Plain} {n sender : ℕ} {f : File} (at : Placed image state o p q n j sender u f k) where
     pub own-size : area .length ≡ length (f .sectors)
@@ -346,7 +346,7 @@ module _ {image : List ℕ} {state : State} {o : Opened} {j u k : ℕ} {area : A
 
 -- ---- the block stored
 
-module _ {image : List ℕ} {state : State} {o : Opened} {j u k : ℕ} {reply : AreaReply} {before : List ℕ} (prepared : Prepares image state o j u k reply before) where
+module _ {image : List ℕ} {state : State} {o : Unit} {j u k : ℕ} {reply : AreaReply} {before : List ℕ} (prepared : Prepares image state o j u k reply before) where
   reply-word : {p q : Plain} {n sender : ℕ} {f : File} → Placed image state o p q n j sender u f k → reply .answer .result ≡ outputWord p f k
   reply-word {p} {q} {n} {sender} {f} at = ap (λ (r : AreaReply). r .answer .result) (prepared .all p q n sender f at .0)
 

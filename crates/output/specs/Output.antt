@@ -13,6 +13,7 @@ use Rattle.disc.specs.Attributes.{extendable}
 use Rattle.disc.specs.Stretches.{stretchCount}
 use Rattle.disc.specs.Entries.{indexSector}
 use Rattle.index.specs.Block.{wholeIndex}
+use Rattle.catalog.specs.declared.Unit.{Unit}
 use Rattle.state.specs.Areas.{setArea, moved, withLive}
 use Rattle.plain.specs.Table.{Table, tableFind}
 use Rattle.plain.specs.Unit.{Plain, File, AreaUser, freeSlices}
@@ -22,8 +23,7 @@ use Rattle.plain.specs.Good.{Good}
 use Rattle.refine.specs.Represents.{Represents}
 use Rattle.refine.specs.OnDisc.{OnDisc}
 use Rattle.refine.specs.Writes.{replacedImage, appendedImage, extendedImage}
-use Rattle.unit.specs.declared.Opened.{Opened}
-use Rattle.unit.specs.Opened.{NumbersOf}
+use Rattle.unit.specs.Unit.{NumbersOf}
 use Rattle.sharing.specs.declared.AreaReply.{AreaReply}
 use Rattle.sharing.specs.Sharing.{atPosition, areaReply}
 use Rattle.refine.specs.Leaves.{Leaves}
@@ -39,7 +39,7 @@ roomWord p f =
     (cond (eqb (slicesToTake (p .s) f) 0 || leb (stretchCount (f .slices ++ appendSlices p f)) 127) 0 0x0808) 0x0900
 
 -- The same of every file, of every unit on the image, that has this index block and takes so many slices.
-pub record RoomFor (image : List ℕ) (o : Opened) (words : List ℕ) (more r : ℕ) : Type 0 where
+pub record RoomFor (image : List ℕ) (o : Unit) (words : List ℕ) (more r : ℕ) : Type 0 where
   pub all : (p : Plain) → OnDisc image p → NumbersOf o p → (n : ℕ) (f : File) → tableFind n (p .files) ≡ some f
       → words ≡ wholeIndex (p .F) (p .s) (f .slices) → more ≡ slicesToTake (p .s) f → r ≡ roomWord p f
 
@@ -48,7 +48,7 @@ unfoldable pub outputWord : Plain → File → ℕ → ℕ
 outputWord p f k = cond (ltb k (length (f .sectors))) 0 (cond (extendable (f .attributes)) (roomWord p f) 0x0A00)
 
 -- An open file with this index block, of which every question of an append is answered yes.
-pub record CanExtendFrom (image : List ℕ) (o : Opened) (block : List ℕ) (count : ℕ) (p : Plain) (n : ℕ) (users : Table AreaUser)
+pub record CanExtendFrom (image : List ℕ) (o : Unit) (block : List ℕ) (count : ℕ) (p : Plain) (n : ℕ) (users : Table AreaUser)
     (f : File) : Type 0 where
   pub on : OnDisc image p
   pub numbers : NumbersOf o p
@@ -58,7 +58,7 @@ pub record CanExtendFrom (image : List ℕ) (o : Opened) (block : List ℕ) (cou
   pub more : count ≡ slicesToTake (p .s) f
   pub yes : outputWord p f (length (f .sectors)) ≡ 0
 
-pub record CanExtend (image : List ℕ) (o : Opened) (words : List ℕ) (more : ℕ) : Type 0 where
+pub record CanExtend (image : List ℕ) (o : Unit) (words : List ℕ) (more : ℕ) : Type 0 where
   pub p : Plain
   pub n : ℕ
   pub users : Table AreaUser
@@ -66,7 +66,7 @@ pub record CanExtend (image : List ℕ) (o : Opened) (words : List ℕ) (more : 
   pub can : CanExtendFrom image o words more p n users f
 
 -- The image with the slices taken, and the file's index sector then.
-pub record ExtendedBy (image : List ℕ) (o : Opened) (words : List ℕ) (more : ℕ) (after : List ℕ) (index : ℕ) : Type 0 where
+pub record ExtendedBy (image : List ℕ) (o : Unit) (words : List ℕ) (more : ℕ) (after : List ℕ) (index : ℕ) : Type 0 where
   pub all : (p : Plain) (n : ℕ) (users : Table AreaUser) (f : File) → CanExtendFrom image o words more p n users f
       → let slices = f .slices ++ appendSlices p f in
       (after ≡ extendedImage p image f (appendSlices p f)) × (index ≡ indexSector (p .F) (p .s) (length slices) slices)
@@ -74,7 +74,7 @@ pub record ExtendedBy (image : List ℕ) (o : Opened) (words : List ℕ) (more :
 -- ---- a user at a position
 
 -- The sender, a user of the area, at position k; q is the unit once its position is k.
-pub record Placed (image : List ℕ) (state : State) (o : Opened) (p q : Plain) (n j sender u : ℕ) (f : File) (k : ℕ) : Type 0 where
+pub record Placed (image : List ℕ) (state : State) (o : Unit) (p q : Plain) (n j sender u : ℕ) (f : File) (k : ℕ) : Type 0 where
   pub seat : Seat image state p n j sender u f
   pub numbers : NumbersOf o p
   pub low : k ≤ length (f .sectors)
@@ -82,7 +82,7 @@ pub record Placed (image : List ℕ) (state : State) (o : Opened) (p q : Plain) 
   pub represents : Represents image (atPosition state j u k) q
 
 -- What Input and Output start from, beside "at least 256 words lent".
-pub record SomePlaced (image : List ℕ) (state : State) (o : Opened) (j u k : ℕ) : Type 0 where
+pub record SomePlaced (image : List ℕ) (state : State) (o : Unit) (j u k : ℕ) : Type 0 where
   pub p : Plain
   pub q : Plain
   pub n : ℕ
@@ -94,7 +94,8 @@ pub record SomePlaced (image : List ℕ) (state : State) (o : Opened) (j u k : �
 unfoldable pub outputImage : Plain → List ℕ → File → ℕ → ℕ → List ℕ → List ℕ
 outputImage p image f result k lent =
     cond (eqb result 0)
-    (cond (ltb k (length (f .sectors))) (replacedImage p image f k (take 256 lent)) (appendedImage p image f (appendSlices p f) (take 256 lent)))
+    (cond (ltb k (length (f .sectors))) (replacedImage p image f k (take 256 lent))
+    (appendedImage p image f (appendSlices p f) (take 256 lent)))
     image
 
 -- The state after it: "add 1 to the position", and after an append index sector and live length are the longer file's.
@@ -103,7 +104,8 @@ outputState p f state j u result k =
     let slices : List ℕ = f .slices ++ appendSlices p f in
     cond (eqb result 0)
     (cond (ltb k (length (f .sectors))) (atPosition state j u (suc k))
-    (setArea state j (withLive (moved (areaAt state j) u (record { 0 = suc k })) (record { 0 = indexSector (p .F) (p .s) (length slices) slices }) (suc (length (f .sectors))))))
+    (setArea state j (withLive (moved (areaAt state j) u (record { 0 = suc k }))
+    (record { 0 = indexSector (p .F) (p .s) (length slices) slices }) (suc (length (f .sectors))))))
     (atPosition state j u k)
 
 -- ---- before the block is stored
@@ -118,7 +120,7 @@ abbrev pub outputReply : Plain → File → State → ℕ → ℕ → ℕ → Ar
 outputReply p f state j u k =
     areaReply (outputState p f state j u (outputWord p f k) k) (outputWord p f k) (cond (eqb (outputWord p f k) 0) 512 0) k
 
-pub record Prepares (image : List ℕ) (state : State) (o : Opened) (j u k : ℕ) (r : AreaReply) (after : List ℕ) : Type 0 where
+pub record Prepares (image : List ℕ) (state : State) (o : Unit) (j u k : ℕ) (r : AreaReply) (after : List ℕ) : Type 0 where
   pub all : (p q : Plain) (n sender : ℕ) (f : File) → Placed image state o p q n j sender u f k
       → (r ≡ outputReply p f state j u k) × (after ≡ preparedImage p image f k)
 
@@ -126,11 +128,14 @@ pub record Prepares (image : List ℕ) (state : State) (o : Opened) (j u k : ℕ
 
 -- Answer and lent words are the plain unit's, the block is the position, image and state are those of its unit, and both are
 -- determined.
-pub record OutputLeaves (image : List ℕ) (state : State) (p q : Plain) (n j sender u : ℕ) (f : File) (k : ℕ) (lent : List ℕ) (r : AreaReply) (after : List ℕ) : Type 0 where
-  pub leaves : Leaves (output p q (plain.moved p n sender (areaUsers state j) (areaUser state j u)) n f k lent) (r .answer) lent after (r .state)
+pub record OutputLeaves (image : List ℕ) (state : State) (p q : Plain) (n j sender u : ℕ) (f : File) (k : ℕ) (lent : List ℕ)
+    (r : AreaReply) (after : List ℕ) : Type 0 where
+  pub leaves : Leaves (output p q (plain.moved p n sender (areaUsers state j) (areaUser state j u)) n f k lent)
+      (r .answer) lent after (r .state)
   pub block : r .answer .block .0 ≡ k
   pub written : after ≡ outputImage p image f (r .answer .result) k lent
   pub reached : r .state ≡ outputState p f state j u (r .answer .result) k
 
-pub record Outputs (image : List ℕ) (state : State) (o : Opened) (j u k : ℕ) (lent : List ℕ) (r : AreaReply) (after : List ℕ) : Type 0 where
-  pub all : (p q : Plain) (n sender : ℕ) (f : File) → Placed image state o p q n j sender u f k → OutputLeaves image state p q n j sender u f k lent r after
+pub record Outputs (image : List ℕ) (state : State) (o : Unit) (j u k : ℕ) (lent : List ℕ) (r : AreaReply) (after : List ℕ) : Type 0 where
+  pub all : (p q : Plain) (n sender : ℕ) (f : File) → Placed image state o p q n j sender u f k
+      → OutputLeaves image state p q n j sender u f k lent r after

@@ -1,6 +1,7 @@
-// The cases of document 01's section 'Worked on paper', and those of document 02, run through the one call: s = 2, N = 20, F = 10. Each line of
-// the standard input is a step: a text, and after ':' a letter and numbers in base 16; a line that begins with '#' is a comment. The text is
-// written with its ':', and then what the letter says. The expected lines are derived from documents 01 and 02 and not taken from a run.
+// The cases of document 01's section 'Worked on paper', and those of document 02, run through the one call: s = 2, N = 20, F = 10. Each
+// line of the standard input is a step: a text, and after ':' a letter and numbers in base 16; a line that begins with '#' is a comment.
+// The text is written with its ':', and then what the letter says. The expected lines are derived from documents 01 and 02 and not taken
+// from a run.
 //
 // Calls, NAME being three words. Their line has the result word, the byte count and the block handed back, and words 0, 7 and 9 of the 256
 // words lent, of which the first was FIRST, or else 0, and all others 0.

@@ -16,6 +16,7 @@ use Rattle.types.specs.declared.Message.{Message}
 use Rattle.types.specs.declared.Message.the-variants.{Init, Set, Create, LookUp, Change, Remove, CreateArea, RemoveArea, AreaMessage, UnitDescription, Listing}
 use Rattle.types.specs.State.{UnitKnown}
 use Rattle.disc.specs.Words.{Words}
+use Rattle.catalog.specs.declared.Unit.{Unit}
 use Rattle.plain.specs.Unit.{Plain}
 use Rattle.plain.specs.Questions.{Outcome, answer, replies, known, done}
 use Rattle.plain.specs.Step.{step, reply}
@@ -27,8 +28,7 @@ use Rattle.refine.specs.Represents.{Represents}
 use Rattle.refine.specs.Replies.{Replies, refused, written}
 use Rattle.refine.proofs.StateLaws.{same-none}
 use Rattle.steps.proofs.Whole.{on-disc}
-use Rattle.unit.specs.declared.Opened.{Opened}
-use Rattle.unit.specs.Opened.{NumbersOf, MeantOn, Meant}
+use Rattle.unit.specs.Unit.{NumbersOf, MeantOn, Meant}
 use Rattle.unit.specs.LookUp.{LooksUp}
 use Rattle.refine.specs.Leaves.{Leaves}
 use Rattle.create.specs.Create.{CreateStep, Creates, SetStep, Sets}
@@ -90,15 +90,15 @@ module _ {image : List ℕ} {state : State} {p : Plain} (g : Good p) (r : Repres
   replied {o} {lent} {result} (refused nz e same) = e ∙ sym (ap (λ (x : Outcome). replies (x .unit) result lent) e)
   replied {o} {lent} {result} (written z q e w) = e ∙ ap (λ (k : ℕ). replies q k lent) (sym z) ∙ sym (ap (λ (x : Outcome). replies (x .unit) result lent) e)
 
-  pub look-up-obeyed : {o : Opened} {name : Name} {lent after : List ℕ} {result : ℕ} → NumbersOf o p → Known state (LookUp name) → LooksUp image o name lent result after
+  pub look-up-obeyed : {o : Unit} {name : Name} {lent after : List ℕ} {result : ℕ} → NumbersOf o p → Known state (LookUp name) → LooksUp image o name lent result after
       → Obeyed p image state (LookUp name) lent (record { image = image; state = state; answer = answer result 0 0 0; lent = after })
   look-up-obeyed {name = name} {lent = lent} n k c = stays (LookUp name) lent (k .ready) (c .all p (on-disc g r) n (own k)) (refl, refl)
 
-  pub describe-obeyed : {o : Opened} {unit bytes : ℕ} {lent after : List ℕ} {a : Answer} → NumbersOf o p → Known state (UnitDescription unit bytes) → Describes image o unit bytes lent a after
+  pub describe-obeyed : {o : Unit} {unit bytes : ℕ} {lent after : List ℕ} {a : Answer} → NumbersOf o p → Known state (UnitDescription unit bytes) → Describes image o unit bytes lent a after
       → Obeyed p image state (UnitDescription unit bytes) lent (record { image = image; state = state; answer = a; lent = after })
   describe-obeyed {unit = unit} {bytes = bytes} {lent = lent} n k c = stays (UnitDescription unit bytes) lent (k .ready) (c .all p (on-disc g r) n (own k)) (refl, refl)
 
-  pub list-obeyed : {o : Opened} {unit : ℕ} {lent after : List ℕ} {a : Answer} → NumbersOf o p → Known state (Listing unit) → Lists image o lent a after
+  pub list-obeyed : {o : Unit} {unit : ℕ} {lent after : List ℕ} {a : Answer} → NumbersOf o p → Known state (Listing unit) → Lists image o lent a after
       → Obeyed p image state (Listing unit) lent (record { image = image; state = state; answer = a; lent = after })
   list-obeyed {unit = unit} {lent = lent} n k c = stays (Listing unit) lent (k .ready) (c .all p (on-disc g r) n unit (meant k)) (refl, refl)
 
@@ -110,7 +110,7 @@ module _ {image : List ℕ} {state : State} {p : Plain} (g : Good p) (r : Repres
       steps (Create name size attributes) lent refl (k .ready) (s, refl)
       (record { answered = replied (s .step lent); good = step-keeps p (Create name size attributes) lent g w; represents = create-represents s lent g r })
 
-  pub create-obeyed : {o : Opened} {name : Name} {size attributes : ℕ} {lent after : List ℕ} {result : ℕ} → Words lent → NumbersOf o p → Known state (Create name size attributes)
+  pub create-obeyed : {o : Unit} {name : Name} {size attributes : ℕ} {lent after : List ℕ} {result : ℕ} → Words lent → NumbersOf o p → Known state (Create name size attributes)
       → Creates image o name size attributes after result → Obeyed p image state (Create name size attributes) lent (record { image = after; state = state; answer = answer result 0 0 0; lent = lent })
   create-obeyed w n k c = create-by w k (c .all p (on-disc g r) n (own k))
 
@@ -120,7 +120,7 @@ module _ {image : List ℕ} {state : State} {p : Plain} (g : Good p) (r : Repres
       steps (Set name) lent refl (k .ready) (s, refl)
       (record { answered = replied (s .step); good = step-keeps p (Set name) lent g w; represents = set-represents s w g r })
 
-  pub set-obeyed : {o : Opened} {name : Name} {lent after : List ℕ} {result : ℕ} → Words lent → NumbersOf o p → Known state (Set name) → Sets image o name lent after result
+  pub set-obeyed : {o : Unit} {name : Name} {lent after : List ℕ} {result : ℕ} → Words lent → NumbersOf o p → Known state (Set name) → Sets image o name lent after result
       → Obeyed p image state (Set name) lent (record { image = after; state = state; answer = answer result 0 0 0; lent = lent })
   set-obeyed w n k c = set-by w k (c .all p (on-disc g r) n (own k))
 
@@ -128,7 +128,7 @@ module _ {image : List ℕ} {state : State} {p : Plain} (g : Good p) (r : Repres
       → Obeyed p image state (Remove name) lent (record { image = after; state = state; answer = answer result 0 0 0; lent = lent })
   remove-by {name = name} {lent = lent} k s = steps (Remove name) lent refl (k .ready) (s, refl) (remove-stepped g r s lent)
 
-  pub remove-obeyed : {o : Opened} {name : Name} {lent after : List ℕ} {result : ℕ} → NumbersOf o p → Known state (Remove name) → Removes image o state name after result
+  pub remove-obeyed : {o : Unit} {name : Name} {lent after : List ℕ} {result : ℕ} → NumbersOf o p → Known state (Remove name) → Removes image o state name after result
       → Obeyed p image state (Remove name) lent (record { image = after; state = state; answer = answer result 0 0 0; lent = lent })
   remove-obeyed n k c = remove-by k (c .all p g r n)
 
@@ -136,7 +136,7 @@ module _ {image : List ℕ} {state : State} {p : Plain} (g : Good p) (r : Repres
       → Obeyed p image state (Change name) lent (record { image = after; state = state; answer = answer result 0 0 0; lent = lent })
   change-by {name = name} {lent = lent} w k s = steps (Change name) lent refl (k .ready) (s, refl) (change-stepped g r w s)
 
-  pub change-obeyed : {o : Opened} {name : Name} {lent after : List ℕ} {result : ℕ} → Words lent → NumbersOf o p → Known state (Change name) → Changes image o state name lent after result
+  pub change-obeyed : {o : Unit} {name : Name} {lent after : List ℕ} {result : ℕ} → Words lent → NumbersOf o p → Known state (Change name) → Changes image o state name lent after result
       → Obeyed p image state (Change name) lent (record { image = after; state = state; answer = answer result 0 0 0; lent = lent })
   change-obeyed w n k c = change-by w k (c .all p g r n)
 
@@ -151,7 +151,7 @@ module _ {image : List ℕ} {state : State} {p : Plain} (g : Good p) (r : Repres
       kept (written z q e (dummyCreate a same)) = (ap (λ (x : State). x .unit) same, ap (λ (x : State). x .initialized) same)
       kept (written z q e (made m)) = (ap (λ (x : State). x .unit) (m .left), ap (λ (x : State). x .initialized) (m .left))
 
-  pub create-area-obeyed : {o : Opened} {name : Name} {lent : List ℕ} {d : AreaDone} → NumbersOf o p → Known state (CreateArea name) → CreatesArea image o state name d
+  pub create-area-obeyed : {o : Unit} {name : Name} {lent : List ℕ} {d : AreaDone} → NumbersOf o p → Known state (CreateArea name) → CreatesArea image o state name d
       → Obeyed p image state (CreateArea name) lent (record { image = image; state = d .state; answer = answer (d .result) 0 0 0; lent = lent })
   create-area-obeyed n k c = create-area-by k (c .all p g r n)
 
@@ -167,11 +167,11 @@ module _ {image : List ℕ} {state : State} {p : Plain} (g : Good p) (r : Repres
       kept (written z q e (dummyRemove a b same)) = (ap (λ (x : State). x .unit) same, ap (λ (x : State). x .initialized) same)
       kept (written z q e (books m)) = (ap (λ (x : State). x .unit) (m .left), ap (λ (x : State). x .initialized) (m .left))
 
-  pub remove-area-obeyed : {o : Opened} {name : Name} {lent after : List ℕ} {d : AreaDone} → NumbersOf o p → Known state (RemoveArea name) → RemovesArea image o state name after d
+  pub remove-area-obeyed : {o : Unit} {name : Name} {lent after : List ℕ} {d : AreaDone} → NumbersOf o p → Known state (RemoveArea name) → RemovesArea image o state name after d
       → Obeyed p image state (RemoveArea name) lent (record { image = after; state = d .state; answer = answer (d .result) 0 0 0; lent = lent })
   remove-area-obeyed n k c = remove-area-by k (c .all p g r n)
 
-  pub area-message-obeyed : {o : Opened} {name : Name} {sender : ℕ} {operation : Operation} {lent filled after : List ℕ} {d : AreaReply} → NumbersOf o p
+  pub area-message-obeyed : {o : Unit} {name : Name} {sender : ℕ} {operation : Operation} {lent filled after : List ℕ} {d : AreaReply} → NumbersOf o p
       → Known state (AreaMessage name sender operation) → AreaMessages image state o name sender operation lent d filled after
       → Obeyed p image state (AreaMessage name sender operation) lent (record { image = after; state = d .state; answer = d .answer; lent = filled })
   area-message-obeyed {sender = sender} {operation = operation} {d = d} n k c =
@@ -218,7 +218,7 @@ module _ {image : List ℕ} {state : State} {p : Plain} (g : Good p) (r : Repres
 -- ---- the message in hand is one of these, and so are answer and state
 
 -- what a message's own step starts from
-module _ {image : List ℕ} {state : State} {o : Opened} {m message : Message} (c : CanObey image state o m) (e : m ≡ message) where
+module _ {image : List ℕ} {state : State} {o : Unit} {m message : Message} (c : CanObey image state o m) (e : m ≡ message) where
   known-now : T (known (c .standing .unit) (unitMeant message))
   known-now = meant (c .standing .good) (c .standing .represents) (subst (Known state) e (c .known))
 
@@ -228,9 +228,9 @@ module _ {image : List ℕ} {state : State} {o : Opened} {m message : Message} (
   pub can-mean-on : MeantOn image o (unitMeant message)
   can-mean-on =
       let h = c .standing in
-      record { opened = record { unit = h .unit; on = on-disc (h .good) (h .represents); numbers = h .numbers }; meant = known-now }
+      record { standing = record { unit = h .unit; on = on-disc (h .good) (h .represents); numbers = h .numbers }; meant = known-now }
 
-pub answer-obeys : {image after lent filled : List ℕ} {state next s : State} {o : Opened} {m message : Message} {a b : Answer} → m ≡ message → Known state m → (a ≡ b) × (s ≡ next)
+pub answer-obeys : {image after lent filled : List ℕ} {state next s : State} {o : Unit} {m message : Message} {a b : Answer} → m ≡ message → Known state m → (a ≡ b) × (s ≡ next)
     → (Known state message → (p : Plain) → Good p → Represents image state p → NumbersOf o p → Obeyed p image state message lent (performed after next b filled))
     → Obeys image state o m lent (performed after s a filled)
 answer-obeys {image} {after} {lent} {filled} {state} {next} {o = o} {b = b} e k w f =

@@ -6,17 +6,18 @@ use Prim.Native.Nat.{ℕ}
 use Rattle.types.specs.declared.Answer.{Answer}
 use Rattle.types.specs.declared.State.{State}
 use Rattle.types.specs.declared.Message.{Message}
-use Rattle.types.specs.declared.Message.the-variants.{Init, Set, Create, LookUp, Change, Remove, CreateArea, RemoveArea, AreaMessage, UnitDescription, Listing}
+use Rattle.types.specs.declared.Message.the-variants.{Init, Set, Create, LookUp, Change, Remove, CreateArea, RemoveArea}
+use Rattle.types.specs.declared.Message.the-variants.{AreaMessage, UnitDescription, Listing}
 use Rattle.state.specs.Areas.{initialized}
 use Rattle.plain.specs.Unit.{Plain}
 use Rattle.plain.specs.Good.{Good}
 use Rattle.plain.specs.Questions.{answer}
 use Rattle.plain.specs.Step.{step, reply}
 use Rattle.sound.specs.Sound.{SoundUnit}
+use Rattle.catalog.specs.declared.Unit.{Unit}
 use Rattle.refine.specs.Represents.{Represents}
 use Rattle.refine.specs.Demands.{Performed}
-use Rattle.unit.specs.declared.Opened.{Opened}
-use Rattle.unit.specs.Opened.{NumbersOf, Represented}
+use Rattle.unit.specs.Unit.{NumbersOf, Represented}
 use Rattle.create.specs.Create.{CreateStep, SetStep}
 use Rattle.change.specs.Change.{ChangeStep}
 use Rattle.remove.specs.Remove.{RemoveStep}
@@ -40,12 +41,15 @@ performed image state answer lent = record { image = image; state = state; answe
 abbrev pub Wrote : Plain → List ℕ → State → Message → List ℕ → Performed → Type 0
 Wrote p image state (Init unit) lent r = (r .image ≡ image) × (r .state ≡ initialized state)
 Wrote p image state (Set name) lent r = SetStep p image name lent (r .image) (r .answer .result) × (r .state ≡ state)
-Wrote p image state (Create name size attributes) lent r = CreateStep p image name size attributes (r .image) (r .answer .result) × (r .state ≡ state)
+Wrote p image state (Create name size attributes) lent r =
+    CreateStep p image name size attributes (r .image) (r .answer .result) × (r .state ≡ state)
 Wrote p image state (LookUp name) lent r = (r .image ≡ image) × (r .state ≡ state)
 Wrote p image state (Change name) lent r = ChangeStep p image name lent (r .image) (r .answer .result) × (r .state ≡ state)
 Wrote p image state (Remove name) lent r = RemoveStep p image name (r .image) (r .answer .result) × (r .state ≡ state)
-Wrote p image state (CreateArea name) lent r = (r .image ≡ image) × CreateAreaStep p state name (record { result = r .answer .result; state = r .state })
-Wrote p image state (RemoveArea name) lent r = RemoveAreaStep p image state name (r .image) (record { result = r .answer .result; state = r .state })
+Wrote p image state (CreateArea name) lent r =
+    (r .image ≡ image) × CreateAreaStep p state name (record { result = r .answer .result; state = r .state })
+Wrote p image state (RemoveArea name) lent r =
+    RemoveAreaStep p image state name (r .image) (record { result = r .answer .result; state = r .state })
 Wrote p image state (AreaMessage name sender operation) lent r =
     AreaLeaves image state p name sender operation lent (record { answer = r .answer; state = r .state }) (r .lent) (r .image)
 Wrote p image state (UnitDescription unit bytes) lent r = (r .image ≡ image) × (r .state ≡ state)
@@ -61,11 +65,11 @@ pub record Obeyed (p : Plain) (image : List ℕ) (state : State) (message : Mess
   pub initialized : r .state .initialized ≡ true
 
 -- What a message to a known and sound unit starts from, and what it leaves.
-pub record CanObey (image : List ℕ) (state : State) (o : Opened) (message : Message) : Type 0 where
+pub record CanObey (image : List ℕ) (state : State) (o : Unit) (message : Message) : Type 0 where
   pub known : Known state message
   pub standing : Represented image state o
 
-pub record Obeys (image : List ℕ) (state : State) (o : Opened) (message : Message) (lent : List ℕ) (r : Performed) : Type 0 where
+pub record Obeys (image : List ℕ) (state : State) (o : Unit) (message : Message) (lent : List ℕ) (r : Performed) : Type 0 where
   pub all : (p : Plain) → Good p → Represents image state p → NumbersOf o p → Obeyed p image state message lent r
 
 -- What comes of a call.

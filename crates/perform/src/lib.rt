@@ -4,12 +4,12 @@ ghost use mathlib.Core.Path.{_≡_};
 ghost use Rattle.plain.specs.Questions.{answer};
 ghost use Rattle.perform.specs.Perform.{performed, CanObey, Obeys, Performs};
 use areas::AreaDone;
+use catalog::Unit;
 use sharing::AreaReply;
 use types::Answer;
 use types::Block;
 use types::Message;
 use types::State;
-use unit::Opened;
 
 // What comes of a call beside image and lent words: the answer and the state.
 pub struct Outcome {
@@ -61,47 +61,52 @@ fn area_replied(reply: AreaReply) -> Outcome
 }
 
 // A message to a unit that is known and sound.
-fn obey(image: &mut [u16], o: Opened, state: State, message: Message, lent: &mut [u16]) -> Outcome
-    requires { ⌜ CanObey (now image) state o message ⌝ }
-    ensures { λ r. ⌜ Obeys (now (image .entry)) state o message (now (lent .entry)) (performed (now (image .exit)) (r .state) (r .answer) (now (lent .exit))) ⌝ }
+fn obey(image: &mut [u16], unit: Unit, state: State, message: Message, lent: &mut [u16]) -> Outcome
+    requires { ⌜ CanObey (now image) state unit message ⌝ }
+    ensures { λ r. ⌜ Obeys (now (image .entry)) state unit message (now (lent .entry))
+        (performed (now (image .exit)) (r .state) (r .answer) (now (lent .exit))) ⌝ }
 {
     match message {
         Message::Init { unit: _ } => word_alone(0, state::with_initialized(state, true)),
-        Message::Set { name } => word_alone(create::set(image, o, name, lent), state),
+        Message::Set { name } => word_alone(create::set(image, unit, name, lent), state),
         Message::Create {
             name,
             size,
             attributes,
-        } => { word_alone(create::create(image, o, name, size, attributes), state) }
-        Message::LookUp { name } => word_alone(unit::look_up(image, o, name, lent), state),
-        Message::Change { name } => word_alone(change::change(image, o, state, name, lent), state),
-        Message::Remove { name } => word_alone(remove::remove(image, o, state, name), state),
-        Message::CreateArea { name } => area_done(areas::create_area(image, o, state, name)),
-        Message::RemoveArea { name } => area_done(areas::remove_area(image, o, state, name)),
+        } => { word_alone(create::create(image, unit, name, size, attributes), state) }
+        Message::LookUp { name } => word_alone(unit::look_up(image, unit, name, lent), state),
+        Message::Change { name } => word_alone(
+            change::change(image, unit, state, name, lent),
+            state,
+        ),
+        Message::Remove { name } => word_alone(remove::remove(image, unit, state, name), state),
+        Message::CreateArea { name } => area_done(areas::create_area(image, unit, state, name)),
+        Message::RemoveArea { name } => area_done(areas::remove_area(image, unit, state, name)),
         Message::AreaMessage {
             name,
             sender,
             operation,
         } => area_replied(area_messages::area_message(
             image,
-            o,
+            unit,
             state,
             name,
             sender,
             operation,
             lent,
         )),
-        Message::UnitDescription { unit, bytes } => answered(
-            reports::describe(image, o, unit, bytes, lent),
-            state,
-        ),
-        Message::Listing { unit: _ } => answered(reports::list(image, o, lent), state),
+        Message::UnitDescription {
+            unit: number,
+            bytes,
+        } => answered(reports::describe(image, unit, number, bytes, lent), state),
+        Message::Listing { unit: _ } => answered(reports::list(image, unit, lent), state),
     }
 }
 
 // One call, whatever image, state, message and lent words are.
 pub fn perform(image: &mut [u16], state: State, message: Message, lent: &mut [u16]) -> Outcome
-    ensures { λ r. ⌜ Performs (now (image .entry)) state message (now (lent .entry)) (performed (now (image .exit)) (r .state) (r .answer) (now (lent .exit))) ⌝ }
+    ensures { λ r. ⌜ Performs (now (image .entry)) state message (now (lent .entry))
+        (performed (now (image .exit)) (r .state) (r .answer) (now (lent .exit))) ⌝ }
 {
     if !known::known(state, message) {
         return word_alone(known::unknown_word(message), state);
@@ -109,6 +114,6 @@ pub fn perform(image: &mut [u16], state: State, message: Message, lent: &mut [u1
     if !soundness::sound(image, state) {
         return word_alone(known::unsound_word(message), state);
     }
-    let o = unit::open_unit(image);
-    obey(image, o, state, message, lent)
+    let unit = unit::open_unit(image);
+    obey(image, unit, state, message, lent)
 }

@@ -65,8 +65,8 @@ module _ {p : Plain} {f f′ : File} {size count : ℕ} (c : Changes p f f′ si
       → Good (withFiles p (tablePut m f′ (tableRemove n (p .files))))
   changed-good g n m found shut shutₘ legal ordinary chains =
       let others : Table File = tableRemove n (p .files) in
-      placed-good p m f′ others g shutₘ (sorted-remove 0 n (p .files) (g .names)) (λ k a h. g .files k a (remove-some k n 0 (p .files) a (g .names) h .1))
-      (λ k users h. find-remove-other k n 0 (p .files) (g .names) (area-name p n shut k users h))
+      placed-good p m f′ others g shutₘ (sorted-remove 0 n (p .files) (g .catalog .names)) (λ k a h. g .catalog .files k a (remove-some k n 0 (p .files) a (g .catalog .names) h .1))
+      (λ k users h. find-remove-other k n 0 (p .files) (g .catalog .names) (area-name p n shut k users h))
       chains
       (λ k. omega (
         arith,
@@ -81,8 +81,8 @@ module _ {p : Plain} {f f′ : File} {size count : ℕ} (c : Changes p f f′ si
         occurrences-take k count (f .slices),
         taken-law (M p) (held p) (lastOf (f .slices)) (count - length (f .slices)) (g .once) (c .room) k,
       ))
-      (booked-good (p .s) (p .areas) m f′ legal ordinary (c .attributes) (rw (c .bookedSlices) (c .entryOnly)) (c .optional) (c .tail)
-      (rw (c .sectors) (resized-words size (f .sectors) (g .files n f found .sectors))) (changes-size ∙ sym (c .booked)) (c .bookedSlices ∙ sym changes-count)
+      (booked-good (sysOf p) (p .s) (p .areas) m f′ legal ordinary (c .attributes) (rw (c .bookedSlices) (c .entryOnly)) (c .optional) (c .tail)
+      (rw (c .sectors) (resized-words size (f .sectors) (g .catalog .files n f found .sectors))) (changes-size ∙ sym (c .booked)) (c .bookedSlices ∙ sym changes-count)
       (rw (c .booked, c .bookedSlices) (c .needed)) (c .few))
 
 -- ---- Change of file f, name n, to the name m
@@ -158,14 +158,14 @@ module _ (p : Plain) (n m size attributes : ℕ) (f : File) (lent : List ℕ) wh
       where
         go : (b : Bool) → eqb size (f .booked) ≡ b → need (p .s) size ≤ cond b (length (f .slices)) (need (p .s) size)
         go true q =
-            let fg = g .files n f found in
+            let fg = g .catalog .files n f found in
             let same : size ≡ length (f .sectors) = eqb→eq size (f .booked) (rw q tt) ∙ fg .closed change-shut .0 in
             rw same (fg .covered)
         go false q = omega arith
 
     pub change-changes : Words lent → T (isRecord lent) → Changes changeGrown f (changedOn changeGrown) size changeCount
     change-changes w r =
-        let fg = g .files n f found in
+        let fg = g .catalog .files n f found in
         let all : sysExtra p changeLayers + (changeCount - length (f .slices)) ≤ freeSlices p = leb→le _ _ (asked .room) in
         record {
           slices = refl;
@@ -205,7 +205,7 @@ module _ (p : Plain) (n m size attributes : ℕ) (f : File) (lent : List ℕ) wh
   moved-grows d h = ap (grownTo p) (moved-layers d ∙ layers-grow (p .H) (sysOf p) m (tableRemove n (p .files)) h)
 
   chains-without : Good p → (k : ℕ) → placesTaken (p .H) k (sysOf p) (tableRemove n (p .files)) ≤ 16 * p .layers
-  chains-without g k = omega (arith, g .chains k, places-remove (p .H) k (sysOf p) n (p .files))
+  chains-without g k = omega (arith, g .catalog .chains k, places-remove (p .H) k (sysOf p) n (p .files))
 
   -- afterwards it has one
   pub moved-fits : Good p → m ≢ n → placesTaken (p .H) (keyOf (p .H) m) (sysOf p) (tableRemove n (p .files)) < 16 * changeLayers
@@ -218,7 +218,7 @@ module _ (p : Plain) (n m size attributes : ℕ) (f : File) (lent : List ℕ) wh
 
   chains-change : Good p → tableFind n (p .files) ≡ some f → (h : File) (k : ℕ) → placesTaken (p .H) k (sysOf p) (tablePut m h (tableRemove n (p .files))) ≤ 16 * changeLayers
   chains-change g found h k = same-or m n
-      (λ e. rw (kept-layers e, e) (omega (arith, places-same (p .H) k (sysOf p) n f h (p .files) found, g .chains k)))
+      (λ e. rw (kept-layers e, e) (omega (arith, places-same (p .H) k (sysOf p) n f h (p .files) found, g .catalog .chains k)))
       (λ d. chains-put (p .H) (sysOf p) changeLayers m h (tableRemove n (p .files)) (λ j. omega (arith, chains-without g j, layers-change)) (moved-fits g d) k)
 
   pub change-shutₘ : Good p → (found : tableFind n (p .files) ≡ some f) → ChangeAsked → tableFind m (p .areas) ≡ none
@@ -228,4 +228,4 @@ module _ (p : Plain) (n m size attributes : ℕ) (f : File) (lent : List ℕ) wh
   changed-keeps g found a w r =
       let q : Good changeGrown = grown-good p changeLayers g (omega (arith, leb→le (changeTaking .forCatalog + changeTaking .forFile) (freeSlices p) (a .room))) layers-change (leb→le _ _ (a .sysFew)) in
       changed-good (change-changes g found a w r) q n m found (change-shut g found a) (change-shutₘ g found a) (a .legal)
-      (same-or m n (λ e. rw e (g .files n f found .ordinary)) (λ d. vacant-name p m (moved-vacant d a) .1)) (chains-change g found (changedOn changeGrown))
+      (same-or m n (λ e. rw e (g .catalog .files n f found .ordinary)) (λ d. vacant-name p m (moved-vacant d a) .1)) (chains-change g found (changedOn changeGrown))

@@ -13,6 +13,7 @@ use Rattle.disc.specs.Names.{isSystem, legalName, keyOf}
 use Rattle.disc.specs.Attributes.{legalAttributes, legalWith, givesEntryOnly}
 use Rattle.disc.specs.Slices.{occurrences, InRangeOnce, taken}
 use Rattle.disc.specs.Stretches.{stretchCount}
+use Rattle.disc.specs.Catalog.{Catalog, isReserved}
 use Rattle.disc.proofs.SliceLaws.{occurrences-append, taken-law, length-taken}
 use Rattle.plain.specs.Table.{Table, tableFind, tablePut, SortedFrom, isSome, Every}
 use Rattle.plain.specs.Unit.{Plain, File, AreaUser, M, held, slicesOf, freeSlices, entry, withTables, withFiles, sysOf}
@@ -32,11 +33,11 @@ use Rattle.plain.proofs.KeepsAreas.{area-beside}
 -- ---- one file in a table of others
 
 -- a file whose length and slices are all booked
-pub booked-good : (s : ℕ) (areas : Table (Table AreaUser)) (n : ℕ) (f : File) → T (legalName n) → T (not (isSystem n)) → T (legalAttributes (f .attributes))
+pub booked-good : (c : Catalog) (s : ℕ) (areas : Table (Table AreaUser)) (n : ℕ) (f : File) → T (legalName n) → T (not (isReserved c n)) → T (legalAttributes (f .attributes))
     → T (legalWith (f .attributes) (f .bookedSlices)) → WordsOf 3 (f .optional) → WordsOf 6 (f .tail)
     → ((b : ℕ) → b < length (f .sectors) → WordsOf 256 (getD (f .sectors) b [])) → length (f .sectors) ≡ f .booked → f .bookedSlices ≡ length (f .slices)
-    → need s (f .booked) ≤ f .bookedSlices → stretchCount (f .slices) ≤ 127 → GoodFile s areas n f
-booked-good s areas n f legal ordinary attributes only optional tail sectors size count covered few = record {
+    → need s (f .booked) ≤ f .bookedSlices → stretchCount (f .slices) ≤ 127 → GoodFile c s areas n f
+booked-good c s areas n f legal ordinary attributes only optional tail sectors size count covered few = record {
   name = legal;
   ordinary = ordinary;
   attributes = attributes;
@@ -54,20 +55,22 @@ booked-good s areas n f legal ordinary attributes only optional tail sectors siz
 
 -- the unit in which the name n, which has no area, has the file f, beside the files `others`
 pub placed-good : (p : Plain) (n : ℕ) (f : File) (others : Table File) (g : Good p) → tableFind n (p .areas) ≡ none → SortedFrom 0 others
-    → Every (GoodFile (p .s) (p .areas)) others
+    → Every (GoodFile (sysOf p) (p .s) (p .areas)) others
     → ((k : ℕ) (users : Table AreaUser) → tableFind k (p .areas) ≡ some users → tableFind k others ≡ tableFind k (p .files))
     → ((k : ℕ) → placesTaken (p .H) k (sysOf p) (tablePut n f others) ≤ 16 * p .layers)
     → InRangeOnce (M p) (p .sys ++ slicesOf (tablePut n f others))
-    → GoodFile (p .s) (p .areas) n f → Good (withFiles p (tablePut n f others))
+    → GoodFile (sysOf p) (p .s) (p .areas) n f → Good (withFiles p (tablePut n f others))
 placed-good p n f others g shut sorted files same chains once good = record {
   limits = g .limits;
-  layered = g .layered;
-  sysCount = g .sysCount;
+  catalog = record {
+    layered = g .catalog .layered;
+    count = g .catalog .count;
+    few = g .catalog .few;
+    names = sorted-put 0 n f others (legal-positive n (good .name)) sorted;
+    chains = chains;
+    files = every-put (GoodFile (sysOf p) (p .s) (p .areas)) n f others files good;
+  };
   sysFirst = g .sysFirst;
-  sysFew = g .sysFew;
-  names = sorted-put 0 n f others (legal-positive n (good .name)) sorted;
-  chains = chains;
-  files = every-put (GoodFile (p .s) (p .areas)) n f others files good;
   once = once;
   areaNames = g .areaNames;
   eight = g .eight;
@@ -120,7 +123,7 @@ module _ {p : Plain} {n : ℕ} {f : File} (g : Good p) (new : NewFile p n f) whe
 
   pub created-good : placesTaken (p .H) (keyOf (p .H) n) (sysOf p) (p .files) < 16 * p .layers → Good (withFiles p (tablePut n f (p .files)))
   created-good places =
-      placed-good p n f (p .files) g (no-area p n g none-there) (g .names) (g .files) (λ k users h. refl) (chains-put (p .H) (sysOf p) (p .layers) n f (p .files) (g .chains) places)
+      placed-good p n f (p .files) g (no-area p n g none-there) (g .catalog .names) (g .catalog .files) (λ k users h. refl) (chains-put (p .H) (sysOf p) (p .layers) n f (p .files) (g .catalog .chains) places)
       (λ k. omega (
         arith,
         held-more k,
@@ -128,7 +131,7 @@ module _ {p : Plain} {n : ℕ} {f : File} (g : Good p) (new : NewFile p n f) whe
         taken-law (M p) (held p) 0 (need (p .s) (f .booked)) (g .once) (new .room) k,
         occurrences-append k new-slices (held p),
       ))
-      (booked-good (p .s) (p .areas) n f (new .name) ordinary (new .attributes) (rw (new .bookedSlices) (new .entryOnly)) (new .optional) (new .tail)
+      (booked-good (sysOf p) (p .s) (p .areas) n f (new .name) ordinary (new .attributes) (rw (new .bookedSlices) (new .entryOnly)) (new .optional) (new .tail)
       (rw (new .sectors) (zeroSectors-words (f .booked))) long-sectors (new .bookedSlices ∙ sym long-slices) (omega (arith, new .bookedSlices)) (new .few))
 
 -- ---- the questions of Create and Set

@@ -1,5 +1,5 @@
 -- SYS with more layers: the slices that it takes for them, and the unit that then is, which is good.
-use mathlib.Core.Path.{_≡_, sym, ap, _∙_}
+use mathlib.Core.Path.{_≡_, refl, sym, ap, _∙_}
 use mathlib.Core.List.{List, [], _∷_, _++_, append-nil}
 use mathlib.Core.Logic.{_≢_}
 use mathlib.Core.Option.{none}
@@ -17,6 +17,7 @@ use Rattle.disc.proofs.TakenLaws.{free-same, taken-same}
 use Rattle.plain.specs.Unit.{Plain, M, held, freeSlices, entry, withTables}
 use Rattle.plain.specs.Good.{Good}
 use Rattle.plain.proofs.UnitLaws.{occurrences-held, entry-none, entry-map, entry-other, system-cases}
+use Rattle.plain.proofs.CatalogLaws.{file-reserved}
 
 -- the slices that SYS takes for l layers
 abbrev pub sysExtra : Plain → ℕ → ℕ
@@ -32,7 +33,7 @@ grownTo p layers = withTables p layers (p .sys ++ sysTaken p layers) (p .files) 
 -- no layer more: SYS takes nothing
 pub not-grown : (p : Plain) → Good p → grownTo p (p .layers) ≡ p
 not-grown p g =
-    let z : sysExtra p (p .layers) ≡ 0 = omega (arith, g .sysCount) in
+    let z : sysExtra p (p .layers) ≡ 0 = omega (arith, g .catalog .count) in
     let e : p .sys ++ sysTaken p (p .layers) ≡ p .sys = ap (λ (x : ℕ). p .sys ++ taken (M p) (held p) (lastOf (p .sys)) x) z ∙ append-nil (p .sys) in
     ap (λ (l : List ℕ). withTables p (p .layers) l (p .files) (p .areas)) e
 
@@ -86,20 +87,22 @@ module _ (p : Plain) (layers : ℕ) where
     pub grown-good : p .layers ≤ layers → stretchCount (p .sys ++ sysTaken p layers) ≤ 127 → Good (grownTo p layers)
     grown-good up few = record {
       limits = g .limits;
-      layered = omega (arith, g .layered);
-      sysCount =
-          omega (
-            arith,
-            length-append (p .sys) (sysTaken p layers),
-            length-taken (M p) (held p) (lastOf (p .sys)) (sysExtra p layers),
-            g .sysCount,
-            ceilDiv-mono (p .s) {a = p .H * p .layers} {b = p .H * layers} (omega (arith, g .limits .slice-low)) (mul-le-mul-left (p .H) up),
-          );
+      catalog = record {
+        layered = omega (arith, g .catalog .layered);
+        count =
+            omega (
+              arith,
+              length-append (p .sys) (sysTaken p layers),
+              length-taken (M p) (held p) (lastOf (p .sys)) (sysExtra p layers),
+              g .catalog .count,
+              ceilDiv-mono (p .s) {a = p .H * p .layers} {b = p .H * layers} (omega (arith, g .limits .slice-low)) (mul-le-mul-left (p .H) up),
+            );
+        few = few;
+        names = g .catalog .names;
+        chains = λ k. omega (arith, g .catalog .chains k);
+        files = λ n f h. file-reserved refl (g .catalog .files n f h);
+      };
       sysFirst = first-append (p .sys) (sysTaken p layers) (g .sysFirst);
-      sysFew = few;
-      names = g .names;
-      chains = λ k. omega (arith, g .chains k);
-      files = g .files;
       once = λ k. omega (arith, once k, held-grown k);
       areaNames = g .areaNames;
       eight = g .eight;

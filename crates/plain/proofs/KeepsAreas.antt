@@ -11,6 +11,7 @@ use lib.Dec.{T, ltb, eqb, leb→le, ltb→lt}
 use Rattle.types.specs.declared.Name.{Name}
 use Rattle.types.specs.declared.Role.the-variants.{Sharing}
 use Rattle.disc.specs.Slices.{occurrences, inUnit}
+use Rattle.disc.specs.Catalog.{Catalog}
 use Rattle.disc.proofs.Compare.{same-or}
 use Rattle.plain.specs.Table.{Row, Table, tableFind, tablePut, tableRemove, isSome, SortedFrom, Every}
 use Rattle.plain.specs.Unit.{Plain, File, AreaUser, sysOf, M, held, slicesOf, withTables, withAreas}
@@ -30,7 +31,7 @@ Keeps o = Good (o .unit)
 -- ---- files and areas beside others
 
 -- a file beside other areas, where none that is open is closed
-pub file-beside : {s : ℕ} {old new : Table (Table AreaUser)} {n : ℕ} {f : File} → GoodFile s old n f → (tableFind n new ≡ none → tableFind n old ≡ none) → GoodFile s new n f
+pub file-beside : {c : Catalog} {s : ℕ} {old new : Table (Table AreaUser)} {n : ℕ} {f : File} → GoodFile c s old n f → (tableFind n new ≡ none → tableFind n old ≡ none) → GoodFile c s new n f
 file-beside g h = record {
   name = g .name;
   ordinary = g .ordinary;
@@ -77,32 +78,34 @@ occurrences-put p n f new k h =
 
 -- The new file is good, its slices are the old ones or were free, and the areas of other names stay.
 pub file-put-good : (p : Plain) (n : ℕ) (f new : File) (areas : Table (Table AreaUser)) → Good p → tableFind n (p .files) ≡ some f
-    → GoodFile (p .s) areas n new → ((k : ℕ) → occurrences k (held p) + occurrences k (new .slices) ≤ inUnit (M p) k + occurrences k (f .slices))
+    → GoodFile (sysOf p) (p .s) areas n new → ((k : ℕ) → occurrences k (held p) + occurrences k (new .slices) ≤ inUnit (M p) k + occurrences k (f .slices))
     → ((k : ℕ) → k ≢ n → tableFind k areas ≡ tableFind k (p .areas)) → SortedFrom 0 areas → length areas ≤ 8 → Every (GoodArea (tablePut n new (p .files))) areas
     → Good (withTables p (p .layers) (p .sys) (tablePut n new (p .files)) areas)
 file-put-good p n f new areas g h good room others sorted eight each = record {
   limits = g .limits;
-  layered = g .layered;
-  sysCount = g .sysCount;
+  catalog = record {
+    layered = g .catalog .layered;
+    count = g .catalog .count;
+    few = g .catalog .few;
+    names = sorted-put 0 n new (p .files) (legal-positive n (good .name)) (g .catalog .names);
+    chains = λ k. omega (arith, g .catalog .chains k, places-again (p .H) k (sysOf p) n f new (p .files) h);
+    files = λ k a e. same-or k n (own k a e) (beside k a e);
+  };
   sysFirst = g .sysFirst;
-  sysFew = g .sysFew;
-  names = sorted-put 0 n new (p .files) (legal-positive n (good .name)) (g .names);
-  chains = λ k. omega (arith, g .chains k, places-again (p .H) k (sysOf p) n f new (p .files) h);
-  files = λ k a e. same-or k n (own k a e) (beside k a e);
   once = λ k. omega (arith, room k, occurrences-put p n f new k h);
   areaNames = sorted;
   eight = eight;
   areas = each;
 }
   where
-    own : (k : ℕ) (a : File) → tableFind k (tablePut n new (p .files)) ≡ some a → k ≡ n → GoodFile (p .s) areas k a
+    own : (k : ℕ) (a : File) → tableFind k (tablePut n new (p .files)) ≡ some a → k ≡ n → GoodFile (sysOf p) (p .s) areas k a
     own k a e q =
         let e₂ : tableFind n (tablePut n new (p .files)) ≡ some a = rw q at e in
         let z : new ≡ a = some-inj (sym (find-put n new (p .files)) ∙ e₂) in
         rw (q, ← z) good
 
-    beside : (k : ℕ) (a : File) → tableFind k (tablePut n new (p .files)) ≡ some a → k ≢ n → GoodFile (p .s) areas k a
-    beside k a e d = file-beside (g .files k a (sym (find-put-other k n new (p .files) d) ∙ e)) (λ z. sym (others k d) ∙ z)
+    beside : (k : ℕ) (a : File) → tableFind k (tablePut n new (p .files)) ≡ some a → k ≢ n → GoodFile (sysOf p) (p .s) areas k a
+    beside k a e d = file-beside (g .catalog .files k a (sym (find-put-other k n new (p .files) d) ∙ e)) (λ z. sym (others k d) ∙ z)
 
 -- ---- the users of one area
 
@@ -111,13 +114,15 @@ pub area-put-good : (p : Plain) (n : ℕ) (users : Table AreaUser) → Good p �
     → Good (withAreas p (tablePut n users (p .areas)))
 area-put-good p n users g positive a le = record {
   limits = g .limits;
-  layered = g .layered;
-  sysCount = g .sysCount;
+  catalog = record {
+    layered = g .catalog .layered;
+    count = g .catalog .count;
+    few = g .catalog .few;
+    names = g .catalog .names;
+    chains = g .catalog .chains;
+    files = λ k f h. file-beside (g .catalog .files k f h) (λ e. none-put k n users (p .areas) e .1);
+  };
   sysFirst = g .sysFirst;
-  sysFew = g .sysFew;
-  names = g .names;
-  chains = g .chains;
-  files = λ k f h. file-beside (g .files k f h) (λ e. none-put k n users (p .areas) e .1);
   once = g .once;
   areaNames = sorted-put 0 n users (p .areas) positive (g .areaNames);
   eight = le;
@@ -129,7 +134,7 @@ area-put-good p n users g positive a le = record {
 -- the unit with a new area
 pub opened-good : (p : Plain) (n : ℕ) (f : File) → Good p → tableFind n (p .files) ≡ some f → length (p .areas) < 8 → Good (withAreas p (tablePut n [] (p .areas)))
 opened-good p n f g found room =
-    area-put-good p n [] g (find-above n 0 f (p .files) (g .names) found)
+    area-put-good p n [] g (find-above n 0 f (p .files) (g .catalog .names) found)
     (record {
       file = f;
       entered = found;
@@ -153,7 +158,7 @@ create-area-keeps p name lent g =
 -- ---- Remove area
 
 -- a file whose live length and slices are booked, open or not
-book-good : {s : ℕ} {old new : Table (Table AreaUser)} {n : ℕ} {f : File} → GoodFile s old n f → GoodFile s new n (bookLive f)
+book-good : {c : Catalog} {s : ℕ} {old new : Table (Table AreaUser)} {n : ℕ} {f : File} → GoodFile c s old n f → GoodFile c s new n (bookLive f)
 book-good g = record {
   name = g .name;
   ordinary = g .ordinary;
@@ -174,7 +179,7 @@ book-good g = record {
 pub remove-area-good : (p : Plain) (n : ℕ) (f : File) → Good p → tableFind n (p .files) ≡ some f
     → Good (withTables p (p .layers) (p .sys) (tablePut n (bookLive f) (p .files)) (tableRemove n (p .areas)))
 remove-area-good p n f g h =
-    file-put-good p n f (bookLive f) (tableRemove n (p .areas)) g h (book-good (g .files n f h)) (λ k. omega (arith, g .once k))
+    file-put-good p n f (bookLive f) (tableRemove n (p .areas)) g h (book-good (g .catalog .files n f h)) (λ k. omega (arith, g .once k))
     (λ k d. find-remove-other k n 0 (p .areas) (g .areaNames) d) (sorted-remove 0 n (p .areas) (g .areaNames))
     (omega (arith, length-remove n (p .areas), g .eight)) areas
   where

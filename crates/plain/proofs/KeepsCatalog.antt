@@ -36,20 +36,22 @@ look-up-keeps p name lent g = asks-law Keeps _ g λ _. given-law Keeps _ g λ _ 
 pub removed-good : (p : Plain) (n : ℕ) → Good p → tableFind n (p .areas) ≡ none → Good (withFiles p (tableRemove n (p .files)))
 removed-good p n g e = record {
   limits = g .limits;
-  layered = g .layered;
-  sysCount = g .sysCount;
+  catalog = record {
+    layered = g .catalog .layered;
+    count = g .catalog .count;
+    few = g .catalog .few;
+    names = sorted-remove 0 n (p .files) (g .catalog .names);
+    chains = λ k. omega (arith, g .catalog .chains k, places-remove (p .H) k (sysOf p) n (p .files));
+    files = λ k f h. g .catalog .files k f (remove-some k n 0 (p .files) f (g .catalog .names) h .1);
+  };
   sysFirst = g .sysFirst;
-  sysFew = g .sysFew;
-  names = sorted-remove 0 n (p .files) (g .names);
-  chains = λ k. omega (arith, g .chains k, places-remove (p .H) k (sysOf p) n (p .files));
-  files = λ k f h. g .files k f (remove-some k n 0 (p .files) f (g .names) h .1);
   once = λ k.
       omega (arith, g .once k, occurrences-held k (p .sys) (p .files), occurrences-held k (p .sys) (tableRemove n (p .files)), total-remove (holds k) n (p .files));
   areaNames = g .areaNames;
   eight = g .eight;
   areas = λ k users h.
       let a = g .areas k users h in
-      area-beside a (a .file) (find-remove-other k n 0 (p .files) (g .names) (area-name p n e k users h) ∙ a .entered) (omega arith);
+      area-beside a (a .file) (find-remove-other k n 0 (p .files) (g .catalog .names) (area-name p n e k users h) ∙ a .entered) (omega arith);
 }
 
 pub remove-keeps : (p : Plain) (name : Name) (lent : List ℕ) → Good p → Keeps (stepRemove p name lent)
@@ -79,7 +81,7 @@ new-file-keeps p n size attributes optional tail lent g three six =
     record { name = legal; short = short; allowed = allowed; given = given; vacant = vacant; room = room; sysFew = sysFew; few = few } in
     rw (unit-grown p l n size attributes optional tail)
     (created-good (grown-good p l g (sys-room y) (layers-up (p .H) (sysOf p) n (p .files)) (sys-few y)) (new-grown p l n size attributes optional tail g y three six)
-    (layers-fit (p .H) (sysOf p) n (p .files) (g .chains)))
+    (layers-fit (p .H) (sysOf p) n (p .files) (g .catalog .chains)))
 
 pub create-keeps : (p : Plain) (name : Name) (size attributes : ℕ) (lent : List ℕ) → Good p → Keeps (stepCreate p name size attributes lent)
 create-keeps p name size attributes lent g =

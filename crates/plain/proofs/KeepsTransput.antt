@@ -20,7 +20,7 @@ use Rattle.disc.proofs.Compare.{same-or}
 use Rattle.disc.proofs.NumberLaws.{need-suc}
 use Rattle.disc.proofs.SliceLaws.{occurrences-append, taken-law, length-taken}
 use Rattle.plain.specs.Table.{Table, tableFind, tablePut, Every}
-use Rattle.plain.specs.Unit.{Plain, File, AreaUser, M, held, freeSlices}
+use Rattle.plain.specs.Unit.{Plain, File, AreaUser, sysOf, M, held, freeSlices}
 use Rattle.plain.specs.Questions.{either}
 use Rattle.plain.specs.Areas.{isExclusive, other, moved}
 use Rattle.plain.specs.Transput.{isOutput, rewritten, withFile, input, output, append, oneIf, slicesToTake, stepTransput}
@@ -68,9 +68,9 @@ record Rewrites (p : Plain) (n : ℕ) (f : File) (slices : List ℕ) (sectors : 
   pub closed : tableFind n (p .areas) ≡ none → (f .booked ≡ length sectors) × (f .bookedSlices ≡ length slices)
 
 module _ {p : Plain} (g : Good p) (n : ℕ) {f : File} (found : tableFind n (p .files) ≡ some f) where
-  rewritten-good : (slices : List ℕ) (sectors : List (List ℕ)) → Rewrites p n f slices sectors → GoodFile (p .s) (p .areas) n (rewritten f slices sectors)
+  rewritten-good : (slices : List ℕ) (sectors : List (List ℕ)) → Rewrites p n f slices sectors → GoodFile (sysOf p) (p .s) (p .areas) n (rewritten f slices sectors)
   rewritten-good slices sectors r =
-      let old = g .files n f found in
+      let old = g .catalog .files n f found in
       record {
         name = old .name;
         ordinary = old .ordinary;
@@ -111,7 +111,7 @@ module _ {p : Plain} (g : Good p) (n : ℕ) {f : File} (found : tableFind n (p .
   -- a block is replaced
   pub replace-good : (b : ℕ) (words : List ℕ) → WordsOf 256 words → Good (withFile n (rewritten f (f .slices) (set (f .sectors) b words)) p)
   replace-good b words ok =
-      let old = g .files n f found in
+      let old = g .catalog .files n f found in
       let len : length (set (f .sectors) b words) ≡ length (f .sectors) = length-set (f .sectors) b words in
       rewrite-good (f .slices) (set (f .sectors) b words) (record {
         entryOnly = old .entryOnly;
@@ -133,14 +133,14 @@ module _ {p : Plain} (g : Good p) (n : ℕ) {f : File} (found : tableFind n (p .
   -- at most 127 stretches where no slice is needed, too
   pub append-few : (slicesToTake (p .s) f ≡ 0) ⊎ (stretchCount (f .slices ++ taken (M p) (held p) (lastOf (f .slices)) (slicesToTake (p .s) f)) ≤ 127)
       → stretchCount (f .slices ++ taken (M p) (held p) (lastOf (f .slices)) (slicesToTake (p .s) f)) ≤ 127
-  append-few few = ⊎-elim (λ (z : count ≡ 0). rw (z, append-nil (f .slices)) (g .files n f found .few)) (λ x. x) few
+  append-few few = ⊎-elim (λ (z : count ≡ 0). rw (z, append-nil (f .slices)) (g .catalog .files n f found .few)) (λ x. x) few
 
   -- a block is appended to an open file
   pub append-good : {users : Table AreaUser} → tableFind n (p .areas) ≡ some users → T (extendable (f .attributes)) → slicesToTake (p .s) f ≤ freeSlices p
       → stretchCount (f .slices ++ taken (M p) (held p) (lastOf (f .slices)) (slicesToTake (p .s) f)) ≤ 127 → (words : List ℕ) → WordsOf 256 words
       → Good (withFile n (rewritten f (f .slices ++ taken (M p) (held p) (lastOf (f .slices)) (slicesToTake (p .s) f)) (f .sectors ++ (words ∷ []))) p)
   append-good live ext room few words ok =
-      let old = g .files n f found in
+      let old = g .catalog .files n f found in
       let slices : length (f .slices ++ new-slices) ≡ length (f .slices) + count =
       omega (arith, length-append (f .slices) new-slices, length-taken (M p) (held p) (lastOf (f .slices)) count) in
       let sectors : length (f .sectors ++ (words ∷ [])) ≡ suc (length (f .sectors)) = omega (arith, length-append (f .sectors) (words ∷ [])) in

@@ -2,6 +2,7 @@ pub mod TableLaws
 pub mod QuestionLaws
 pub mod AttributeLaws
 pub mod UnitLaws
+pub mod CatalogLaws
 pub mod WordLaws
 pub mod RoleLaws
 pub mod TransputLaws

@@ -134,7 +134,7 @@ pub vacant-name : (p : Plain) (n : ℕ) → entry p n ≡ none → (tableFind n 
 vacant-name p n e = let v = entry-none p n (rw e tt) in (v .0, rw (ne-eqb n SYS (v .1), ne-eqb n MAP (v .2)) tt)
 
 pub ordinary-files : {p : Plain} → Good p → Every (λ n f. T (not (isSystem n))) (p .files)
-ordinary-files g n f e = g .files n f e .ordinary
+ordinary-files g n f e = g .catalog .files n f e .ordinary
 
 -- SYS and MAP are no files
 pub system-none : (p : Plain) (n : ℕ) → Every (λ m f. T (not (isSystem m))) (p .files) → T (isSystem n) → tableFind n (p .files) ≡ none

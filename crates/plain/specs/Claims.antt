@@ -52,7 +52,8 @@ pub record OnlyMoved (p : Plain) (name : Name) (sender : ℕ) (q : Plain) : Type
 -- What a refused call leaves: everything, "save the sender's position where document 01 says so".
 pub data Left (p : Plain) : Message → Plain → Type 0 where
   everything : {message : Message} → Left p message p
-  butPosition : {name : Name} {sender : ℕ} {operation : Operation} {q : Plain} → Moves operation → OnlyMoved p name sender q → Left p (AreaMessage name sender operation) q
+  butPosition : {name : Name} {sender : ℕ} {operation : Operation} {q : Plain} → Moves operation
+      → OnlyMoved p name sender q → Left p (AreaMessage name sender operation) q
 
 -- A refused call: lent words stay, "returned byte counts are 0", the number of entries is 0.
 pub record Refused (p : Plain) (message : Message) (lent : List ℕ) (o : Outcome) : Type 0 where
@@ -94,7 +95,8 @@ EachNeverUnsound (r ∷ replies) = NeverUnsound (r .answer .result) × EachNever
 pub record PlainClaims : Type 0 where
   pub keeps : (p : Plain) (message : Message) (lent : List ℕ) → Good p → Words lent → Good (step p message lent .unit)
   pub adds : (calls : List Call) (p : Plain) → Good p → LentWords calls → Good (after p calls) × Adds (after p calls)
-  pub refuses : (p : Plain) (message : Message) (lent : List ℕ) → step p message lent .answer .result ≢ 0 → Refused p message lent (step p message lent)
+  pub refuses : (p : Plain) (message : Message) (lent : List ℕ) → step p message lent .answer .result ≢ 0
+      → Refused p message lent (step p message lent)
   pub never-shrinks : (calls : List Call) (p : Plain) → NeverShrinks p (after p calls)
   pub no-more-entry-only : (calls : List Call) (p : Plain) → NoMoreEntryOnly p (after p calls)
   pub never-unsound : (p : Plain) (message : Message) (lent : List ℕ) → NeverUnsound (step p message lent .answer .result)

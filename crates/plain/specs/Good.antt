@@ -1,4 +1,5 @@
--- `Good`: what every plain unit that is read from a sound image keeps, in the order of section 'A sound unit'.
+-- `Good`: what every plain unit that is read from a sound image keeps, in the order of section 'A sound unit'. What is said of SYS and its
+-- files is said of any catalog.
 use mathlib.Core.Path.{_≡_}
 use mathlib.Core.Bool.{not}
 use mathlib.Core.List.{List, []}
@@ -8,12 +9,12 @@ use lib.ListN.{length, getD}
 use lib.Dec.{T}
 use Rattle.disc.specs.Numbers.{need}
 use Rattle.disc.specs.Words.{Words}
-use Rattle.disc.specs.Names.{legalName, isSystem}
+use Rattle.disc.specs.Names.{legalName}
 use Rattle.disc.specs.Attributes.{legalAttributes, legalWith}
 use Rattle.disc.specs.Slices.{InRangeOnce, firstOf}
 use Rattle.disc.specs.Stretches.{stretchCount}
 use Rattle.disc.specs.Kit.{Limits}
-use Rattle.disc.specs.Catalog.{slicesNeeded}
+use Rattle.disc.specs.Catalog.{Catalog, isReserved, slicesNeeded}
 use Rattle.plain.specs.Table.{Row, Table, tableFind, SortedFrom, Every}
 use Rattle.plain.specs.Unit.{Plain, File, AreaUser, sysOf, M, held}
 use Rattle.plain.specs.Taking.{placesTaken}
@@ -27,9 +28,9 @@ pub record WordsOf (n : ℕ) (l : List ℕ) : Type 0 where
 -- "Every other file has legal attributes, length at most 32,767 [see the laws], at least need(length) slices, an index";
 -- where an area process is open, "the entry keeps the booked length and slices, neither above the live ones, the slices
 -- at least need of the length".
-pub record GoodFile (s : ℕ) (areas : Table (Table AreaUser)) (n : ℕ) (f : File) : Type 0 where
+pub record GoodFile (c : Catalog) (s : ℕ) (areas : Table (Table AreaUser)) (n : ℕ) (f : File) : Type 0 where
   pub name : T (legalName n)
-  pub ordinary : T (not (isSystem n))
+  pub ordinary : T (not (isReserved c n))
   pub attributes : T (legalAttributes (f .attributes))
   pub entryOnly : T (legalWith (f .attributes) (length (f .slices)))
   pub optional : WordsOf 3 (f .optional)
@@ -62,17 +63,21 @@ pub record GoodArea (files : Table File) (n : ℕ) (users : Table AreaUser) : Ty
   pub roles : GoodRoles users
   pub each : Every (λ sender u. GoodUser (length (file .sectors)) u) users
 
+-- A catalog and the table of its files: "SYS has length H times L and H times L / s slices, rounded up"; names are distinct; of one key no
+-- more than there are places.
+pub record GoodCatalog (H s : ℕ) (c : Catalog) (areas : Table (Table AreaUser)) (table : Table File) : Type 0 where
+  pub layered : 1 ≤ c .layers
+  pub count : length (c .slices) ≡ slicesNeeded H s c (c .layers)
+  pub few : stretchCount (c .slices) ≤ 127
+  pub names : SortedFrom 0 table
+  pub chains : (k : ℕ) → placesTaken H k c table ≤ 16 * c .layers
+  pub files : Every (GoodFile c s areas) table
+
 pub record Good (p : Plain) : Type 0 where
   pub limits : Limits (p .H) (p .s) (p .F) (p .N)
-  pub layered : 1 ≤ p .layers
-  -- "SYS has length H times L and H times L / s slices, rounded up, slice 1 first."
-  pub sysCount : length (p .sys) ≡ slicesNeeded (p .H) (p .s) (sysOf p) (p .layers)
+  pub catalog : GoodCatalog (p .H) (p .s) (sysOf p) (p .areas) (p .files)
+  -- "slice 1 first"
   pub sysFirst : firstOf (p .sys) ≡ 1
-  pub sysFew : stretchCount (p .sys) ≤ 127
-  -- names are distinct; of one key no more than there are places
-  pub names : SortedFrom 0 (p .files)
-  pub chains : (k : ℕ) → placesTaken (p .H) k (sysOf p) (p .files) ≤ 16 * p .layers
-  pub files : Every (GoodFile (p .s) (p .areas)) (p .files)
   -- "No slice is in two files or twice in one."
   pub once : InRangeOnce (M p) (held p)
   pub areaNames : SortedFrom 0 (p .areas)

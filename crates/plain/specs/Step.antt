@@ -9,7 +9,8 @@ use Rattle.types.specs.declared.Answer.{Answer}
 use Rattle.types.specs.declared.Operation.{Operation}
 use Rattle.types.specs.declared.Operation.the-variants.{Reserve, Position, Sense, Transput, Other}
 use Rattle.types.specs.declared.Message.{Message}
-use Rattle.types.specs.declared.Message.the-variants.{Init, Set, Create, LookUp, Change, Remove, CreateArea, RemoveArea, AreaMessage, UnitDescription, Listing}
+use Rattle.types.specs.declared.Message.the-variants.{Init, Set, Create, LookUp, Change, Remove, CreateArea, RemoveArea}
+use Rattle.types.specs.declared.Message.the-variants.{AreaMessage, UnitDescription, Listing}
 use Rattle.disc.specs.Names.{named, unitIn}
 use Rattle.plain.specs.Table.{Table, tableFind}
 use Rattle.plain.specs.Unit.{Plain, File, AreaUser}

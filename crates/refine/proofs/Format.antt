@@ -91,13 +91,15 @@ module _ (H s F N : ℕ) (lim : Limits H s F N) where
   pub format-good : (unit : ℕ) → Good (freshUnit unit H s F N)
   format-good unit = record {
     limits = lim;
-    layered = omega arith;
-    sysCount = length-sys ∙ ap (λ (n : ℕ). ceilDiv n s) (let e : H ≡ H * 1 = omega arith in e);
+    catalog = record {
+      layered = omega arith;
+      count = length-sys ∙ ap (λ (n : ℕ). ceilDiv n s) (let e : H ≡ H * 1 = omega arith in e);
+      few = omega (arith, ap length (stretches-span 1 c some-slices));
+      names = tt;
+      chains = λ k. omega (arith, same-le (compare (keyOf H SYS) k), same-le (compare (keyOf H MAP) k));
+      files = λ n f h. absurd (some≢none (sym h));
+    };
     sysFirst = first-one c some-slices;
-    sysFew = omega (arith, ap length (stretches-span 1 c some-slices));
-    names = tt;
-    chains = λ k. omega (arith, same-le (compare (keyOf H SYS) k), same-le (compare (keyOf H MAP) k));
-    files = λ n f h. absurd (some≢none (sym h));
     once = λ k. rw (append-nil (sysSlices H s)) (fresh-once k);
     areaNames = tt;
     eight = omega arith;

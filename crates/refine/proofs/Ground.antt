@@ -39,9 +39,9 @@ pub ground : (p : Plain) → Good p → Ground p
 ground p g = record {
   limits = g .limits;
   once = g .once;
-  names = g .names;
-  sysCover = ceil-cover (p .s) (p .H * p .layers) (length (p .sys)) (omega (arith, g .limits .slice-low)) (omega (arith, g .sysCount));
-  cover = λ n f h. g .files n f h .covered;
+  names = g .catalog .names;
+  sysCover = ceil-cover (p .s) (p .H * p .layers) (length (p .sys)) (omega (arith, g .limits .slice-low)) (omega (arith, g .catalog .count));
+  cover = λ n f h. g .catalog .files n f h .covered;
 }
 
 -- ---- entries by name
@@ -55,11 +55,11 @@ entry-named p sorted = record {
 -- every name with an entry is legal, and every entry has 16 words
 module _ (p : Plain) (g : Good p) (n : ℕ) (e : List ℕ) (entered : entry p n ≡ some e) where
   pub entry-legal : T (legalName n)
-  entry-legal = entry-cases p n entered (λ q z. rw q tt) (λ q z. rw q tt) (λ f q z. g .files n f q .name)
+  entry-legal = entry-cases p n entered (λ q z. rw q tt) (λ q z. rw q tt) (λ f q z. g .catalog .files n f q .name)
 
   pub entry-length : length e ≡ 16
   entry-length = entry-cases p n entered (λ q z. ap length z) (λ q z. ap length z) (λ f q z.
-      let fg = g .files n f q in
+      let fg = g .catalog .files n f q in
       ap length z
       ∙ length-entry n (f .optional) (f .attributes) (f .booked) (indexSector (p .F) (p .s) (f .bookedSlices) (f .slices)) (p .s * f .bookedSlices) (f .tail) (fg .optional .count) (fg .tail .count))
 

@@ -14,7 +14,7 @@ use Rattle.disc.specs.Slices.{occurrences, inUnit, InRangeOnce}
 use Rattle.disc.specs.Stretches.{indexWords, slicesAt, sectorIn, blockSector, fileFrom, sysFrom}
 use Rattle.disc.specs.Kit.{Kit, sysIndexSector}
 use Rattle.disc.specs.Map.{mapBit, onesInMap}
-use Rattle.disc.specs.Entries.{placeCount}
+use Rattle.disc.specs.Catalog.{Catalog, sysCatalog, placesOf, placesIn}
 use Rattle.disc.proofs.Compare.{below-or}
 use Rattle.disc.proofs.SliceLaws.{inUnit-in, inUnit-no, occurrences-append}
 use Rattle.disc.proofs.Geometry.{ceil-cover}
@@ -23,11 +23,11 @@ use Rattle.words.proofs.StoreLaws.{length-sectorWords, words-sectorWords, holds
 use Rattle.map.proofs.MarkLaws.{mapBit-le}
 use Rattle.map.proofs.CountLaws.{ones-free}
 use Rattle.plain.specs.Table.{tableFind, Every}
-use Rattle.plain.specs.Unit.{Plain, File, M, held, freeSlices, freeSectors}
+use Rattle.plain.specs.Unit.{Plain, File, sysOf, M, held, freeSlices, freeSectors}
 use Rattle.plain.specs.Good.{WordsOf, GoodFile, Good}
 use Rattle.plain.proofs.UnitLaws.{occurrences-held}
 use Rattle.sound.specs.State.{openArea}
-use Rattle.sound.specs.Sound.{sysPlaces, allSlices, slicesBelow, indexOf, SoundFile, SoundWith, SoundUnit}
+use Rattle.sound.specs.Sound.{allSlices, slicesBelow, indexOf, SoundFile, SoundWith, SoundUnit}
 use Rattle.refine.specs.Represents.{FileOnImage, Represents}
 use Rattle.refine.proofs.Ground.{Ground, block-in, file-data}
 use Rattle.refine.proofs.ReadFile.{words-listOf, length-sectors, sector-at, block-count, few-from, index-holds, shown}
@@ -35,12 +35,15 @@ use Rattle.refine.proofs.ReadFiles.{filesBelow, sorted-files, FileAt, f
 use Rattle.refine.proofs.ReadCatalog.{read-catalog, read-chains}
 use Rattle.refine.proofs.ReadAreas.{readAreas, sorted-areas, eight-areas, not-open, good-area, same-area}
 
-module _ {image : List ℕ} {state : State} {H s F N : ℕ} {sys : List ℕ} (so : SoundWith image state H s F N sys) where
+module _ {image : List ℕ} {state : State} {H s F N layers : ℕ} {sys : List ℕ} (so : SoundWith image state H s F N (sysCatalog layers sys)) where
+  abbrev c : Catalog
+  c = sysCatalog layers sys
+
   abbrev P : ℕ → ℕ → ℕ
-  P = sysPlaces image F s sys
+  P = placesIn image F s c
 
   abbrev count : ℕ
-  count = placeCount H (so .layers)
+  count = placesOf H c
 
   -- the unit that image and state show
   abbrev pub readUnit : Plain
@@ -50,9 +53,9 @@ module _ {image : List ℕ} {state : State} {H s F N : ℕ} {sys : List ℕ} (so
     s = s;
     F = F;
     N = N;
-    layers = so .layers;
+    layers = layers;
     sys = sys;
-    files = filesBelow image state F s P count;
+    files = filesBelow image state F s c count;
     areas = readAreas state;
   }
 
@@ -61,13 +64,13 @@ module _ {image : List ℕ} {state : State} {H s F N : ℕ} {sys : List ℕ} (so
   pos : 0 < s
   pos = omega (arith, so .limits .slice-low)
 
-  held-same : (k : ℕ) → occurrences k (held readUnit) ≡ occurrences k (allSlices image state F s sys count)
+  held-same : (k : ℕ) → occurrences k (held readUnit) ≡ occurrences k (allSlices image state H s F c)
   held-same k =
       omega (
         arith,
-        occurrences-held k sys (filesBelow image state F s P count),
-        slices-files image state F s P H count (so .entries) k,
-        occurrences-append k sys (slicesBelow image state F s P count),
+        occurrences-held k sys (filesBelow image state F s c count),
+        slices-files image state F s c H (so .catalog .entries) k,
+        occurrences-append k sys (slicesBelow image state F s c count),
       )
 
   read-once : InRangeOnce (M readUnit) (held readUnit)
@@ -87,11 +90,11 @@ module _ {image : List ℕ} {state : State} {H s F N : ℕ} {sys : List ℕ} (so
 
   -- ---- files
 
-  found-at : (n : ℕ) (f : File) → tableFind n (readUnit .files) ≡ some f → FileAt image state F s P count n f
-  found-at n f h = file-there image state F s P count n f h
+  found-at : (n : ℕ) (f : File) → tableFind n (readUnit .files) ≡ some f → FileAt image state F s c count n f
+  found-at n f h = file-there image state F s c count n f h
 
   sound-at : (n : ℕ) (f : File) (h : tableFind n (readUnit .files) ≡ some f) → SoundFile image state F s P (found-at n f h .place)
-  sound-at n f h = let w = found-at n f h in so .entries .files (w .place) (w .inside) (w .used) (w .ordinary)
+  sound-at n f h = let w = found-at n f h in so .catalog .entries .files (w .place) (w .inside) (w .used) (w .ordinary)
 
   covered : Every (λ n f. need s (length (f .sectors)) ≤ length (f .slices)) (readUnit .files)
   covered n f h =
@@ -103,8 +106,8 @@ module _ {image : List ℕ} {state : State} {H s F N : ℕ} {sys : List ℕ} (so
   gr = record {
     limits = so .limits;
     once = read-once;
-    names = sorted-files image state F s P count;
-    sysCover = ceil-cover s (H * so .layers) (length sys) pos (omega (arith, so .sysCount));
+    names = sorted-files image state F s c count;
+    sysCover = ceil-cover s (H * layers) (length sys) pos (omega (arith, so .catalog .count));
     cover = covered;
   }
 
@@ -138,7 +141,7 @@ module _ {image : List ℕ} {state : State} {H s F N : ℕ} {sys : List ℕ} (so
   small : (t w : ℕ) → P t w < 65536
   small t w = so .words .each (blockSector F s sys sysFrom (t / 16) * 256 + (t % 16 * 16 + w))
 
-  good-file : Every (GoodFile s (readAreas state)) (readUnit .files)
+  good-file : Every (GoodFile (sysOf readUnit) s (readAreas state)) (readUnit .files)
   good-file n f h =
       let w = found-at n f h in
       let t : ℕ = w .place in
@@ -147,7 +150,7 @@ module _ {image : List ℕ} {state : State} {H s F N : ℕ} {sys : List ℕ} (so
       let len = length-sectors image state F s P t in
       let read = w .read in
       record {
-        name = rw (w .name) at (so .entries .legal t (w .inside) (w .used) .name);
+        name = rw (w .name) at (so .catalog .entries .legal t (w .inside) (w .used) .name);
         ordinary = not-T (isSystem n) (rw (w .name) at (w .ordinary));
         attributes = rw (← read) (sf .legal .allowed);
         entryOnly = rw (← read) (sf .legal .entryOnly);
@@ -160,7 +163,7 @@ module _ {image : List ℕ} {state : State} {H s F N : ℕ} {sys : List ℕ} (so
         bookedSlicesLow = rw (← read) (sh .slices-low);
         bookedCovered = rw (← read) (sh .covered);
         closed = λ e.
-            let c = sh .closed (ap (openArea state) (w .name) ∙ not-open image state H s F P count (so .entries) (so .shaped) (so .areas) n e) in
+            let c = sh .closed (ap (openArea state) (w .name) ∙ not-open image state H s F c (so .catalog .entries) (so .shaped) (so .areas) n e) in
             rw (← read) (c .0 ∙ sym len, c .1);
       }
 
@@ -171,42 +174,43 @@ module _ {image : List ℕ} {state : State} {H s F N : ℕ} {sys : List ℕ} (so
       let ones : onesInMap image ≡ freeSlices readUnit = ones-free (M readUnit) (held readUnit) image (so .limits .slices-high) read-map (so .words) in
       rw ones at (so .kit)
 
-  module _ (own : sys ≡ slicesAt image F s sysIndexSector) where
-    read-good : Good readUnit
-    read-good = record {
-      limits = so .limits;
-      layered = so .layered;
-      sysCount = so .sysCount;
-      sysFirst = so .sysFirst;
-      sysFew = rw own (omega (arith, block-count image F s sysIndexSector (so .sysIndex), so .sysIndex .few));
-      names = sorted-files image state F s P count;
-      chains = read-chains image state H s F P (so .layers) sys pos small (so .entries) (so .sysEntered) (so .mapEntered);
+  read-good : Good readUnit
+  read-good = record {
+    limits = so .limits;
+    catalog = record {
+      layered = so .catalog .layered;
+      count = so .catalog .count;
+      few = rw (so .catalog .described) (omega (arith, block-count image F s sysIndexSector (so .catalog .index), so .catalog .index .few));
+      names = sorted-files image state F s c count;
+      chains = read-chains image state H s F layers sys pos small (so .catalog .entries) (so .sysEntered) (so .mapEntered);
       files = good-file;
-      once = read-once;
-      areaNames = sorted-areas state;
-      eight = eight-areas state (so .shaped) (so .areas .distinct);
-      areas = good-area image state H s F P count (so .entries) (so .shaped) (so .areas);
-    }
+    };
+    sysFirst = so .sysFirst;
+    once = read-once;
+    areaNames = sorted-areas state;
+    eight = eight-areas state (so .shaped) (so .areas .distinct);
+    areas = good-area image state H s F c (so .catalog .entries) (so .shaped) (so .areas);
+  }
 
-    read-represents : Represents image state readUnit
-    read-represents = record {
-      words = so .words;
-      layout = record {
-        size = so .size;
-        kit = read-kit;
-        map = read-map;
-        sys = record { index = rw own (so .sysIndex .pairs); places = read-catalog image state H s F P (so .layers) sys pos small (so .entries) (so .sysEntered) (so .mapEntered) (state .unit) N (readAreas state) };
-        mapIndex = so .mapIndex;
-        files = on-image;
-      };
-      areas = record {
-        shaped = so .shaped;
-        number = refl;
-        distinct = so .areas .distinct;
-        distinctUsers = λ j u v h live. so .areas .users j h live .distinct u v;
-        each = same-area image state H s F P count (so .entries) (so .shaped) (so .areas);
-      };
-    }
+  read-represents : Represents image state readUnit
+  read-represents = record {
+    words = so .words;
+    layout = record {
+      size = so .size;
+      kit = read-kit;
+      map = read-map;
+      sys = record { index = rw (so .catalog .described) (so .catalog .index .pairs); places = read-catalog image state H s F layers sys pos small (so .catalog .entries) (so .sysEntered) (so .mapEntered) (state .unit) N (readAreas state) };
+      mapIndex = so .mapIndex;
+      files = on-image;
+    };
+    areas = record {
+      shaped = so .shaped;
+      number = refl;
+      distinct = so .areas .distinct;
+      distinctUsers = λ j u v h live. so .areas .users j h live .distinct u v;
+      each = same-area image state H s F c (so .catalog .entries) (so .shaped) (so .areas);
+    };
+  }
 
 -- The plain unit that an image and a state represent.
 pub record Reads (image : List ℕ) (state : State) : Type 0 where
@@ -215,9 +219,9 @@ pub record Reads (image : List ℕ) (state : State) : Type 0 where
   pub represents : Represents image state plain
 
 pub sound-reads : (image : List ℕ) (state : State) → SoundUnit image state → Reads image state
-sound-reads image state u = record { plain = readUnit (u .rules); good = read-good (u .rules) refl; represents = read-represents (u .rules) refl }
+sound-reads image state u = record { plain = readUnit (u .rules); good = read-good (u .rules); represents = read-represents (u .rules) }
 
 -- its layers are those with which the rules are met
-pub reads-layers : (image : List ℕ) (state : State) (u : SoundUnit image state) → sound-reads image state u .plain .layers ≡ u .rules .layers
+pub reads-layers : (image : List ℕ) (state : State) (u : SoundUnit image state) → sound-reads image state u .plain .layers ≡ u .layers
 unfolding sound-reads
 reads-layers image state u = refl

@@ -10,8 +10,8 @@ use lib.Dec.{T}
 use Rattle.types.specs.declared.Area.{Area}
 use Rattle.types.specs.declared.State.{State}
 use Rattle.types.specs.State.{areaAt, IsOpen}
-use Rattle.disc.specs.Names.{isSystem}
 use Rattle.disc.specs.Entries.{nameAt, indexSector}
+use Rattle.disc.specs.Catalog.{Catalog, isReserved, placesOf, placesIn}
 use Rattle.state.specs.declared.Found.{Found}
 use Rattle.state.specs.declared.Found.the-variants.{At, Absent}
 use Rattle.state.specs.Areas.{areaNamed}
@@ -118,10 +118,16 @@ module _ (state : State) where
 
 -- ---- with the entries
 
-module _ (image : List ℕ) (state : State) (H s F : ℕ) (P : ℕ → ℕ → ℕ) (count : ℕ)
-    (en : SoundEntries image state H s F P count) (shaped : Shaped state) (sa : SoundAreas state P count) where
+module _ (image : List ℕ) (state : State) (H s F : ℕ) (c : Catalog)
+    (en : SoundEntries image state H s F c) (shaped : Shaped state) (sa : SoundAreas image state H s F c) where
+  abbrev P : ℕ → ℕ → ℕ
+  P = placesIn image F s c
+
+  abbrev count : ℕ
+  count = placesOf H c
+
   abbrev files : Table File
-  files = filesBelow image state F s P count
+  files = filesBelow image state F s c count
 
   -- an open area with its descriptor and its file's place
   record Open (n : ℕ) : Type 0 where
@@ -132,7 +138,7 @@ module _ (image : List ℕ) (state : State) (H s F : ℕ) (P : ℕ → ℕ → �
     pub place : ℕ
     pub inside : place < count
     pub used : Used P place
-    pub ordinary : T (isSystem (nameAt P place)) → ⊥
+    pub ordinary : T (isReserved c (nameAt P place)) → ⊥
     pub entered : nameAt P place ≡ n
     pub users : tableFind n (readAreas state) ≡ some (usersIn (areaAt state area .users))
     pub found : openArea state n ≡ some (areaAt state area)
@@ -143,7 +149,7 @@ module _ (image : List ℕ) (state : State) (H s F : ℕ) (P : ℕ → ℕ → �
       let t = sa .entered j h live in
       let named : nameAt P (t .0) ≡ n = t .3 ∙ e in
       let p : 0 < nameAt P (t .0) = legal-positive (nameAt P (t .0)) (en .legal (t .0) (t .1) (t .2) .name) in
-      let ord : T (isSystem (nameAt P (t .0))) → ⊥ = λ y. sa .ordinary j h live (rw (t .3) at y) in
+      let ord : T (isReserved c (nameAt P (t .0))) → ⊥ = λ y. sa .ordinary j h live (rw (t .3) at y) in
       record {
         area = j;
         below = h;
@@ -156,13 +162,13 @@ module _ (image : List ℕ) (state : State) (H s F : ℕ) (P : ℕ → ℕ → �
         entered = named;
         users = rw e at (area-find state shaped (sa .distinct) j h live (omega (arith, t .3)));
         found = rw e at (open-at state shaped (sa .distinct) j h live);
-        file = ap (λ (m : ℕ). tableFind m files) (sym named) ∙ file-find image state F s P H count en (t .0) (t .1) p ord;
+        file = ap (λ (m : ℕ). tableFind m files) (sym named) ∙ file-find image state F s c H en (t .0) (t .1) p ord;
       }
 
   by-users : (n : ℕ) (users : Table AreaUser) → tableFind n (readAreas state) ≡ some users → Open n
   by-users n users e =
-      let c = row-there state n users e in
-      opened (c .0) (c .1) (c .2 .live) n (c .2 .key)
+      let w = row-there state n users e in
+      opened (w .0) (w .1) (w .2 .live) n (w .2 .key)
 
   by-search : (n : ℕ) (a : Area) → openArea state n ≡ some a → Open n
   by-search n a e = go (areaNamed n state) refl

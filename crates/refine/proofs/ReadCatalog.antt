@@ -9,7 +9,7 @@ use lib.Dec.{T, eqb, eqb→eq, not-T}
 use Rattle.types.specs.declared.State.{State}
 use Rattle.disc.specs.Names.{SYS, MAP, isSystem, keyOf}
 use Rattle.disc.specs.Entries.{placeCount, nameAt, sysEntry, mapEntry}
-use Rattle.disc.specs.Catalog.{sysCatalog}
+use Rattle.disc.specs.Catalog.{Catalog, sysCatalog, placesIn}
 use Rattle.disc.proofs.Compare.{same-or}
 use Rattle.plain.specs.Table.{Table}
 use Rattle.plain.specs.Unit.{Plain, File, AreaUser, fileEntry, entry}
@@ -44,11 +44,19 @@ unused-or P t = ⊎-elim
 pub ordinary : (n : ℕ) → n ≢ SYS → n ≢ MAP → T (isSystem n) → ⊥
 ordinary n a b t = or-case (eqb n SYS) (eqb n MAP) (λ q. a (eqb→eq n SYS q)) (λ q. b (eqb→eq n MAP q)) t
 
-module _ (image : List ℕ) (state : State) (H s F : ℕ) (P : ℕ → ℕ → ℕ) (layers : ℕ) (sys : List ℕ) (pos : 0 < s) (small : (t w : ℕ) → P t w < 65536)
-    (en : SoundEntries image state H s F P (placeCount H layers))
-    (se : Entered P (placeCount H layers) (sysEntry H s layers sys)) (me : Entered P (placeCount H layers) mapEntry) where
+module _ (image : List ℕ) (state : State) (H s F : ℕ) (layers : ℕ) (sys : List ℕ) (pos : 0 < s)
+    (small : (t w : ℕ) → placesIn image F s (sysCatalog layers sys) t w < 65536)
+    (en : SoundEntries image state H s F (sysCatalog layers sys))
+    (se : Entered (placesIn image F s (sysCatalog layers sys)) (placeCount H layers) (sysEntry H s layers sys))
+    (me : Entered (placesIn image F s (sysCatalog layers sys)) (placeCount H layers) mapEntry) where
+  abbrev c : Catalog
+  c = sysCatalog layers sys
+
+  abbrev P : ℕ → ℕ → ℕ
+  P = placesIn image F s c
+
   abbrev pub files : Table File
-  files = filesBelow image state F s P (placeCount H layers)
+  files = filesBelow image state F s c (placeCount H layers)
 
   abbrev unit : ℕ → ℕ → Table (Table AreaUser) → Plain
   unit number N areas = record { unit = number; H = H; s = s; F = F; N = N; layers = layers; sys = sys; files = files; areas = areas }
@@ -61,10 +69,10 @@ module _ (image : List ℕ) (state : State) (H s F : ℕ) (P : ℕ → ℕ → �
 
   -- the only place of a name
   only : (t u n : ℕ) → t < placeCount H layers → u < placeCount H layers → nameAt P t ≡ n → nameAt P u ≡ n → n ≢ 0 → t ≡ u
-  only t u n x y a b nz = en .alone t u x y (used-name image state F s P t (λ z. nz (sym a ∙ z))) (used-name image state F s P u (λ z. nz (sym b ∙ z))) (a ∙ sym b)
+  only t u n x y a b nz = en .alone t u x y (used-name image state F s c t (λ z. nz (sym a ∙ z))) (used-name image state F s c u (λ z. nz (sym b ∙ z))) (a ∙ sym b)
 
   key-at : (t n : ℕ) → t < placeCount H layers → nameAt P t ≡ n → n ≢ 0 → t / 16 % H ≡ keyOf H n
-  key-at t n x e nz = en .legal t x (used-name image state F s P t (λ z. nz (sym e ∙ z))) .key ∙ ap (keyOf H) e
+  key-at t n x e nz = en .legal t x (used-name image state F s c t (λ z. nz (sym e ∙ z))) .key ∙ ap (keyOf H) e
 
   module _ (number N : ℕ) (areas : Table (Table AreaUser)) where
     abbrev E : ℕ → Option (List ℕ)
@@ -85,7 +93,7 @@ module _ (image : List ℕ) (state : State) (H s F : ℕ) (P : ℕ → ℕ → �
         let ord = ordinary (nameAt P t) a b in
         record {
           words = fileEntry F s (nameAt P t) (readFile image state F s P t);
-          entered = entry-other (unit number N areas) (nameAt P t) a b ∙ ap (mapSome (fileEntry F s (nameAt P t))) (file-find image state F s P H (placeCount H layers) en t x name ord);
+          entered = entry-other (unit number N areas) (nameAt P t) a b ∙ ap (mapSome (fileEntry F s (nameAt P t))) (file-find image state F s c H en t x name ord);
           holds = entry-shown image state F s P t (small t) (shown image state F s P pos t (en .files t x u ord));
           key = key;
         })
@@ -94,16 +102,16 @@ module _ (image : List ℕ) (state : State) (H s F : ℕ) (P : ℕ → ℕ → �
     place-there n e h = entry-cases (unit number N areas) n h
         (λ q z. (se .place, se .inside, sys-name ∙ sym q))
         (λ q z. (me .place, me .inside, map-name ∙ sym q))
-        (λ f q z. let w = file-there image state F s P (placeCount H layers) n f q in (w .place, w .inside, w .name))
+        (λ f q z. let w = file-there image state F s c (placeCount H layers) n f q in (w .place, w .inside, w .name))
 
     pub read-catalog : CatalogOf P (placeCount H layers) H E
     read-catalog = record {
       each = λ t x. ⊎-elim (λ (u : Unused P t). inl u) (λ (u : Used P t). inr (place-used t x u)) (unused-or P t);
       there = place-there;
-      alone = λ t u x y q nz. en .alone t u x y (used-name image state F s P t nz) (used-name image state F s P u (λ z. nz (q ∙ z))) q;
+      alone = λ t u x y q nz. en .alone t u x y (used-name image state F s c t nz) (used-name image state F s c u (λ z. nz (q ∙ z))) q;
     }
 
-  pub read-chains : (k : ℕ) → placesTaken H k (sysCatalog layers sys) files ≤ 16 * layers
+  pub read-chains : (k : ℕ) → placesTaken H k c files ≤ 16 * layers
   read-chains =
-      places-most (unit 0 0 []) (sorted-files image state F s P (placeCount H layers))
-      (λ n f e. let w = file-there image state F s P (placeCount H layers) n f e in not-T (isSystem n) (rw (w .name) at (w .ordinary))) (read-catalog 0 0 [])
+      places-most (unit 0 0 []) (sorted-files image state F s c (placeCount H layers))
+      (λ n f e. let w = file-there image state F s c (placeCount H layers) n f e in not-T (isSystem n) (rw (w .name) at (w .ordinary))) (read-catalog 0 0 [])

@@ -6,7 +6,8 @@ use Rattle.types.specs.declared.State.{State}
 use Rattle.disc.specs.Words.{word}
 use Rattle.disc.specs.Stretches.{slicesAt}
 use Rattle.disc.specs.Kit.{kitSector, sysIndexSector}
-use Rattle.plain.specs.Unit.{Plain}
+use Rattle.disc.specs.Catalog.{sysCatalog}
+use Rattle.plain.specs.Unit.{Plain, sysOf}
 use Rattle.plain.specs.Good.{Good}
 use Rattle.sound.specs.Sound.{SoundWith, SoundUnit}
 use Rattle.refine.specs.Represents.{Represents}
@@ -19,22 +20,24 @@ use Rattle.refine.proofs.Read.{sound-reads}
 
 module _ {image : List ℕ} {state : State} {p : Plain} (g : Good p) (r : Represents image state p) where
   -- the rules with the plain unit's numbers and slices
-  with-unit : SoundWith image state (p .H) (p .s) (p .F) (p .N) (p .sys)
+  with-unit : SoundWith image state (p .H) (p .s) (p .F) (p .N) (sysOf p)
   with-unit = record {
     words = r .words;
     shaped = r .areas .shaped;
     size = r .layout .size;
     kit = kit-ones g r;
     limits = g .limits;
-    layers = p .layers;
-    layered = g .layered;
     sysEntered = sys-entered g r;
     mapEntered = map-entered g r;
     mapIndex = r .layout .mapIndex;
-    sysIndex = sys-index image p g (r .layout .sys .index);
-    sysCount = g .sysCount;
+    catalog = record {
+      layered = g .catalog .layered;
+      described = sym (sys-read image p g (r .layout .sys .index));
+      index = sys-index image p g (r .layout .sys .index);
+      count = g .catalog .count;
+      entries = sound-entries g r;
+    };
     sysFirst = g .sysFirst;
-    entries = sound-entries g r;
     once = sound-once g r;
     map = sound-map g r;
     areas = sound-areas g r;
@@ -44,8 +47,9 @@ module _ {image : List ℕ} {state : State} {p : Plain} (g : Good p) (r : Repres
   pub represents-sound : SoundUnit image state
   represents-sound =
       let kit = r .layout .kit in
-      let with-sys = subst (SoundWith image state (p .H) (p .s) (p .F) (p .N)) (sym (sys-read image p g (r .layout .sys .index))) with-unit in
-      record { rules = rw (kit .keys, kit .slice, kit .first, kit .sectors) with-sys }
+      let with-sys = subst (λ (l : List ℕ). SoundWith image state (p .H) (p .s) (p .F) (p .N) (sysCatalog (p .layers) l))
+      (sym (sys-read image p g (r .layout .sys .index))) with-unit in
+      record { layers = p .layers; rules = rw (kit .keys, kit .slice, kit .first, kit .sectors) with-sys }
 
 pub sound-represents : SoundRepresents
 sound-represents = record {

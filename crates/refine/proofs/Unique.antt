@@ -70,13 +70,13 @@ module _ {image : List ℕ} {p : Plain} (a : Is image p) where
   gr = ground p (a .good)
 
   nm : Named (entry p)
-  nm = entry-named p (a .good .names)
+  nm = entry-named p (a .good .catalog .names)
 
 -- SYS's slices
 module _ (image : List ℕ) (p : Plain) (L : ℕ) (y : List ℕ) (fs : Table File) (a : Is image p) (b : Is image (withTables p L y fs (p .areas))) where
   sys-unique : y ≡ p .sys
   sys-unique =
-      index-unique (p .F) (p .s) y (p .sys) (positive p (gr a)) (catalog-slices (sys-ground (gr b))) (catalog-slices (sys-ground (gr a))) (b .good .sysFew) (a .good .sysFew)
+      index-unique (p .F) (p .s) y (p .sys) (positive p (gr a)) (catalog-slices (sys-ground (gr b))) (catalog-slices (sys-ground (gr a))) (b .good .catalog .few) (a .good .catalog .few)
       (b .layout .sys .index) (a .layout .sys .index)
 
 -- the layers: SYS's own entry has them
@@ -132,8 +132,8 @@ SameLive F s f k = (indexSector F s (length (f .slices)) (f .slices) ≡ indexSe
 module _ (image : List ℕ) (p : Plain) (fs : Table File) (a : Is image p) (b : Is image (withFiles p fs)) where
   file-there : (n : ℕ) (f : File) → tableFind n (p .files) ≡ some f → (k : File) × (tableFind n fs ≡ some k) × (fileEntry (p .F) (p .s) n f ≡ fileEntry (p .F) (p .s) n k)
   file-there n f h =
-      let d = not-system n (a .good .files n f h .ordinary) in
-      entry-cases (withFiles p fs) n (entry-there image p fs a b n (fileEntry (p .F) (p .s) n f) (entry-of p n f (a .good .files n f h .ordinary) h))
+      let d = not-system n (a .good .catalog .files n f h .ordinary) in
+      entry-cases (withFiles p fs) n (entry-there image p fs a b n (fileEntry (p .F) (p .s) n f) (entry-of p n f (a .good .catalog .files n f h .ordinary) h))
       (λ q z. absurd (d .0 q)) (λ q z. absurd (d .1 q)) (λ k q z. (k, q, z))
 
   module _ (n : ℕ) (f k : File) (h : tableFind n (p .files) ≡ some f) (j : tableFind n fs ≡ some k) (same-entry : fileEntry (p .F) (p .s) n f ≡ fileEntry (p .F) (p .s) n k)
@@ -142,7 +142,7 @@ module _ (image : List ℕ) (p : Plain) (fs : Table File) (a : Is image p) (b : 
     s-pos = positive p (gr a)
 
     t : Told (p .F) (p .s) f k
-    t = told (p .F) (p .s) n f k (a .good .files n f h .optional .count ∙ sym (b .good .files n k j .optional .count)) same-entry
+    t = told (p .F) (p .s) n f k (a .good .catalog .files n f h .optional .count ∙ sym (b .good .catalog .files n k j .optional .count)) same-entry
 
     booked-slices : f .bookedSlices ≡ k .bookedSlices
     booked-slices = sym (mul-div-cancel-left (f .bookedSlices) s-pos) ∙ ap (λ (x : ℕ). x / p .s) (t .reserved) ∙ mul-div-cancel-left (k .bookedSlices) s-pos
@@ -153,8 +153,8 @@ module _ (image : List ℕ) (p : Plain) (fs : Table File) (a : Is image p) (b : 
         go : (o : Option (Table AreaUser)) → tableFind n (p .areas) ≡ o → SameLive (p .F) (p .s) f k
         go (some users) e = live users e
         go none e =
-            let x = a .good .files n f h .closed e in
-            let y = b .good .files n k j .closed e in
+            let x = a .good .catalog .files n f h .closed e in
+            let y = b .good .catalog .files n k j .closed e in
             (ap (λ (c : ℕ). indexSector (p .F) (p .s) c (f .slices)) (sym (x .1)) ∙ t .index ∙ ap (λ (c : ℕ). indexSector (p .F) (p .s) c (k .slices)) (y .1), sym (x .0) ∙ t .booked ∙ y .0)
 
     slices-same : f .slices ≡ k .slices
@@ -164,7 +164,7 @@ module _ (image : List ℕ) (p : Plain) (fs : Table File) (a : Is image p) (b : 
         let e : sectorIn (p .F) (p .s) (f .slices) 0 ≡ sectorIn (p .F) (p .s) (k .slices) 0 =
         sector-first (p .F) (p .s) (f .slices) x ∙ both .0 ∙ sym (sector-first (p .F) (p .s) (k .slices) y) in
         index-unique (p .F) (p .s) (f .slices) (k .slices) s-pos (file-slices p (gr a) n f h) (file-slices (withFiles p fs) (gr b) n k j)
-        (a .good .files n f h .few) (b .good .files n k j .few) (rw e at (a .layout .files n f h .index x)) (b .layout .files n k j .index y))
+        (a .good .catalog .files n f h .few) (b .good .catalog .files n k j .few) (rw e at (a .layout .files n f h .index x)) (b .layout .files n k j .index y))
         (λ y.
         let e : f .slices ≡ [] = index-zero (p .F) (p .s) (f .slices) (omega (arith, a .good .limits .first)) (both .0 ∙ index-none (p .F) (p .s) (k .slices) y) in
         absurd (omega (arith, ap length e))))
@@ -173,8 +173,8 @@ module _ (image : List ℕ) (p : Plain) (fs : Table File) (a : Is image p) (b : 
     sectors-same : f .sectors ≡ k .sectors
     sectors-same = ext-getD [] (f .sectors) (k .sectors) (both .1) (λ c x.
         let y : c < length (k .sectors) = omega (arith, both .1) in
-        let la = a .good .files n f h .sectors c x .count in
-        let lb = b .good .files n k j .sectors c y .count in
+        let la = a .good .catalog .files n f h .sectors c x .count in
+        let lb = b .good .catalog .files n k j .sectors c y .count in
         let ha : Holds image (sectorIn (p .F) (p .s) (k .slices) (c + 1)) (getD (f .sectors) c []) = rw slices-same at (a .layout .files n f h .blocks c x) in
         let hb = b .layout .files n k j .blocks c y in
         ext-getD 0 (getD (f .sectors) c []) (getD (k .sectors) c []) (la ∙ sym lb) (λ w z. sym (ha .at w z (omega arith)) ∙ hb .at w (omega arith) (omega arith)))
@@ -196,7 +196,7 @@ record Lives (p : Plain) (fs : Table File) : Type 0 where
 
 module _ (image : List ℕ) (p : Plain) (fs : Table File) (a : Is image p) (b : Is image (withFiles p fs)) (live : Lives p fs) where
   files-unique : fs ≡ p .files
-  files-unique = find-ext 0 fs (p .files) (b .good .names) (a .good .names) (λ n. go n (tableFind n (p .files)) refl)
+  files-unique = find-ext 0 fs (p .files) (b .good .catalog .names) (a .good .catalog .names) (λ n. go n (tableFind n (p .files)) refl)
     where
       back : (n : ℕ) → tableFind n (p .files) ≡ none → (o : Option File) → tableFind n fs ≡ o → o ≡ none
       back n h none e = refl

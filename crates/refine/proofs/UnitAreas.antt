@@ -16,7 +16,7 @@ use Rattle.disc.proofs.Compare.{same-or}
 use Rattle.state.specs.declared.Found.the-variants.{At}
 use Rattle.state.specs.Areas.{areaNamed}
 use Rattle.plain.specs.Table.{Row, tableFind}
-use Rattle.plain.specs.Unit.{Plain, File, AreaUser, fileEntry, entry}
+use Rattle.plain.specs.Unit.{Plain, File, AreaUser, sysOf, fileEntry, entry}
 use Rattle.plain.specs.Areas.{isExclusive, isWriter, isUser}
 use Rattle.plain.specs.Good.{Good, GoodArea}
 use Rattle.plain.proofs.TableLaws.{total-one, total-two}
@@ -93,14 +93,14 @@ module _ {image : List ℕ} {state : State} {p : Plain} (g : Good p) (r : Repres
     area-entered : (t : ℕ) × (t < count g r) × Used Q t × (nameAt Q t ≡ n)
     area-entered =
         let f : File = good .file in
-        let e : entry p n ≡ some (fileEntry (p .F) (p .s) n f) = entry-of p n f (g .files n f (good .entered) .ordinary) (good .entered) in
+        let e : entry p n ≡ some (fileEntry (p .F) (p .s) n f) = entry-of p n f (g .catalog .files n f (good .entered) .ordinary) (good .entered) in
         let there = r .layout .sys .places .there n (fileEntry (p .F) (p .s) n f) e in
-        (there .0, there .1, (λ z. no-zero (r .layout .sys .places) (entry-named p (g .names)) n (fileEntry (p .F) (p .s) n f) e (sym (there .2) ∙ name-zero Q (there .0) z)), there .2)
+        (there .0, there .1, (λ z. no-zero (r .layout .sys .places) (entry-named p (g .catalog .names)) n (fileEntry (p .F) (p .s) n f) e (sym (there .2) ∙ name-zero Q (there .0) z)), there .2)
 
     area-ordinary : T (isSystem n) → ⊥
-    area-ordinary t = T-not (isSystem n) (g .files n (good .file) (good .entered) .ordinary) t
+    area-ordinary t = T-not (isSystem n) (g .catalog .files n (good .file) (good .entered) .ordinary) t
 
-  pub sound-areas : SoundAreas state Q (count g r)
+  pub sound-areas : SoundAreas image state (p .H) (p .s) (p .F) (sysOf p)
   sound-areas = record {
     distinct = r .areas .distinct;
     entered = area-entered;

@@ -15,19 +15,20 @@ use Rattle.disc.specs.Names.{isSystem}
 use Rattle.disc.specs.Slices.{firstOf}
 use Rattle.disc.specs.Stretches.{sectorIn, indexWords, stretchCount, slicesAt}
 use Rattle.disc.specs.Kit.{sysIndexSector}
-use Rattle.disc.specs.Entries.{placeCount, nameAt, indexSector}
+use Rattle.disc.specs.Entries.{nameAt, indexSector}
+use Rattle.disc.specs.Catalog.{placesOf, placesIn}
 use Rattle.disc.proofs.Compare.{below-or}
 use Rattle.disc.proofs.StretchLaws.{count-some}
 use Rattle.disc.proofs.EntryLaws.{entry-attributes, entry-size, entry-index, entry-reserved, sector-first, index-none}
 use Rattle.disc.proofs.IndexRead.{slices-read}
 use Rattle.plain.specs.Table.{Table, tableFind}
-use Rattle.plain.specs.Unit.{Plain, File, AreaUser, fileEntry, entry}
+use Rattle.plain.specs.Unit.{Plain, File, AreaUser, sysOf, fileEntry, entry}
 use Rattle.plain.specs.Good.{Good, GoodFile}
 use Rattle.plain.proofs.TableLaws.{some≢none, some-inj}
 use Rattle.plain.proofs.UnitLaws.{entry-cases}
 use Rattle.sound.specs.Places.{Unused, Used, IndexBlock, OwnIndex, slicesFrom, indexIf, LegalFile}
 use Rattle.sound.specs.State.{openArea, liveIndex, liveLength}
-use Rattle.sound.specs.Sound.{indexOf, lengthOf, slicesOf, SoundFile, sysPlaces}
+use Rattle.sound.specs.Sound.{indexOf, lengthOf, slicesOf, SoundFile}
 use Rattle.refine.specs.Represents.{PlaceOf, FileOnImage, LiveArea, areaOfState, areaOfUnit, Represents}
 use Rattle.refine.proofs.Ground.{Ground, ground, positive, catalog-slices, sys-ground, file-slices, length-small}
 use Rattle.refine.proofs.StateLaws.{none-of}
@@ -52,10 +53,10 @@ module _ (image : List ℕ) (p : Plain) (g : Good p) (h : Holds image sysIndexSe
       go (x ∷ l) e = omega arith
 
   pub sys-read : slicesAt image (p .F) (p .s) sysIndexSector ≡ p .sys
-  sys-read = slices-read image (p .F) (p .s) sysIndexSector (positive p (ground p g)) (p .sys) (catalog-slices (sys-ground (ground p g))) (g .sysFew) h
+  sys-read = slices-read image (p .F) (p .s) sysIndexSector (positive p (ground p g)) (p .sys) (catalog-slices (sys-ground (ground p g))) (g .catalog .few) h
 
   pub sys-index : IndexBlock image (p .F) (p .s) sysIndexSector
-  sys-index = index-block image (p .F) (p .s) sysIndexSector (p .sys) (positive p (ground p g)) (catalog-slices (sys-ground (ground p g))) sys-some (g .sysFew) h
+  sys-index = index-block image (p .F) (p .s) sysIndexSector (p .sys) (positive p (ground p g)) (catalog-slices (sys-ground (ground p g))) sys-some (g .catalog .few) h
 
 -- the slices read from a file's index sector are its own
 pub slices-from : (image : List ℕ) (F s : ℕ) (f : File) → 10 ≤ F → 0 < s → ((j : ℕ) → j < length (f .slices) → 1 ≤ getD (f .slices) j 0) → stretchCount (f .slices) ≤ 127
@@ -93,10 +94,10 @@ own-index image F s f low pos above few h nz = below-or 0 (length (f .slices)) o
 
 module _ {image : List ℕ} {state : State} {p : Plain} (g : Good p) (r : Represents image state p) where
   abbrev pub P : ℕ → ℕ → ℕ
-  P = sysPlaces image (p .F) (p .s) (p .sys)
+  P = placesIn image (p .F) (p .s) (sysOf p)
 
   abbrev pub count : ℕ
-  count = placeCount (p .H) (p .layers)
+  count = placesOf (p .H) (sysOf p)
 
   gr : Ground p
   gr = ground p g
@@ -113,8 +114,8 @@ module _ {image : List ℕ} {state : State} {p : Plain} (g : Good p) (r : Repres
     abbrev index : ℕ
     index = indexSector (p .F) (p .s) (length (f .slices)) (f .slices)
 
-    fg : GoodFile (p .s) (p .areas) n f
-    fg = g .files n f found
+    fg : GoodFile (sysOf p) (p .s) (p .areas) n f
+    fg = g .catalog .files n f found
 
     -- what the state says of the name: an area as the unit has it, or none
     pub live-area : (a : Area) → openArea state n ≡ some a → (a .index .0 ≡ index) × (a .length ≡ length (f .sectors))

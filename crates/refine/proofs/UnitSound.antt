@@ -13,7 +13,7 @@ use Rattle.disc.specs.Map.{onesInMap}
 use Rattle.disc.specs.Entries.{nameAt, sysEntry, mapEntry}
 use Rattle.disc.proofs.SliceLaws.{inUnit-in, inUnit-no}
 use Rattle.map.proofs.CountLaws.{ones-free}
-use Rattle.plain.specs.Unit.{Plain, M, held, entry}
+use Rattle.plain.specs.Unit.{Plain, sysOf, M, held, entry}
 use Rattle.plain.specs.Good.{Good}
 use Rattle.plain.proofs.UnitLaws.{entry-sys, entry-map, legal-positive}
 use Rattle.sound.specs.Places.{Unused, Used, Entered, LegalPlace}
@@ -32,7 +32,7 @@ module _ {image : List ℕ} {state : State} {p : Plain} (g : Good p) (r : Repres
   N = count g r
 
   nm : Named (entry p)
-  nm = entry-named p (g .names)
+  nm = entry-named p (g .catalog .names)
 
   -- ---- SYS and the kit
 
@@ -59,7 +59,7 @@ module _ {image : List ℕ} {state : State} {p : Plain} (g : Good p) (r : Repres
       (λ (u : PlaceOf Q (p .H) (entry p) t). record { name = entry-legal p g (nameAt Q t) (u .words) (u .entered); key = u .key })
       (r .layout .sys .places .each t x)
 
-  pub sound-entries : SoundEntries image state (p .H) (p .s) (p .F) Q N
+  pub sound-entries : SoundEntries image state (p .H) (p .s) (p .F) (sysOf p)
   sound-entries = record {
     legal = legal-place;
     alone = λ t u x y a b e. r .layout .sys .places .alone t u x y e (λ z. let k = legal-positive (nameAt Q t) (legal-place t x a .name) in omega arith);
@@ -68,10 +68,10 @@ module _ {image : List ℕ} {state : State} {p : Plain} (g : Good p) (r : Repres
 
   -- ---- slices and map
 
-  pub sound-once : InRangeOnce (M p) (allSlices image state (p .F) (p .s) (p .sys) N)
+  pub sound-once : InRangeOnce (M p) (allSlices image state (p .H) (p .s) (p .F) (sysOf p))
   sound-once k = rw (all-held g r k) (g .once k)
 
-  pub sound-map : SoundMap image (M p) (allSlices image state (p .F) (p .s) (p .sys) N)
+  pub sound-map : SoundMap image (M p) (allSlices image state (p .H) (p .s) (p .F) (sysOf p))
   sound-map = record {
     marked = λ k a b.
         let e = r .layout .map k a (omega (arith, g .limits .slices-high)) in

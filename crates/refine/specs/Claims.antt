@@ -12,4 +12,5 @@ use Rattle.refine.specs.Represents.{Represents}
 pub record SoundRepresents : Type 0 where
   pub reads : (image : List ℕ) (state : State) → SoundUnit image state → (p : Plain) × Good p × Represents image state p
   pub sound : (image : List ℕ) (state : State) (p : Plain) → Good p → Represents image state p → SoundUnit image state
-  pub unique : (image : List ℕ) (state : State) (p q : Plain) → Good p → Good q → Represents image state p → Represents image state q → q ≡ p
+  pub unique : (image : List ℕ) (state : State) (p q : Plain) → Good p → Good q → Represents image state p
+      → Represents image state q → q ≡ p

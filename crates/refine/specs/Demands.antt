@@ -48,7 +48,7 @@ pub record AcceptedState (state : State) : Type 0 where
 -- SYS on a sound image: its number of blocks, "H times L", where L is the one with which the rules are met, and its slices as its index
 -- block in sector 6 describes them.
 abbrev pub sysBlocks : {image : List ℕ} {state : State} → SoundUnit image state → ℕ
-sysBlocks {image} unit = word image kitSector 0 * unit .rules .layers
+sysBlocks {image} unit = word image kitSector 0 * unit .layers
 
 abbrev pub sysSlicesOn : List ℕ → List ℕ
 sysSlicesOn image = slicesAt image (word image kitSector 4) (word image kitSector 1) sysIndexSector
@@ -60,7 +60,8 @@ pub record SysNeverShrinks (image : List ℕ) (state : State) (end : List ℕ) (
   pub slices : sysSlicesOn end ≡ sysSlicesOn image ++ new
 
 -- What holds after a list of calls.
-pub record Demand3After (image : List ℕ) (state : State) (calls : List Call) (replies : List Reply) (end : List ℕ) (stop : State) : Type 0 where
+pub record Demand3After (image : List ℕ) (state : State) (calls : List Call) (replies : List Reply)
+    (end : List ℕ) (stop : State) : Type 0 where
   -- the plain unit: "its start is read from the accepted image", which determines it
   pub start : Plain
   pub good : Good start

@@ -86,7 +86,8 @@ pub record SameAreas (state : State) (p : Plain) : Type 0 where
   pub shaped : Shaped state
   pub number : state .unit ≡ p .unit
   pub distinct : DistinctAreas state
-  pub distinctUsers : (j u v : ℕ) → j < 8 → IsOpen state j → u < 3 → v < 3 → IsTaken (areaAt state j) u → userAt (areaAt state j) u .id ≡ userAt (areaAt state j) v .id → u ≡ v
+  pub distinctUsers : (j u v : ℕ) → j < 8 → IsOpen state j → u < 3 → v < 3 → IsTaken (areaAt state j) u
+      → userAt (areaAt state j) u .id ≡ userAt (areaAt state j) v .id → u ≡ v
   pub each : (n : ℕ) → areaOfState (openArea state n) ≡ areaOfUnit (p .F) (p .s) (tableFind n (p .areas)) (tableFind n (p .files))
 
 pub record Represents (image : List ℕ) (state : State) (p : Plain) : Type 0 where

@@ -12,6 +12,7 @@ use Rattle.words.proofs.StoreLaws.{length-store}
 use Rattle.map.specs.Marks.{allFree}
 use Rattle.index.specs.Block.{sliceTotal}
 use Rattle.catalog.specs.declared.Place.{Place}
+use Rattle.catalog.specs.declared.Unit.{Unit}
 use Rattle.catalog.specs.Catalog.{placeStart, entryWord}
 use Rattle.plain.specs.Table.{tableRemove}
 use Rattle.plain.specs.Unit.{Plain, File, sysOf, M, held, withFiles}
@@ -20,9 +21,8 @@ use Rattle.refine.specs.Writes.{countedFree, emptyPlace, removedImage}
 use Rattle.refine.proofs.Ground.{Ground, ground, top, part-file}
 use Rattle.refine.proofs.Writers.{long}
 use Rattle.steps.proofs.RemoveStep.{freed-layout, freed-words}
-use Rattle.unit.specs.declared.Opened.{Opened}
 use Rattle.unit.specs.Files.{BlockOf}
-use Rattle.unit.proofs.OpenLaws.{on-catalog}
+use Rattle.unit.proofs.UnitLaws.{on-catalog}
 use Rattle.unit.proofs.FindLaws.{place-room}
 use Rattle.unit.proofs.FileLaws.{block-is, block-total, total-fits, live-index}
 use Rattle.slices.specs.Give.{CanCutFrom, CanCut, Freed}
@@ -30,7 +30,7 @@ use Rattle.slices.proofs.BlockLaws.{unit-file}
 use Rattle.slices.proofs.ZeroLaws.{count-fits}
 use Rattle.remove.specs.Remove.{CanDropFrom}
 
-module _ {image : List ℕ} {o : Opened} {place : Place} {p : Plain} {n : ℕ} {f : File} (can : CanDropFrom image o place p n f) where
+module _ {image : List ℕ} {o : Unit} {place : Place} {p : Plain} {n : ℕ} {f : File} (can : CanDropFrom image o place p n f) where
   gr : Ground p
   gr = ground p (can .on .good)
 
@@ -59,7 +59,7 @@ module _ {image : List ℕ} {o : Opened} {place : Place} {p : Plain} {n : ℕ} {
           let g = can .on .good in
           let once : InRangeOnce (M p) (f .slices) = λ k. omega (arith, g .once k, part-file p gr n f (can .file) k) in
           record {
-            file = unit-file cleared block (f .slices) (g .limits) (ap length empty ∙ length-store image _ _ ∙ can .on .layout .size) (block-is (can .on) (can .numbers) n f (can .file) of own) (g .files n f (can .file) .few) once;
+            file = unit-file cleared block (f .slices) (g .limits) (ap length empty ∙ length-store image _ _ ∙ can .on .layout .size) (block-is (can .on) (can .numbers) n f (can .file) of own) (g .catalog .files n f (can .file) .few) once;
             count = omega (arith, block-total (can .on) (can .numbers) n f (can .file) of own);
           }
 

@@ -8,6 +8,7 @@ use Rattle.types.specs.declared.State.{State}
 use Rattle.disc.specs.Names.{named}
 use Rattle.disc.specs.Entries.{placeCount, nameAt}
 use Rattle.catalog.specs.declared.Place.{Place}
+use Rattle.catalog.specs.declared.Unit.{Unit}
 use Rattle.plain.specs.Table.{tableFind, tableRemove}
 use Rattle.plain.specs.Unit.{Plain, File, sysOf, withFiles}
 use Rattle.plain.specs.Good.{Good}
@@ -16,29 +17,29 @@ use Rattle.refine.specs.Represents.{Represents}
 use Rattle.refine.specs.OnDisc.{OnDisc}
 use Rattle.refine.specs.Writes.{removedImage}
 use Rattle.refine.specs.Replies.{Replies}
-use Rattle.unit.specs.declared.Opened.{Opened}
-use Rattle.unit.specs.Opened.{NumbersOf, unitPlaces}
+use Rattle.unit.specs.Unit.{NumbersOf, unitPlaces}
 use Rattle.unit.specs.Find.{NameAt}
 
 -- ---- the writes
 
 -- The entry of file f under name n, which has no area process, stands in the place.
-pub record CanDropFrom (image : List ℕ) (o : Opened) (place : Place) (p : Plain) (n : ℕ) (f : File) : Type 0 where
+pub record CanDropFrom (image : List ℕ) (o : Unit) (place : Place) (p : Plain) (n : ℕ) (f : File) : Type 0 where
   pub on : OnDisc image p
   pub numbers : NumbersOf o p
   pub file : tableFind n (p .files) ≡ some f
   pub closed : tableFind n (p .areas) ≡ none
   pub at : NameAt image p n place
 
-pub record CanDrop (image : List ℕ) (o : Opened) (place : Place) : Type 0 where
+pub record CanDrop (image : List ℕ) (o : Unit) (place : Place) : Type 0 where
   pub unit : Plain
   pub name : ℕ
   pub file : File
   pub can : CanDropFrom image o place unit name file
 
 -- The place of the name is emptied, its slices are given back, and the free sectors are counted.
-pub record Dropped (image : List ℕ) (o : Opened) (place : Place) (after : List ℕ) : Type 0 where
-  pub all : (p : Plain) (n : ℕ) (f : File) (can : CanDropFrom image o place p n f) → after ≡ removedImage p (sysOf p) image (can .at .number) f
+pub record Dropped (image : List ℕ) (o : Unit) (place : Place) (after : List ℕ) : Type 0 where
+  pub all : (p : Plain) (n : ℕ) (f : File) (can : CanDropFrom image o place p n f)
+      → after ≡ removedImage p (sysOf p) image (can .at .number) f
 
 -- ---- the message
 
@@ -58,5 +59,5 @@ pub record RemoveStep (p : Plain) (image : List ℕ) (name : Name) (after : List
   pub step : (lent : List ℕ) → Replies p (stepRemove p name lent) lent result (after ≡ image) (Removed p image (named name) after)
 
 -- The same of every unit that image and state represent.
-pub record Removes (image : List ℕ) (o : Opened) (state : State) (name : Name) (after : List ℕ) (result : ℕ) : Type 0 where
+pub record Removes (image : List ℕ) (o : Unit) (state : State) (name : Name) (after : List ℕ) (result : ℕ) : Type 0 where
   pub all : (p : Plain) → Good p → Represents image state p → NumbersOf o p → RemoveStep p image name after result

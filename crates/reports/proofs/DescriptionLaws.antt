@@ -6,15 +6,15 @@ use lib.ListN.{length, drop}
 use borrow.Author.Tests.{le-leb, lt-leb}
 use Rattle.words.specs.Store.{store}
 use Rattle.words.proofs.StoreLaws.{store-front}
+use Rattle.catalog.specs.declared.Unit.{Unit}
 use Rattle.plain.specs.Questions.{answer}
 use Rattle.plain.specs.Reports.{description, stepDescription}
 use Rattle.plain.proofs.QuestionLaws.{asks-yes, asks-no}
-use Rattle.unit.specs.declared.Opened.{Opened}
-use Rattle.unit.specs.Opened.{MeantOn}
+use Rattle.unit.specs.Unit.{MeantOn}
 use Rattle.unit.proofs.MeantLaws.{meant-on-known}
 use Rattle.reports.specs.Description.{described, Describes}
 
-module _ {image : List ℕ} (o : Opened) (u bytes : ℕ) (lent : List ℕ) (meant : MeantOn image o u) where
+module _ {image : List ℕ} (o : Unit) (u bytes : ℕ) (lent : List ℕ) (meant : MeantOn image o u) where
   pub describes-bytes : bytes < 32 → Describes image o u bytes lent (answer 0x1200 0 0 0) lent
   unfolding stepDescription
   describes-bytes few = record { all = λ p on num own. asks-yes _ _ _ (meant-on-known p meant own) ∙ asks-no _ _ _ (rw (lt-leb _ _ few) tt) }

@@ -25,14 +25,14 @@ use Rattle.plain.proofs.QuestionLaws.{and-right, asks-yes, asks-no}
 use Rattle.plain.proofs.UnitLaws.{sorted-entries}
 use Rattle.entries.proofs.PlaceLaws.{legal-first}
 use Rattle.sound.specs.Places.{Unused}
+use Rattle.catalog.specs.declared.Unit.{Unit}
 use Rattle.refine.specs.Represents.{PlaceOf}
 use Rattle.refine.specs.OnDisc.{OnDisc}
 use Rattle.refine.proofs.CatalogLaws.{Named, name-zero}
 use Rattle.refine.proofs.Ground.{Ground, ground, entry-named, entry-legal, entry-length, positive, top, joined-in, sys-ground, catalog-data, catalog-slices}
 use Rattle.refine.proofs.PlaceFiles.{rowOf, rowAt, positive-name, one-place, collected}
-use Rattle.unit.specs.declared.Opened.{Opened}
-use Rattle.unit.specs.Opened.{NumbersOf, OpenedOn, unitPlaces}
-use Rattle.unit.proofs.OpenLaws.{on-catalog, sys-once}
+use Rattle.unit.specs.Unit.{NumbersOf, UnitOn, unitPlaces}
+use Rattle.unit.proofs.UnitLaws.{on-catalog, sys-once}
 use Rattle.order.specs.Records.{recordAt, recordOf}
 use Rattle.order.specs.ByName.{CanOrder, ByName}
 use Rattle.reports.specs.Listing.{inTurn, slotStart, entryRecord, slotRecord, slotRecords, sysSector, blockRecords, Readable, CountOf, Lists}
@@ -66,7 +66,7 @@ module _ {image : List ℕ} {p : Plain} (on : OnDisc image p) where
   gr = ground p (on .good)
 
   nm : Named (entry p)
-  nm = entry-named p (on .good .names)
+  nm = entry-named p (on .good .catalog .names)
 
   block-inside : (b : ℕ) → b < p .H * p .layers → block b < p .N
   block-inside b x = let e : b + sysFrom ≡ b = omega arith in rw e (catalog-data (sys-ground gr) b (joined-in (sys-ground gr) b (omega (arith, x))) .1)
@@ -77,7 +77,7 @@ module _ {image : List ℕ} {p : Plain} (on : OnDisc image p) where
       let fits : block b < p .N = block-inside b x in
       let room : b < p .s * length (p .sys) = omega (arith, gr .sysCover, mul-comm (p .s) (length (p .sys))) in
       let small : sectorIn (p .F) (p .s) (p .sys) b < 65536 = rw e at (let z : block b < 65536 = omega (arith, on .good .limits .sectors) in z) in
-      rw e (read-sector image (p .F) (p .s) sysIndexSector (p .sys) (on .good .sysFew) (on .layout .sys .index) (positive p gr) (catalog-slices (sys-ground gr)) b room small)
+      rw e (read-sector image (p .F) (p .s) sysIndexSector (p .sys) (on .good .catalog .few) (on .layout .sys .index) (positive p gr) (catalog-slices (sys-ground gr)) b room small)
 
   -- as many sectors as SYS has are in the unit
   few-blocks : p .H * p .layers ≤ 32767
@@ -153,7 +153,7 @@ module _ {image : List ℕ} {p : Plain} (on : OnDisc image p) where
   unfolding entry
   places-noted =
       let cat = on .layout .sys .places in
-      let sorted = sorted-entries p (on .good .names) in
+      let sorted = sorted-entries p (on .good .catalog .names) in
       let n : ℕ = p .H * p .layers in
       let by-place : NotesOf image (entries p) (inTurn placeRecord N) =
       subst (λ (T : Table (List ℕ)). NotesOf image T (inTurn placeRecord N)) (collected P (entries p) sorted (cat .there) (cat .alone))
@@ -178,26 +178,26 @@ module _ {image : List ℕ} {p : Plain} (on : OnDisc image p) where
 
     listing-done : {after : List ℕ} → ByName image (length (entries p)) noted after → after ≡ fill (joined (entries p)) lent
     listing-done by =
-        let sorted = sorted-entries p (on .good .names) in
+        let sorted = sorted-entries p (on .good .catalog .names) in
         in-name-order places-noted lent room by (table-listing 0 (entries p) sorted entered) (names-increase 0 (entries p) sorted entered)
 
   -- as many entries as are counted
-  entries-counted : {o : Opened} {count : ℕ} → NumbersOf o p → CountOf (blockRecords image (o .catalog .keys * o .catalog .layers)) count → count ≡ length (entries p)
+  entries-counted : {o : Unit} {count : ℕ} → NumbersOf o p → CountOf (blockRecords image (o .catalog .keys * o .catalog .layers)) count → count ≡ length (entries p)
   entries-counted {o} num n =
       let own = rw (num .catalog .keys, num .catalog .layers) at n in
       omega (arith, own .words, places-noted .size)
 
 -- ---- the listing
 
-pub can-read : {image : List ℕ} {o : Opened} → OpenedOn image o → Readable image (o .catalog .keys * o .catalog .layers)
+pub can-read : {image : List ℕ} {o : Unit} → UnitOn image o → Readable image (o .catalog .keys * o .catalog .layers)
 can-read h = rw (h .numbers .catalog .keys, h .numbers .catalog .layers) (readable (h .on))
 
 -- the records stored, in the numbers of a unit on the image
-own-noted : (image lent : List ℕ) {o : Opened} {p : Plain} {count : ℕ} {noted : List ℕ} → NumbersOf o p → count ≡ length (entries p) → noted ≡ store lent (4 * count) (blockRecords image (o .catalog .keys * o .catalog .layers))
+own-noted : (image lent : List ℕ) {o : Unit} {p : Plain} {count : ℕ} {noted : List ℕ} → NumbersOf o p → count ≡ length (entries p) → noted ≡ store lent (4 * count) (blockRecords image (o .catalog .keys * o .catalog .layers))
     → noted ≡ store lent (4 * length (entries p)) (blockRecords image (p .H * p .layers))
 own-noted image lent num c e = rw (← c, ← num .catalog .keys, ← num .catalog .layers) e
 
-module _ {image : List ℕ} {o : Opened} {count : ℕ} (lent : List ℕ) (n : CountOf (blockRecords image (o .catalog .keys * o .catalog .layers)) count) where
+module _ {image : List ℕ} {o : Unit} {count : ℕ} (lent : List ℕ) (n : CountOf (blockRecords image (o .catalog .keys * o .catalog .layers)) count) where
   pub lists-short : length lent < 16 * count → Lists image o lent (answer 0x1200 0 0 0) lent
   unfolding stepListing
   lists-short short = record {
@@ -207,7 +207,7 @@ module _ {image : List ℕ} {o : Opened} {count : ℕ} (lent : List ℕ) (n : Co
   }
 
   module _ (room : 16 * count ≤ length lent) {noted : List ℕ} (e : noted ≡ store lent (4 * count) (blockRecords image (o .catalog .keys * o .catalog .layers))) where
-    pub lists-can : count < 4294967296 → OpenedOn image o → CanOrder image count noted
+    pub lists-can : count < 4294967296 → UnitOn image o → CanOrder image count noted
     lists-can few h =
         let c : count ≡ length (entries (h .unit)) = entries-counted (h .on) (h .numbers) n in
         rw (own-noted image lent (h .numbers) c e, c) (listing-can (h .on) lent (rw (← c) room) (rw (← c) few))

@@ -9,12 +9,12 @@ use Rattle.types.specs.declared.Answer.{Answer}
 use Rattle.disc.specs.Kit.{sysIndexSector}
 use Rattle.words.specs.Store.{store}
 use Rattle.index.specs.Block.{jointSector}
+use Rattle.catalog.specs.declared.Unit.{Unit}
 use Rattle.plain.specs.Unit.{Plain}
 use Rattle.plain.specs.Questions.{known}
 use Rattle.plain.specs.Reports.{stepListing}
 use Rattle.refine.specs.OnDisc.{OnDisc}
-use Rattle.unit.specs.declared.Opened.{Opened}
-use Rattle.unit.specs.Opened.{NumbersOf, MeantOn}
+use Rattle.unit.specs.Unit.{NumbersOf, MeantOn}
 
 -- f 0, f 1 and so on, n lists one after the other.
 unfoldable pub inTurn : (ℕ → List ℕ) → ℕ → List ℕ
@@ -67,12 +67,12 @@ pub record Noted (before : List ℕ) (at : ℕ) (words after : List ℕ) (next :
   pub end : next ≡ at + length words
 
 -- What the listing starts from, whatever number the unit has.
-pub record CanList (image : List ℕ) (o : Opened) : Type 0 where
+pub record CanList (image : List ℕ) (o : Unit) : Type 0 where
   pub number : ℕ
   pub meant : MeantOn image o number
 
 -- "Listing writes each entry's 16 booked words once and hands back the number of entries, 0 if refused", and (02, R-1) "by name": answer
 -- and lent words after are the plain unit's, of every unit on the image that the message means, and the unit stays.
-pub record Lists (image : List ℕ) (o : Opened) (lent : List ℕ) (r : Answer) (after : List ℕ) : Type 0 where
+pub record Lists (image : List ℕ) (o : Unit) (lent : List ℕ) (r : Answer) (after : List ℕ) : Type 0 where
   pub all : (p : Plain) → OnDisc image p → NumbersOf o p → (unit : ℕ) → T (known p unit)
       → stepListing p unit lent ≡ record { unit = p; answer = r; lent = after }

@@ -5,13 +5,13 @@ ghost use Prim.Native.Nat.{_+_, _*_, _≤_, _<_};
 ghost use lib.ListN.{length};
 ghost use Rattle.words.specs.Store.{store};
 ghost use Rattle.plain.specs.Questions.{answer};
-ghost use Rattle.unit.specs.Opened.{MeantOn};
+ghost use Rattle.unit.specs.Unit.{MeantOn};
 ghost use Rattle.reports.specs.Description.{described, Describes};
 ghost use Rattle.reports.specs.Listing.{slotRecord, slotRecords, blockRecords, Readable, CountOf, Noted, CanList, Lists};
+use catalog::Unit;
 use types::Answer;
 use types::Block;
 use types::Sector;
-use unit::Opened;
 
 // The answer of a refused call: 1200h, and nothing handed back.
 fn refused() -> Answer
@@ -26,27 +26,27 @@ fn refused() -> Answer
 }
 
 // Stores the description's record of 16 words at the start of the lent ones.
-fn store_description(image: &[u16], o: Opened, unit: u16, lent: &mut [u16])
-    requires { ⌜ (unit ≤ 3) × (16 ≤ length (now lent)) ⌝ }
-    ensures { λ _. ⌜ now (lent .exit) ≡ store (now (lent .entry)) 0 (described (now (image .entry)) o unit) ⌝ }
+fn store_description(image: &[u16], unit: Unit, number: u16, lent: &mut [u16])
+    requires { ⌜ (number ≤ 3) × (16 ≤ length (now lent)) ⌝ }
+    ensures { λ _. ⌜ now (lent .exit) ≡ store (now (lent .entry)) 0 (described (now (image .entry)) unit number) ⌝ }
 {
     let sectors = words::word(image, Sector(8), 2);
     let free = words::word(image, Sector(8), 3);
     let description = [
         0,
-        unit,
+        number,
         0,
         20,
         0x554E,
         0x4954,
-        unit * 256,
+        number * 256,
         0,
         0,
         0,
         0,
         0,
-        o.catalog.keys,
-        o.slice,
+        unit.catalog.keys,
+        unit.slice,
         sectors,
         free,
     ];
@@ -55,9 +55,9 @@ fn store_description(image: &[u16], o: Opened, unit: u16, lent: &mut [u16])
 
 // Get Unit Description of a message that means this unit. N and the free sectors are read in the kit, the other numbers are the
 // unit's as it was opened.
-pub fn describe(image: &[u16], o: Opened, unit: u16, bytes: u16, lent: &mut [u16]) -> Answer
-    requires { ⌜ MeantOn (now image) o unit ⌝ }
-    ensures { λ r. ⌜ Describes (now (image .entry)) o unit bytes (now (lent .entry)) r (now (lent .exit)) ⌝ }
+pub fn describe(image: &[u16], unit: Unit, number: u16, bytes: u16, lent: &mut [u16]) -> Answer
+    requires { ⌜ MeantOn (now image) unit number ⌝ }
+    ensures { λ r. ⌜ Describes (now (image .entry)) unit number bytes (now (lent .entry)) r (now (lent .exit)) ⌝ }
 {
     if bytes < 32 {
         return refused();
@@ -65,7 +65,7 @@ pub fn describe(image: &[u16], o: Opened, unit: u16, bytes: u16, lent: &mut [u16
     if lent.len() < 16 {
         return refused();
     }
-    store_description(image, o, unit, lent);
+    store_description(image, unit, number, lent);
     Answer {
         result: 0,
         bytes: 32,
@@ -154,11 +154,11 @@ fn note_entries(image: &[u16], n: u32, lent: &mut [u16], start: usize)
 
 // The listing: the entries of SYS, counted first, noted in the order of their places, and stored in the order of their names. Their records
 // stand behind as many words as they take, which is where they are ordered from.
-pub fn list(image: &[u16], o: Opened, lent: &mut [u16]) -> Answer
-    requires { ⌜ CanList (now image) o ⌝ }
-    ensures { λ r. ⌜ Lists (now (image .entry)) o (now (lent .entry)) r (now (lent .exit)) ⌝ }
+pub fn list(image: &[u16], unit: Unit, lent: &mut [u16]) -> Answer
+    requires { ⌜ CanList (now image) unit ⌝ }
+    ensures { λ r. ⌜ Lists (now (image .entry)) unit (now (lent .entry)) r (now (lent .exit)) ⌝ }
 {
-    let blocks = o.catalog.keys as u32 * o.catalog.layers as u32;
+    let blocks = unit.catalog.keys as u32 * unit.catalog.layers as u32;
     let count = count_entries(image, blocks);
     if lent.len() < 16 * count as usize {
         return refused();

@@ -28,4 +28,4 @@ areaUsers state j = usersIn (areaAt state j .users)
 
 abbrev pub areaUser : State → ℕ → ℕ → AreaUser
 areaUser state j u =
-    record { role = userAt (areaAt state j) u .role; opens = userAt (areaAt state j) u .opens; position = userAt (areaAt state j) u .position .0 }
+    let user = userAt (areaAt state j) u in record { role = user .role; opens = user .opens; position = user .position .0 }

@@ -2,7 +2,8 @@
 
 ghost use mathlib.Core.Path.{_≡_};
 ghost use Prim.Native.Nat.{_+_, _<_};
-ghost use Rattle.sharing.specs.Sharing.{areaReply, atPosition, positionWord, positionReached, reservedReply, releasedReply, positionReply};
+ghost use Rattle.sharing.specs.Sharing.{areaReply, atPosition, positionWord, positionReached};
+ghost use Rattle.sharing.specs.Sharing.{reservedReply, releasedReply, positionReply};
 use types::Answer;
 use types::Block;
 use types::State;

@@ -15,7 +15,7 @@ use Rattle.disc.specs.Stretches.{stretchCount}
 use Rattle.disc.specs.Map.{mapBit}
 use Rattle.disc.proofs.Compare.{same-or}
 use Rattle.disc.proofs.DecideLaws.{holds}
-use Rattle.disc.proofs.SliceLaws.{choose-law, inUnit-out, occurrences-append, sum-law, taken-law, length-taken}
+use Rattle.disc.proofs.SliceLaws.{choose-law, inUnit-out, occurrences-append, sum-law, taken-law, length-taken, last-snoc}
 use Rattle.disc.proofs.CutLaws.{count-take}
 use Rattle.map.specs.declared.Choice.{Choice}
 use Rattle.map.specs.declared.Choice.the-variants.{Free, None}
@@ -32,12 +32,6 @@ use Rattle.slices.specs.declared.Next.the-variants.{At, NoneFree, Crowde
 use Rattle.slices.specs.FileBlock.{SliceBlock, FileBlock}
 use Rattle.slices.specs.Take.{CanTakeFrom, CanTake, nextOf, nextWord, nextAsked, ChosenFrom, TakenFrom, Taken}
 use Rattle.slices.proofs.BlockLaws.{slice-in, start-small, block-last, block-with}
-
--- the last of a longer list
-last-snoc : (l : List ℕ) (k : ℕ) → lastOf (l ++ (k ∷ [])) ≡ k
-last-snoc [] k = refl
-last-snoc (x ∷ []) k = refl
-last-snoc (x ∷ y ∷ l) k = last-snoc (y ∷ l) k
 
 -- a longer list has no fewer stretches
 count-prefix : (l m : List ℕ) → stretchCount l ≤ stretchCount (l ++ m)

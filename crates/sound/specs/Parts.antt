@@ -7,13 +7,12 @@ use lib.ListN.{length, getD}
 use lib.Dec.{T}
 use Rattle.types.specs.declared.State.{State}
 use Rattle.types.specs.State.{areaAt, IsOpen}
-use Rattle.disc.specs.Numbers.{ceilDiv}
 use Rattle.disc.specs.Words.{Holds}
-use Rattle.disc.specs.Names.{isSystem}
 use Rattle.disc.specs.Slices.{InRangeOnce, occurrences}
 use Rattle.disc.specs.Kit.{Kit, Limits, mapIndexSector}
 use Rattle.disc.specs.Map.{onesInMap}
 use Rattle.disc.specs.Entries.{nameAt, sysEntry, mapEntry}
+use Rattle.disc.specs.Catalog.{Catalog, placesOf, placesIn}
 use Rattle.sound.specs.Places.{Used, Entered, LegalPlace}
 use Rattle.sound.specs.State.{DistinctAreas, LegalUsers}
 
@@ -26,11 +25,12 @@ pub record SoundKit (image : List ℕ) (H s F N : ℕ) : Type 0 where
   pub mapIndex : Holds image mapIndexSector (1 ∷ 1 ∷ 9 ∷ [])
 
 -- The names: "Every used entry has a legal name .., alone of that name, in a sector of its key"; SYS and MAP are entered.
-pub record SoundNames (H s L : ℕ) (sys : List ℕ) (P : ℕ → ℕ → ℕ) (count : ℕ) : Type 0 where
-  pub sysEntered : Entered P count (sysEntry H s L sys)
-  pub mapEntered : Entered P count mapEntry
-  pub legal : (t : ℕ) → t < count → Used P t → LegalPlace P H t
-  pub alone : (t u : ℕ) → t < count → u < count → Used P t → Used P u → nameAt P t ≡ nameAt P u → t ≡ u
+pub record SoundNames (image : List ℕ) (H s F : ℕ) (c : Catalog) : Type 0 where
+  pub sysEntered : Entered (placesIn image F s c) (placesOf H c) (sysEntry H s (c .layers) (c .slices))
+  pub mapEntered : Entered (placesIn image F s c) (placesOf H c) mapEntry
+  pub legal : (t : ℕ) → t < placesOf H c → Used (placesIn image F s c) t → LegalPlace (placesIn image F s c) H t
+  pub alone : (t u : ℕ) → t < placesOf H c → u < placesOf H c → Used (placesIn image F s c) t → Used (placesIn image F s c) u
+      → nameAt (placesIn image F s c) t ≡ nameAt (placesIn image F s c) u → t ≡ u
 
 -- The users of all open areas, and their distinct names.
 pub record SoundUsers (state : State) : Type 0 where

@@ -52,8 +52,10 @@ pub record LegalUsers (a : Area) : Type 0 where
   pub opens-high : (u : ℕ) → u < 3 → IsTaken a u → userAt a u .opens ≤ 65535
   pub inside : (u : ℕ) → u < 3 → IsTaken a u → userAt a u .position .0 ≤ a .length
   pub alone : (u v : ℕ) → u < 3 → v < 3 → IsTaken a u → IsTaken a v → userAt a u .role ≡ ExclusiveUser → u ≡ v
-  pub oneWriter : (u v : ℕ) → u < 3 → v < 3 → IsTaken a u → IsTaken a v → userAt a u .role ≡ ExclusiveWriter → userAt a v .role ≡ ExclusiveWriter → u ≡ v
+  pub oneWriter : (u v : ℕ) → u < 3 → v < 3 → IsTaken a u → IsTaken a v → userAt a u .role ≡ ExclusiveWriter
+      → userAt a v .role ≡ ExclusiveWriter → u ≡ v
 
 -- "The state's area names are distinct".
 abbrev pub DistinctAreas : State → Type 0
-DistinctAreas state = (j k : ℕ) → j < 8 → k < 8 → IsOpen state j → IsOpen state k → areaName (areaAt state j) ≡ areaName (areaAt state k) → j ≡ k
+DistinctAreas state =
+    (j k : ℕ) → j < 8 → k < 8 → IsOpen state j → IsOpen state k → areaName (areaAt state j) ≡ areaName (areaAt state k) → j ≡ k

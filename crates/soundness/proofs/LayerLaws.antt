@@ -14,24 +14,24 @@ use Rattle.disc.specs.Names.{SYS, MAP, isSystem}
 use Rattle.disc.specs.Entries.{placeCount, nameAt}
 use Rattle.disc.proofs.Compare.{same-or}
 use Rattle.disc.proofs.DecideLaws.{true≢false, fails}
-use Rattle.sound.specs.Sound.{SoundMap, slicesBelow}
-use Rattle.sound.specs.Parts.{SoundNames, MarksOf, Marking}
+use Rattle.sound.specs.Sound.{SoundMap}
+use Rattle.sound.specs.Parts.{MarksOf, Marking}
 use Rattle.kit.specs.declared.Geometry.{Geometry}
-use Rattle.entries.specs.Sys.{sysSlices, placesIn}
+use Rattle.entries.specs.Sys.{sysSlices, placesIn, sysWith, SysNames}
 use Rattle.entries.proofs.NamesLaws.{sound-legal}
-use Rattle.files.specs.Walk.{SysKnown, NamesKnown, SoundFiles}
+use Rattle.files.specs.Walk.{SysKnown, NamesKnown, SysFiles, sysHeld}
 use Rattle.soundness.specs.Areas.{AreasEntered}
 use Rattle.soundness.specs.Layers.{SoundLayers, unitSlices}
 
 module _ {image : List ℕ} {g : Geometry} {L : ℕ} where
-  module _ {before : List ℕ} (known : SysKnown image g before (g .keys * L)) (names : SoundNames (g .keys) (g .slice) L (sysSlices image g) (placesIn image g) (placeCount (g .keys) L)) where
+  module _ {before : List ℕ} (known : SysKnown image g before (g .keys * L)) (names : SysNames image g L) where
     abbrev P : ℕ → ℕ → ℕ
     P = placesIn image g
 
     -- "SYS and MAP are entered with .. index 6 and 7"
     system-low : (t : ℕ) → t < placeCount (g .keys) L → isSystem (nameAt P t) ≡ true → P t 8 < 10
     system-low t h e =
-        let words = sound-legal P (g .keys) (g .slice) L (sysSlices image g) (placeCount (g .keys) L) names .places .each t h .system in
+        let words = sound-legal image (g .keys) (g .slice) (g .first .0) (sysWith image g L) names .places .each t h .system in
         same-or (nameAt P t) SYS
         (λ y. omega (arith, words .sysWords y .at 8 (lit< tt)))
         (λ d. same-or (nameAt P t) MAP
@@ -45,11 +45,11 @@ module _ {image : List ℕ} {g : Geometry} {L : ℕ} where
 
   -- the files or their slices are not those of a sound unit, or the map decides
   module _ {state : State} {r : Bool} {marks : List ℕ}
-      (files : Marking r (SoundFiles image state g (placeCount (g .keys) L)) (g .slices) marks (sysSlices image g) (slicesBelow image state (g .first .0) (g .slice) (placesIn image g) (placeCount (g .keys) L))) where
+      (files : Marking r (SysFiles image state g L) (g .slices) marks (sysSlices image g) (sysHeld image state g L)) where
     pub files-refused : B.not r ≡ true → Decides false (SoundLayers image state g L)
     files-refused e = fails (λ s. files .not (not-true r e) (s .files) (s .once))
 
-    pub map-decides : {a : Bool} → B.not r ≡ false → SoundNames (g .keys) (g .slice) L (sysSlices image g) (placesIn image g) (placeCount (g .keys) L)
+    pub map-decides : {a : Bool} → B.not r ≡ false → SysNames image g L
         → AreasEntered state (placesIn image g) (placeCount (g .keys) L)
         → ((all : List ℕ) → MarksOf marks all → InRangeOnce (g .slices) all → Decides a (SoundMap image (g .slices) all))
         → Decides a (SoundLayers image state g L)

@@ -1,6 +1,6 @@
 -- The rules of a sound unit are those on users and kit, on SYS's slices and layers, and on the rest, said of the geometry that
 -- was read.
-use mathlib.Core.Path.{_≡_, sym, subst}
+use mathlib.Core.Path.{_≡_, refl, sym, subst}
 use mathlib.Core.Bool.{Bool}
 use mathlib.Core.List.{List, _++_}
 use Prim.Native.Nat.{ℕ, _*_}
@@ -10,18 +10,17 @@ use Rattle.types.specs.declared.State.{State}
 use Rattle.disc.specs.Decide.{Decides}
 use Rattle.disc.specs.Words.{Words}
 use Rattle.disc.specs.Slices.{InRangeOnce}
-use Rattle.disc.specs.Entries.{placeCount}
 use Rattle.disc.proofs.NumberLaws.{ceilDiv-le}
 use Rattle.disc.proofs.SliceLaws.{occurrences-append}
 use Rattle.sound.specs.State.{Shaped}
-use Rattle.sound.specs.Sound.{slicesBelow, SoundWith, SoundUnit}
+use Rattle.sound.specs.Sound.{SoundWith, SoundUnit}
 use Rattle.sound.specs.Parts.{SoundUsers}
 use Rattle.kit.specs.declared.Geometry.{Geometry}
 use Rattle.kit.specs.Geometry.{GeometryOf, UnitOf, SoundByKit}
 use Rattle.kit.proofs.KitLaws.{sound-unit}
 use Rattle.marks.specs.Marked.{Marked}
-use Rattle.entries.specs.Sys.{sysSlices, placesIn}
-use Rattle.files.specs.Walk.{SysKnown}
+use Rattle.entries.specs.Sys.{sysSlices, sysWith}
+use Rattle.files.specs.Walk.{SysKnown, sysHeld}
 use Rattle.soundness.specs.Layers.{SysSound, SysMarking, SoundLayers}
 
 -- ---- what a sound unit has, by the numbers in the kit
@@ -37,8 +36,8 @@ once-left m l r once k = omega (arith, once k, occurrences-append k l r)
 
 -- ---- by the geometry
 
-abbrev SoundBy : List ℕ → State → Geometry → Type 0
-SoundBy image state g = SoundWith image state (g .keys) (g .slice) (g .first .0) (g .sectors) (sysSlices image g)
+abbrev SoundBy : List ℕ → State → Geometry → ℕ → Type 0
+SoundBy image state g L = SoundWith image state (g .keys) (g .slice) (g .first .0) (g .sectors) (sysWith image g L)
 
 module _ {image : List ℕ} {g : Geometry} (is : GeometryOf image g) where
   -- SYS's slices have room for its layers
@@ -51,32 +50,32 @@ module _ {image : List ℕ} {g : Geometry} (is : GeometryOf image g) where
       record { unit = unit; index = s .index; marked = marked; room = omega (arith, room) }
 
   module _ {state : State} where
-    by-geometry : SoundUnit image state → SoundBy image state g
+    by-geometry : (u : SoundUnit image state) → SoundBy image state g (u .layers)
     by-geometry u = rw (is .keys, is .slice, is .first, is .sectors) (u .rules)
 
-    by-kit : SoundBy image state g → SoundUnit image state
-    by-kit w = record { rules = rw (← is .keys, ← is .slice, ← is .first, ← is .sectors) w }
+    by-kit : {L : ℕ} → SoundBy image state g L → SoundUnit image state
+    by-kit {L} w = record { layers = L; rules = rw (← is .keys, ← is .slice, ← is .first, ← is .sectors) w }
 
-    by-layers : (w : SoundBy image state g) → SoundLayers image state g (w .layers)
+    by-layers : {L : ℕ} → SoundBy image state g L → SoundLayers image state g L
     by-layers w = record {
-      names = record { sysEntered = w .sysEntered; mapEntered = w .mapEntered; legal = w .entries .legal; alone = w .entries .alone };
+      names = record { sysEntered = w .sysEntered; mapEntered = w .mapEntered; legal = w .catalog .entries .legal; alone = w .catalog .entries .alone };
       areas = record { each = λ j h o. record { entered = w .areas .entered j h o; ordinary = w .areas .ordinary j h o } };
-      files = w .entries .files;
+      files = w .catalog .entries .files;
       once = rw (is .slices) (w .once);
       map = rw (is .slices) (w .map);
     }
 
-    by-sys : (w : SoundBy image state g) → SysSound image g (w .layers)
-    by-sys w = record {
-      some = w .layered;
-      index = w .sysIndex;
+    by-sys : {L : ℕ} → SoundBy image state g L → SysSound image g L
+    by-sys {L} w = record {
+      some = w .catalog .layered;
+      index = w .catalog .index;
       once = once-left
           (g .slices)
           (sysSlices image g)
-          (slicesBelow image state (g .first .0) (g .slice) (placesIn image g) (placeCount (g .keys) (w .layers)))
+          (sysHeld image state g L)
           (by-layers w .once);
       first = w .sysFirst;
-      count = w .sysCount;
+      count = w .catalog .count;
     }
 
     -- the number of layers that was found is the only one
@@ -84,7 +83,7 @@ module _ {image : List ℕ} {g : Geometry} (is : GeometryOf image g) where
         → SysSound image g r × SoundLayers image state g r
     unit-layers {r = r} found u =
         let w = by-geometry u in
-        let only : r ≡ w .layers = found .only (w .layers) (by-sys w) (by-layers w .names) in
+        let only : r ≡ u .layers = found .only (u .layers) (by-sys w) (by-layers w .names) in
         subst (λ (L : ℕ). SysSound image g L × SoundLayers image state g L) (sym only) (by-sys w, by-layers w)
 
     layers-unit : {L : ℕ} → Words image → Shaped state → SoundUsers state → SoundByKit image
@@ -95,15 +94,17 @@ module _ {image : List ℕ} {g : Geometry} (is : GeometryOf image g) where
       size = rw (is .sectors) (kit .size);
       kit = rw (is .keys, is .slice, is .first, is .sectors) (kit .kit);
       limits = sound-unit is kit .limits;
-      layers = L;
-      layered = s .some;
       sysEntered = l .names .sysEntered;
       mapEntered = l .names .mapEntered;
       mapIndex = kit .mapIndex;
-      sysIndex = s .index;
-      sysCount = s .count;
+      catalog = record {
+        layered = s .some;
+        described = refl;
+        index = s .index;
+        count = s .count;
+        entries = record { legal = l .names .legal; alone = l .names .alone; files = l .files };
+      };
       sysFirst = s .first;
-      entries = record { legal = l .names .legal; alone = l .names .alone; files = l .files };
       once = rw (← is .slices) (l .once);
       map = rw (← is .slices) (l .map);
       areas = record {

@@ -89,7 +89,7 @@ fn layers_sound(
     if !areas_entered(image, g, sys, state) {
         return false;
     }
-    if !files::files_sound(image, state, g, sys.layers, marks) {
+    if !files::files_sound(image, state, g, sys, marks) {
         return false;
     }
     marks::map_agrees(image, marks, g)

@@ -46,7 +46,7 @@ files-areas {p = p} layers sys files r same = record {
 -- Remove: the name is not open
 pub remove-areas : {state : State} {p : Plain} (n : ℕ) → Good p → tableFind n (p .areas) ≡ none → SameAreas state p → SameAreas state (withFiles p (tableRemove n (p .files)))
 remove-areas {p = p} n g shut r =
-    files-areas (p .layers) (p .sys) (tableRemove n (p .files)) r (λ m users h. find-remove-other m n 0 (p .files) (g .names) (area-name p n shut m users h))
+    files-areas (p .layers) (p .sys) (tableRemove n (p .files)) r (λ m users h. find-remove-other m n 0 (p .files) (g .catalog .names) (area-name p n shut m users h))
 
 pub grow-areas : {state : State} {p : Plain} → SameAreas state p → SameAreas state (grownUnit p)
 grow-areas {p = p} r = files-areas (suc (p .layers)) (grownUnit p .sys) (p .files) r (λ m users h. refl)

@@ -69,13 +69,13 @@ module _ {i : List ℕ} {p : Plain} (o : OnDisc i p) (n : ℕ) (f : File) (found
 
   r₁ : Layout (storePlace p (sysOf p) i t e) p (freeSectors p) (held p) (entry p′)
   r₁ =
-      let fg = o .good .files n f found in
+      let fg = o .good .catalog .files n f found in
       let nz : n ≢ 0 = λ z. (let q = legal-positive n (fg .name) in omega arith) in
       let new-entry : entry p′ n ≡ some e = entry-of p′ n (bookLive f) (fg .ordinary) here in
-      write-own (ground p (o .good)) (o .layout) (entry-named p (o .good .names)) (entry p′) n e
+      write-own (ground p (o .good)) (o .layout) (entry-named p (o .good .catalog .names)) (entry p′) n e
       (length-entry n (f .optional) (f .attributes) (length (f .sectors)) (indexSector (p .F) (p .s) (length (f .slices)) (f .slices)) (p .s * length (f .slices)) (f .tail) (fg .optional .count) (fg .tail .count))
       (λ m d. entry-beside p (tablePut n (bookLive f) (p .files)) (tableRemove n (p .areas)) m (find-put-other m n (bookLive f) (p .files) d))
-      new-entry (entry-named p′ (good′ .names) .name n e new-entry) nz t in₀ was
+      new-entry (entry-named p′ (good′ .catalog .names) .name n e new-entry) nz t in₀ was
 
   same-held : (k : ℕ) → occurrences k (held p′) ≡ occurrences k (held p)
   same-held k = omega (arith, occurrences-put p n f (bookLive f) k found)

@@ -77,4 +77,4 @@ module _ (p : Plain) (n m size attributes : ℕ) (f : File) (lent : List ℕ) (g
   change-areas {state} a =
       subst (SameAreas state) unit-is
       (areas-changed (areas-grown a (changeLayers p n m size attributes f lent) (grown .sys)) n m
-      (on grown) (g .names) (change-shut p n m size attributes f lent g found asked) (change-shutₘ p n m size attributes f lent g found asked))
+      (on grown) (g .catalog .names) (change-shut p n m size attributes f lent g found asked) (change-shutₘ p n m size attributes f lent g found asked))

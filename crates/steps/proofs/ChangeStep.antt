@@ -49,13 +49,13 @@ module _ {i : List ℕ} {p : Plain} {f f′ : File} {size count : ℕ} (o : OnDi
   after = withFiles p (tablePut n f′ (tableRemove n (p .files)))
 
   gone : tableFind n (tableRemove n (p .files)) ≡ none
-  gone = find-remove n 0 (p .files) (o .good .names)
+  gone = find-remove n 0 (p .files) (o .good .catalog .names)
 
   pub change-good : Good after
   change-good =
-      let fg = o .good .files n f found in
+      let fg = o .good .catalog .files n f found in
       changed-good c (o .good) n n found shut shut (fg .name) (fg .ordinary)
-      (λ k. omega (arith, places-same (p .H) k (sysOf p) n f f′ (p .files) found, o .good .chains k))
+      (λ k. omega (arith, places-same (p .H) k (sysOf p) n f f′ (p .files) found, o .good .catalog .chains k))
 
   gr : Ground p
   gr = ground p (o .good)
@@ -78,14 +78,14 @@ module _ {i : List ℕ} {p : Plain} {f f′ : File} {size count : ℕ} (o : OnDi
   pub change-on : OnDisc (changedImage p (sysOf p) i t n f f′) after
   unfolding changedImage
   change-on =
-      let ordinary = o .good .files n f found .ordinary in
+      let ordinary = o .good .catalog .files n f found .ordinary in
       let new-entry : entry after n ≡ some (fileEntry (p .F) (p .s) n f′) = entry-of after n f′ ordinary here in
       let stay : (m : ℕ) → m ≢ n → entry after m ≡ entry p m = λ m d.
       entry-beside p (tablePut n f′ (tableRemove n (p .files))) (p .areas) m
-      (find-put-other m n f′ (tableRemove n (p .files)) d ∙ find-remove-other m n 0 (p .files) (o .good .names) d) in
-      let nz : n ≢ 0 = λ e. (let q = legal-positive n (o .good .files n f found .name) in omega arith) in
-      let named = entry-named after (change-good .names) .name n (fileEntry (p .F) (p .s) n f′) new-entry in
-      let r = write-own gr′ change-resized (entry-named p (o .good .names)) (entry after) n (fileEntry (p .F) (p .s) n f′) (changes-entry c n) stay new-entry named nz t in₀ change-place in
+      (find-put-other m n f′ (tableRemove n (p .files)) d ∙ find-remove-other m n 0 (p .files) (o .good .catalog .names) d) in
+      let nz : n ≢ 0 = λ e. (let q = legal-positive n (o .good .catalog .files n f found .name) in omega arith) in
+      let named = entry-named after (change-good .catalog .names) .name n (fileEntry (p .F) (p .s) n f′) new-entry in
+      let r = write-own gr′ change-resized (entry-named p (o .good .catalog .names)) (entry after) n (fileEntry (p .F) (p .s) n f′) (changes-entry c n) stay new-entry named nz t in₀ change-place in
       let w : Words (resizedImage p i f f′) =
       words-resized gr (o .layout) n n f f′ found gone gr′ (changes-resizes c) (c .few) (o .words) in
       counted-on change-good (words-store (resizedImage p i f f′) _ (fileEntry (p .F) (p .s) n f′) w (words-file-entry after change-good n f′ here)) r

@@ -43,7 +43,7 @@ module _ {i : List ℕ} {p : Plain} (o : OnDisc i p) {n : ℕ} {f : File} (new :
   p′ = withFiles p (tablePut n f (p .files))
 
   good′ : Good p′
-  good′ = created-good (o .good) new (unused-room p (o .good .names) (ordinary-files (o .good)) (o .layout .sys .places) (keyOf (p .H) n) t in₀ key clear)
+  good′ = created-good (o .good) new (unused-room p (o .good .catalog .names) (ordinary-files (o .good)) (o .layout .sys .places) (keyOf (p .H) n) t in₀ key clear)
 
   gr : Ground p
   gr = ground p (o .good)
@@ -125,8 +125,8 @@ module _ {i : List ℕ} {p : Plain} (o : OnDisc i p) {n : ℕ} {f : File} (new :
       let new-entry : entry p′ n ≡ some e = entry-of p′ n f (ordinary (o .good) new) here in
       write-entry gr′ r₃ t in₀ e
       (length-entry n (f .optional) (f .attributes) (f .booked) (indexSector (p .F) (p .s) (f .bookedSlices) (f .slices)) (p .s * f .bookedSlices) (f .tail) (new .optional .count) (new .tail .count))
-      (entry p′) n (entry-named p (o .good .names)) (λ m d. entry-beside p (tablePut n f (p .files)) (p .areas) m (find-put-other m n f (p .files) d))
-      new-entry (entry-named p′ (good′ .names) .name n e new-entry) nz key (λ u x q. absurd (absent (r₃ .sys .places) n (new .fresh) nz u x q))
+      (entry p′) n (entry-named p (o .good .catalog .names)) (λ m d. entry-beside p (tablePut n f (p .files)) (p .areas) m (find-put-other m n f (p .files) d))
+      new-entry (entry-named p′ (good′ .catalog .names) .name n e new-entry) nz key (λ u x q. absurd (absent (r₃ .sys .places) n (new .fresh) nz u x q))
       (λ d. name-zero (placeWord i₃ (p .F) (p .s) (p .sys) sysFrom) t (record { zero = λ w x. old₃ t w in₀ x ∙ clear .zero w x }))
 
   pub create-on : OnDisc (createdImage p (sysOf p) i t n f) (withFiles p (tablePut n f (p .files)))

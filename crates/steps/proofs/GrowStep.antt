@@ -130,7 +130,7 @@ module _ {i : List ℕ} {p : Plain} (o : OnDisc i p) (room : ceilDiv (p .H * suc
     r₄ : Layout i₄ grown (freeSectors p) (held grown) (entry grown)
     r₄ =
         rw same-place at
-        (write-own gr′ r₃ (entry-named p (o .good .names)) (entry grown) SYS e refl (entry-but-sys p (suc (p .layers))) (entry-sys grown) refl (omega arith) t (omega arith) was₃)
+        (write-own gr′ r₃ (entry-named p (o .good .catalog .names)) (entry grown) SYS e refl (entry-but-sys p (suc (p .layers))) (entry-sys grown) refl (omega arith) t (omega arith) was₃)
 
     words₄ : Words i₄
     words₄ = words-store i₃ _ e words₃ (words-sys-entry grown good′)

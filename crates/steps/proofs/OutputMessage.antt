@@ -40,12 +40,12 @@ module _ {i : List ℕ} {p : Plain} (o : OnDisc i p) (n : ℕ) {f : File} (found
 
   pub block-words : sectorWords i (blockSector (p .F) (p .s) (f .slices) fileFrom k) ≡ getD (f .sectors) k []
   block-words =
-      sectorWords-holds i (blockSector (p .F) (p .s) (f .slices) fileFrom k) (getD (f .sectors) k []) block-inside (o .good .files n f found .sectors k below .count)
+      sectorWords-holds i (blockSector (p .F) (p .s) (f .slices) fileFrom k) (getD (f .sectors) k []) block-inside (o .good .catalog .files n f found .sectors k below .count)
       (o .layout .files n f found .blocks k below)
 
   -- "Input hands out the sector there."
   pub input-filled : (lent : List ℕ) → sectorWords i (blockSector (p .F) (p .s) (f .slices) fileFrom k) ++ drop 256 lent ≡ fill (getD (f .sectors) k []) lent
-  input-filled lent = ap₂ (λ (x : List ℕ) (c : ℕ). x ++ drop c lent) block-words (sym (o .good .files n f found .sectors k below .count))
+  input-filled lent = ap₂ (λ (x : List ℕ) (c : ℕ). x ++ drop c lent) block-words (sym (o .good .catalog .files n f found .sectors k below .count))
 
 -- ---- the questions of an append give the step's premises
 

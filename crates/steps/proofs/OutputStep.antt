@@ -50,7 +50,7 @@ module _ {p : Plain} (g : Good p) (n : ℕ) {f : File} (found : tableFind n (p .
   rewrite-entries first m =
       let new : File = rewritten f slices sectors in
       let p′ : Plain = withFile n new p in
-      let ordinary = g .files n f found .ordinary in
+      let ordinary = g .catalog .files n f found .ordinary in
       let words : fileEntry (p .F) (p .s) n new ≡ fileEntry (p .F) (p .s) n f = rw first refl in
       same-or m n
       (λ e. ap (entry p′) e ∙ entry-of p′ n new ordinary (find-put n new (p .files)) ∙ ap some words ∙ sym (entry-of p n f ordinary found) ∙ ap (entry p) (sym e))
@@ -270,7 +270,7 @@ module _ {i : List ℕ} {p : Plain} (o : OnDisc i p) (n : ℕ) {f : File} (found
   append-on =
       counted-on good₂ words₆
       (relabel r₆ refl (λ x. refl)
-      (rewrite-entries (o .good) n found slices sectors₂ (index-append (p .F) (p .s) (f .bookedSlices) (f .slices) new (o .good .files n f found .bookedSlicesLow))))
+      (rewrite-entries (o .good) n found slices sectors₂ (index-append (p .F) (p .s) (f .bookedSlices) (f .slices) new (o .good .catalog .files n f found .bookedSlicesLow))))
 
 -- ---- an append in two parts: the slices are taken, then the block is stored
 

@@ -37,10 +37,10 @@ module _ {i : List ℕ} {p : Plain} (o : OnDisc i p) (n : ℕ) (f : File) (found
   good = removed-good p n (o .good) shut
 
   stay : (m : ℕ) → m ≢ n → entry left m ≡ entry p m
-  stay m d = entry-beside p (tableRemove n (p .files)) (p .areas) m (find-remove-other m n 0 (p .files) (o .good .names) d)
+  stay m d = entry-beside p (tableRemove n (p .files)) (p .areas) m (find-remove-other m n 0 (p .files) (o .good .catalog .names) d)
 
   gone : entry left n ≡ none
-  gone = entry-removed p n (o .good .names) (o .good .files n f found .ordinary)
+  gone = entry-removed p n (o .good .catalog .names) (o .good .catalog .files n f found .ordinary)
 
   given : (x : ℕ) → occurrences x (held left) + occurrences x (f .slices) ≡ occurrences x (held p)
   given x =
@@ -55,8 +55,8 @@ module _ {i : List ℕ} {p : Plain} (o : OnDisc i p) (n : ℕ) (f : File) (found
   -- the place emptied, and the slices given back
   emptied : Layout (emptyPlace p (sysOf p) i t) p (freeSectors p) (held p) (entry left)
   emptied =
-      let nz : n ≢ 0 = λ e. (let q = legal-positive n (o .good .files n f found .name) in omega arith) in
-      write-zero gr (o .layout) t in₀ (entry left) n (entry-named p (o .good .names)) stay gone was nz
+      let nz : n ≢ 0 = λ e. (let q = legal-positive n (o .good .catalog .files n f found .name) in omega arith) in
+      write-zero gr (o .layout) t in₀ (entry left) n (entry-named p (o .good .catalog .names)) stay gone was nz
 
   pub freed-layout : Layout (allFree (emptyPlace p (sysOf p) i t) (f .slices)) p (freeSectors p) (held left) (entry left)
   freed-layout = write-freed gr emptied (f .slices) (held left) (o .good .once) given

@@ -50,12 +50,12 @@ module _ {i : List ℕ} {p : Plain} {f f′ : File} {size count : ℕ} (o : OnDi
   fresh = vacant-name p m unused .0
 
   vacant : tableFind m others ≡ none
-  vacant = find-remove-other m n 0 (p .files) (o .good .names) other ∙ fresh
+  vacant = find-remove-other m n 0 (p .files) (o .good .catalog .names) other ∙ fresh
 
   pub rename-good : Good after
   rename-good =
       changed-good c (o .good) n m found shut (no-area p m (o .good) fresh) legal (vacant-name p m unused .1)
-      (chains-put (p .H) (sysOf p) (p .layers) m f′ others (λ j. omega (arith, places-remove (p .H) j (sysOf p) n (p .files), o .good .chains j)) fits)
+      (chains-put (p .H) (sysOf p) (p .layers) m f′ others (λ j. omega (arith, places-remove (p .H) j (sysOf p) n (p .files), o .good .catalog .chains j)) fits)
 
   gr : Ground p
   gr = ground p (o .good)
@@ -82,15 +82,15 @@ module _ {i : List ℕ} {p : Plain} {f f′ : File} {size count : ℕ} (o : OnDi
 
   -- the entry's place emptied
   after-remove : (k : ℕ) → k ≢ n → entry without k ≡ entry p k
-  after-remove k d = entry-beside p others (p .areas) k (find-remove-other k n 0 (p .files) (o .good .names) d)
+  after-remove k d = entry-beside p others (p .areas) k (find-remove-other k n 0 (p .files) (o .good .catalog .names) d)
 
   gone : entry without n ≡ none
-  gone = entry-removed p n (o .good .names) (o .good .files n f found .ordinary)
+  gone = entry-removed p n (o .good .catalog .names) (o .good .catalog .files n f found .ordinary)
 
   pub rename-emptied : Layout (emptyPlace p (sysOf p) image t) after (freeSectors p) (held after) (entry without)
   rename-emptied =
-      let nz : n ≢ 0 = λ e. (let q = legal-positive n (o .good .files n f found .name) in omega arith) in
-      write-zero gr′ rename-resized t in₀ (entry without) n (entry-named p (o .good .names)) after-remove gone rename-place nz
+      let nz : n ≢ 0 = λ e. (let q = legal-positive n (o .good .catalog .files n f found .name) in omega arith) in
+      write-zero gr′ rename-resized t in₀ (entry without) n (entry-named p (o .good .catalog .names)) after-remove gone rename-place nz
 
   -- a place that is unused, or the one that is emptied
   pub unused-after : (u : ℕ) → u < placeCount (p .H) (p .layers) → (u ≡ t) ⊎ Unused (placeWord i (p .F) (p .s) (p .sys) sysFrom) u
@@ -113,8 +113,8 @@ module _ {i : List ℕ} {p : Plain} {f f′ : File} {size count : ℕ} (o : OnDi
       let stay : (k : ℕ) → k ≢ m → entry after k ≡ entry without k = λ k d.
       entry-beside without (tablePut m f′ others) (p .areas) k (find-put-other k m f′ others d) in
       let nz : m ≢ 0 = λ z. (let q = legal-positive m legal in omega arith) in
-      let named = entry-named after (rename-good .names) .name m e new-entry in
-      let r = write-entry gr′ rename-emptied u in₁ e (changes-entry c m) (entry after) m (entry-named without (sorted-remove 0 n (p .files) (o .good .names))) stay new-entry named nz key
+      let named = entry-named after (rename-good .catalog .names) .name m e new-entry in
+      let r = write-entry gr′ rename-emptied u in₁ e (changes-entry c m) (entry after) m (entry-named without (sorted-remove 0 n (p .files) (o .good .catalog .names))) stay new-entry named nz key
       (λ x y q. absurd (absent (rename-emptied .sys .places) m (after-remove m other ∙ unused) nz x y q))
       (λ _. name-zero (placeWord (emptyPlace p (sysOf p) image t) (p .F) (p .s) (p .sys) sysFrom) u clear) in
       let w₁ : Words image = words-resized gr (o .layout) n m f f′ found vacant gr′ (changes-resizes c) (c .few) (o .words) in

@@ -19,7 +19,7 @@ use Rattle.disc.proofs.SliceLaws.{occurrences-append}
 use Rattle.disc.proofs.EntryLaws.{no-slices}
 use Rattle.words.specs.Store.{store}
 use Rattle.words.proofs.StoreLaws.{length-store, words-store}
-use Rattle.map.specs.Marks.{allMarked, allUsed, allFree}
+use Rattle.map.specs.Marks.{allUsed, allFree}
 use Rattle.map.proofs.MarkLaws.{length-all-marked}
 use Rattle.index.specs.Block.{wholeIndex}
 use Rattle.index.proofs.BlockLaws.{length-wholeIndex, holds-stored}
@@ -35,7 +35,7 @@ use Rattle.refine.specs.Writes.{zeroedSectors, takenImage, cutBlock, cutImage, 
 use Rattle.refine.proofs.Sectors.{Same, same-refl, same-trans, holds-kept, sector-outside, marked-outside-map}
 use Rattle.refine.proofs.Ground.{Ground, part-file, first-in, block-in, catalog-data, sys-ground, file-data, catalog-file, in-file}
 use Rattle.refine.proofs.Writers.{place-same, long, write-freed, write-used, forget-file, write-file}
-use Rattle.steps.proofs.WriteLaws.{part-in-map, words-index-part, words-marks, zeroed-size, zeroed-keep, zeroed-zero, words-zeroed, taken-none, zero-holds}
+use Rattle.steps.proofs.WriteLaws.{part-in-map, words-index-part, words-marks, zeroed-size, zeroed-keep, zeroed-zero, words-zeroed, marked-none, taken-none, zero-holds}
 
 -- ---- one slice list begins with the other: slices are given back from the end, or taken at the end, or neither
 
@@ -83,10 +83,6 @@ module _ {l l′ : List ℕ} (r : Resizes l l′) where
       ∙ ap (λ (x : List ℕ). occurrences k (x ++ drop (length l) l′)) (r .common) ∙ ap (occurrences k) (take-append-drop (length l) l′)
 
 -- ---- slices given back: the map is marked, then the index block is written, if some are kept and some given back
-
-marked-none : (v : ℕ) (image : List ℕ) → allMarked v image [] ≡ image
-unfolding allMarked
-marked-none v image = refl
 
 module _ (image : List ℕ) (q F s : ℕ) (slices : List ℕ) where
   -- none given back: nothing is written

@@ -126,7 +126,7 @@ zero-holds i q z = record { at = λ b h l. z b l ∙ sym (getD-replicate 256 b 0
 
 -- ---- slices taken: the map is marked, then the index block is written, if there are any
 
-marked-none : (v : ℕ) (image : List ℕ) → allMarked v image [] ≡ image
+pub marked-none : (v : ℕ) (image : List ℕ) → allMarked v image [] ≡ image
 unfolding allMarked
 marked-none v image = refl
 
@@ -211,7 +211,7 @@ module _ (p : Plain) (g : Good p) where
 
   pub words-file-entry : (n : ℕ) (f : File) → tableFind n (p .files) ≡ some f → Words (fileEntry (p .F) (p .s) n f)
   words-file-entry n f h =
-      let fg = g .files n f h in
+      let fg = g .catalog .files n f h in
       words-entry n (f .optional) (f .attributes) (f .booked) (indexSector (p .F) (p .s) (f .bookedSlices) (f .slices)) (p .s * f .bookedSlices) (f .tail)
       (legal-small n (fg .name)) (fg .optional .words) (omega (arith, not-negative (f .attributes) (fg .attributes))) (omega (arith, fg .bookedLow, length-small p gr n f h))
       (index-small n f h (f .bookedSlices) (fg .bookedSlicesLow))

@@ -3,13 +3,18 @@ use mathlib.Core.List.{List, _++_}
 use Prim.Native.Nat.{ℕ, suc}
 use Rattle.disc.specs.Numbers.{need}
 use Rattle.disc.specs.Slices.{taken, lastOf}
+use Rattle.disc.specs.Catalog.{Catalog}
 use Rattle.plain.specs.Unit.{Plain, File, M, held, withTables, sysOf}
 use Rattle.plain.specs.Taking.{taking, zeroSectors}
 use Rattle.plain.specs.Transput.{slicesToTake}
 
--- The slices that SYS takes for one layer more, and the unit then.
+-- The slices that a catalog takes for one layer more.
+abbrev pub layerOf : Plain → Catalog → List ℕ
+layerOf p c = taking p c (suc (c .layers)) 0 0 .catalogNew
+
+-- Those that SYS takes, and the unit then.
 abbrev pub layerSlices : Plain → List ℕ
-layerSlices p = taking p (sysOf p) (suc (p .layers)) 0 0 .catalogNew
+layerSlices p = layerOf p (sysOf p)
 
 abbrev pub grownUnit : Plain → Plain
 grownUnit p = withTables p (suc (p .layers)) (p .sys ++ layerSlices p) (p .files) (p .areas)

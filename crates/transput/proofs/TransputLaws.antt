@@ -15,6 +15,7 @@ use Rattle.types.specs.declared.State.{State}
 use Rattle.types.specs.State.{areaAt, userAt}
 use Rattle.disc.specs.Numbers.{negative}
 use Rattle.disc.specs.Attributes.{writeProtected, extendable}
+use Rattle.catalog.specs.declared.Unit.{Unit}
 use Rattle.state.specs.declared.Kind.the-variants.{Writer}
 use Rattle.state.specs.Areas.{packed, anyOther}
 use Rattle.plain.specs.Table.{Table, tableFind}
@@ -30,9 +31,8 @@ use Rattle.steps.proofs.Whole.{on-disc, represents}
 use Rattle.steps.proofs.AreaMessages.{area-other}
 use Rattle.steps.proofs.OutputUnit.{Allowed, input-allowed, output-allowed, transputAt, input-past, input-done, transput-bytes, transput-short, transput-writer, transput-protected, transput-here, transput-negative, transput-past, transput-there}
 use Rattle.steps.proofs.OutputMessage.{input-filled}
-use Rattle.unit.specs.declared.Opened.{Opened}
-use Rattle.unit.specs.Opened.{NumbersOf, Searchable}
-use Rattle.unit.proofs.OpenLaws.{searchable}
+use Rattle.unit.specs.Unit.{NumbersOf, Searchable}
+use Rattle.unit.proofs.UnitLaws.{searchable}
 use Rattle.sharing.specs.declared.AreaReply.{AreaReply}
 use Rattle.sharing.specs.Sharing.{areaReply, atPosition, positionWord, positionReached}
 use Rattle.refine.specs.Leaves.{Leaves}
@@ -128,7 +128,7 @@ done-state state j u k = ap (atPosition state j u) (add-one k)
 
 -- ---- input
 
-module _ {image : List ℕ} {state : State} {o : Opened} {p q : Plain} {n j sender u : ℕ} {f : File} {k : ℕ} (at : Placed image state o p q n j sender u f k) (lent : List ℕ) where
+module _ {image : List ℕ} {state : State} {o : Unit} {p q : Plain} {n j sender u : ℕ} {f : File} {k : ℕ} (at : Placed image state o p q n j sender u f k) (lent : List ℕ) where
   -- Input is transput with operation 1
   is-input : input q (moved p n sender (areaUsers state j) (areaUser state j u)) f k lent ≡ transputAt p n sender (areaUsers state j) (areaUser state j u) f 1 lent q k
   is-input = sym (either-no _ _ _ tt)
@@ -151,7 +151,7 @@ module _ {image : List ℕ} {state : State} {o : Opened} {p q : Plain} {n j send
     reached = done-state state j u k;
   }
 
-module _ {image : List ℕ} {state : State} {o : Opened} {j u k : ℕ} {area : Area} (own : area ≡ areaAt state j) where
+module _ {image : List ℕ} {state : State} {o : Unit} {j u k : ℕ} {area : Area} (own : area ≡ areaAt state j) where
   pub inputs-refused : {lent : List ℕ} {reply : AreaReply} {a w : ℕ} → area .length ≤ k → AttributesOf image o (packed (area .name)) a → w ≡ endWord a
       → reply ≡ areaReply (atPosition state j u k) w 0 k → Inputs image state o j u k lent reply lent
   inputs-refused {lent} x attributes word e = record {
@@ -168,7 +168,7 @@ module _ {image : List ℕ} {state : State} {o : Opened} {j u k : ℕ} {area : A
 
 -- ---- input or output
 
-module _ {image : List ℕ} {state : State} {o : Opened} {j u operation k : ℕ} {lent : List ℕ} {reply : AreaReply} where
+module _ {image : List ℕ} {state : State} {o : Unit} {j u operation k : ℕ} {lent : List ℕ} {reply : AreaReply} where
   pub at-output : {after : List ℕ} → isOutput operation ≡ true → Outputs image state o j u k lent reply after → TransputsAt image state o j u operation k lent reply lent after
   at-output {after} out h = record {
     all = λ p q n sender f at.
@@ -193,7 +193,7 @@ module _ {image : List ℕ} {state : State} {o : Opened} {j u operation k : ℕ}
 
 -- ---- one unit: transput by a user
 
-module _ {image : List ℕ} {state : State} {o : Opened} {p : Plain} {n j sender u : ℕ} {f : File} (seat : Seat image state p n j sender u f) (num : NumbersOf o p) where
+module _ {image : List ℕ} {state : State} {o : Unit} {p : Plain} {n j sender u : ℕ} {f : File} (seat : Seat image state p n j sender u f) (num : NumbersOf o p) where
   abbrev users : Table AreaUser
   users = areaUsers state j
 
@@ -336,10 +336,10 @@ module _ {image : List ℕ} {state : State} {o : Opened} {p : Plain} {n j sender
 
 -- ---- every unit on the image, by what the code finds
 
-pub seated-searches : {image : List ℕ} {state : State} {o : Opened} {j sender u : ℕ} → Seated image state o j sender u → Searchable image o
+pub seated-searches : {image : List ℕ} {state : State} {o : Unit} {j sender u : ℕ} → Seated image state o j sender u → Searchable image o
 seated-searches s = searchable (record { unit = s .p; on = on-disc (s .seat .good) (s .seat .represents); numbers = s .numbers })
 
-module _ {image : List ℕ} {state : State} {o : Opened} {j sender u operation bytes : ℕ} (block : ℕ) (lent : List ℕ) {area : Area} (own : area ≡ areaAt state j)
+module _ {image : List ℕ} {state : State} {o : Unit} {j sender u operation bytes : ℕ} (block : ℕ) (lent : List ℕ) {area : Area} (own : area ≡ areaAt state j)
     {w : ℕ} (asks : RefusalFor image o area sender operation bytes (length lent) w) where
   -- what was found is that of every unit
   module _ {p : Plain} {n : ℕ} {f : File} (seat : Seat image state p n j sender u f) (num : NumbersOf o p) where

@@ -19,6 +19,7 @@ use Rattle.index.specs.Block.{wholeIndex, blockAt, sliceTotal}
 use Rattle.index.proofs.BlockLaws.{wholeIndex-none, holds-wholeIndex}
 use Rattle.index.proofs.ReadLaws.{read-block, read-total}
 use Rattle.catalog.specs.declared.Place.{Place}
+use Rattle.catalog.specs.declared.Unit.{Unit}
 use Rattle.catalog.specs.Catalog.{entryWord}
 use Rattle.state.specs.declared.Found.{Found}
 use Rattle.state.specs.declared.Found.the-variants.{At, Absent}
@@ -33,18 +34,17 @@ use Rattle.refine.specs.Represents.{SameAreas}
 use Rattle.refine.specs.OnDisc.{OnDisc, SomeOnDisc}
 use Rattle.refine.proofs.Ground.{ground, part-file, part-few}
 use Rattle.refine.proofs.StateLaws.{same-found, same-absent}
-use Rattle.unit.specs.declared.Opened.{Opened}
-use Rattle.unit.specs.Opened.{NumbersOf, OpenedOn, Represented}
+use Rattle.unit.specs.Unit.{NumbersOf, UnitOn, Represented}
 use Rattle.unit.specs.Find.{NameAt}
 use Rattle.unit.specs.Files.{ownBlock, BlockOf, isFound, nameOpen}
 
 -- ---- a represented unit is on its image
 
-pub represented-on : {image : List ℕ} {state : State} {o : Opened} → Represented image state o → OpenedOn image o
+pub represented-on : {image : List ℕ} {state : State} {o : Unit} → Represented image state o → UnitOn image o
 represented-on h =
     record { unit = h .unit; on = record { good = h .good; words = h .represents .words; layout = h .represents .layout }; numbers = h .numbers }
 
-pub some-on : {image : List ℕ} {o : Opened} → OpenedOn image o → SomeOnDisc image
+pub some-on : {image : List ℕ} {o : Unit} → UnitOn image o → SomeOnDisc image
 some-on h = record { unit = h .unit; on = h .on }
 
 -- ---- the index block
@@ -61,7 +61,7 @@ block-some image index d e = record {
   all = λ p on n f found at. below-or 0 (length (f .slices))
       (λ (some : 0 < length (f .slices)).
       let here = sector-first (p .F) (p .s) (f .slices) some ∙ sym at in
-      e ∙ read-block image (p .F) (p .s) index (f .slices) (on .good .files n f found .few) (rw here at (on .layout .files n f found .index some)))
+      e ∙ read-block image (p .F) (p .s) index (f .slices) (on .good .catalog .files n f found .few) (rw here at (on .layout .files n f found .index some)))
       (λ none. absurd (d (at ∙ index-none (p .F) (p .s) (f .slices) none)));
 }
 
@@ -75,7 +75,7 @@ own-some image zero d = absurd (d refl)
 own-some image (suc q) d = refl
 
 -- the block of a file of the unit, and its number of slices
-module _ {image : List ℕ} {o : Opened} {p : Plain} {index : ℕ} {block : List ℕ} (on : OnDisc image p) (num : NumbersOf o p) (n : ℕ) (f : File)
+module _ {image : List ℕ} {o : Unit} {p : Plain} {index : ℕ} {block : List ℕ} (on : OnDisc image p) (num : NumbersOf o p) (n : ℕ) (f : File)
     (found : tableFind n (p .files) ≡ some f) (of : BlockOf image index block) (at : index ≡ indexSector (p .F) (p .s) (length (f .slices)) (f .slices)) where
   pub block-is : block ≡ wholeIndex (p .F) (p .s) (f .slices)
   block-is = of .all p on n f found at
@@ -83,7 +83,7 @@ module _ {image : List ℕ} {o : Opened} {p : Plain} {index : ℕ} {block : List
   pub block-total : sliceTotal (o .slice) block 0 ≡ length (f .slices)
   block-total =
       ap₂ (λ (s : ℕ) (w : List ℕ). sliceTotal s w 0) (num .slice) block-is
-      ∙ read-total (wholeIndex (p .F) (p .s) (f .slices)) (p .F) (p .s) 0 (f .slices) (on .good .files n f found .few)
+      ∙ read-total (wholeIndex (p .F) (p .s) (f .slices)) (p .F) (p .s) 0 (f .slices) (on .good .catalog .files n f found .few)
       (holds-wholeIndex (p .F) (p .s) (f .slices)) (omega (arith, on .good .limits .slice-low))
 
   pub total-fits : (1 ≤ o .slice) × (sliceTotal (o .slice) block 0 < 65536)
@@ -106,12 +106,12 @@ pub record FileWords (image : List ℕ) (p : Plain) (place : Place) (f : File) :
 
 module _ {image : List ℕ} {p : Plain} {n : ℕ} {place : Place} (g : Good p) (a : NameAt image p n place) (f : File) (found : tableFind n (p .files) ≡ some f) where
   pub file-entry : a .words ≡ fileEntry (p .F) (p .s) n f
-  file-entry = some-inj (sym (a .entered) ∙ entry-of p n f (g .files n f found .ordinary) found)
+  file-entry = some-inj (sym (a .entered) ∙ entry-of p n f (g .catalog .files n f found .ordinary) found)
 
   pub file-words : FileWords image p place f
   file-words =
       let index : ℕ = indexSector (p .F) (p .s) (f .bookedSlices) (f .slices) in
-      let three = g .files n f found .optional .count in
+      let three = g .catalog .files n f found .optional .count in
       let at : (w : ℕ) → w < 16 → entryWord image place w ≡ getD (fileEntry (p .F) (p .s) n f) w 0 = λ w x. a .holds w x ∙ ap (λ (l : List ℕ). getD l w 0) file-entry in
       record {
         attributes = at 6 (omega arith) ∙ entry-attributes n (f .optional) (f .attributes) (f .booked) index (p .s * f .bookedSlices) (f .tail) three;
@@ -121,10 +121,10 @@ module _ {image : List ℕ} {p : Plain} {n : ℕ} {place : Place} (g : Good p) (
 
   -- with no area process the length and the slices are those booked
   pub live-size : tableFind n (p .areas) ≡ none → entryWord image place 7 ≡ length (f .sectors)
-  live-size closed = file-words .size ∙ g .files n f found .closed closed .0
+  live-size closed = file-words .size ∙ g .catalog .files n f found .closed closed .0
 
   pub live-index : tableFind n (p .areas) ≡ none → entryWord image place 8 ≡ indexSector (p .F) (p .s) (length (f .slices)) (f .slices)
-  live-index closed = file-words .index ∙ ap (λ (b : ℕ). indexSector (p .F) (p .s) b (f .slices)) (g .files n f found .closed closed .1)
+  live-index closed = file-words .index ∙ ap (λ (b : ℕ). indexSector (p .F) (p .s) b (f .slices)) (g .catalog .files n f found .closed closed .1)
 
 -- SYS and MAP are no files
 -- ---- open names

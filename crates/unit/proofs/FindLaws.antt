@@ -23,16 +23,16 @@ use Rattle.plain.specs.Unit.{Plain, sysOf, M, held, entry}
 use Rattle.plain.specs.Questions.{Outcome}
 use Rattle.plain.proofs.QuestionLaws.{asks-yes, asks-no}
 use Rattle.sound.specs.Places.{Unused}
+use Rattle.catalog.specs.declared.Unit.{Unit}
 use Rattle.refine.specs.Represents.{PlaceOf}
 use Rattle.refine.proofs.CatalogLaws.{at, name-zero}
 use Rattle.refine.proofs.Ground.{positive, catalog-data, sys-ground, catalog-slices, place-in}
-use Rattle.unit.specs.declared.Opened.{Opened}
-use Rattle.unit.specs.Opened.{NumbersOf, CatalogOn, Searchable, unitPlaces}
+use Rattle.unit.specs.Unit.{NumbersOf, CatalogOn, Searchable, unitPlaces}
 use Rattle.unit.specs.Find.{PlaceIs, NameAt, enteredWord, NameFound, FindsName}
-use Rattle.unit.proofs.OpenLaws.{unit-ground, unit-named}
+use Rattle.unit.proofs.UnitLaws.{unit-ground, unit-named}
 
 -- a unit has a key
-pub some-key : {image : List ℕ} {o : Opened} → Searchable image o → 1 ≤ o .catalog .keys
+pub some-key : {image : List ℕ} {o : Unit} → Searchable image o → 1 ≤ o .catalog .keys
 some-key h = omega (arith, h .on .good .limits .keys-low, h .numbers .catalog .keys)
 
 -- where a place of a catalog begins
@@ -69,7 +69,7 @@ module _ {image : List ℕ} {p : Plain} (on : CatalogOn image p) where
       let gr = unit-ground on in
       record {
         pos = positive p gr;
-        few = on .good .sysFew;
+        few = on .good .catalog .few;
         above = catalog-slices (sys-ground gr);
         holds = on .sys .index;
         words = λ b x.
@@ -144,5 +144,5 @@ module _ {image : List ℕ} {p : Plain} (on : CatalogOn image p) where
       nothing≢at q = let z : _≡_ {A = ℕ} 0 1 = cc in omega arith
 
 -- the words of a name's place are in the image
-pub name-room : {image : List ℕ} {o : Opened} {n : ℕ} {r : Found} {place : Place} → Searchable image o → FindsName image o n r → r ≡ At place → placeStart place + 16 ≤ length image
+pub name-room : {image : List ℕ} {o : Unit} {n : ℕ} {r : Found} {place : Place} → Searchable image o → FindsName image o n r → r ≡ At place → placeStart place + 16 ≤ length image
 name-room {place = place} h finds e = place-room (h .on) (finds .all (h .unit) (h .on) (h .numbers) .at place e .is)

@@ -1,4 +1,4 @@
-pub mod OpenLaws
+pub mod UnitLaws
 pub mod FindLaws
 pub mod UnusedLaws
 pub mod MeantLaws

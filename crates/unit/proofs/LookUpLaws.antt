@@ -13,6 +13,7 @@ use Rattle.disc.specs.Names.{named, unitIn}
 use Rattle.catalog.specs.declared.Place.{Place}
 use Rattle.catalog.specs.declared.Found.{Found}
 use Rattle.catalog.specs.declared.Found.the-variants.{At, Nothing}
+use Rattle.catalog.specs.declared.Unit.{Unit}
 use Rattle.catalog.specs.Catalog.{entryAt}
 use Rattle.catalog.proofs.WalkLaws.{length-entryAt, getD-entryAt}
 use Rattle.plain.specs.Unit.{Plain, entry}
@@ -21,11 +22,10 @@ use Rattle.plain.specs.Catalog.{stepLookUp}
 use Rattle.plain.proofs.QuestionLaws.{asks-yes, asks-no, given-none, given-some}
 use Rattle.refine.specs.OnDisc.{OnDisc}
 use Rattle.refine.proofs.Ground.{entry-length}
-use Rattle.unit.specs.declared.Opened.{Opened}
-use Rattle.unit.specs.Opened.{NumbersOf, MeantOn, CatalogOn}
+use Rattle.unit.specs.Unit.{NumbersOf, MeantOn, CatalogOn}
 use Rattle.unit.specs.Find.{NameAt, NameFound, FindsName}
 use Rattle.unit.specs.LookUp.{LooksUp}
-use Rattle.unit.proofs.OpenLaws.{on-catalog}
+use Rattle.unit.proofs.UnitLaws.{on-catalog}
 use Rattle.unit.proofs.MeantLaws.{meant-on-known}
 use Rattle.unit.proofs.FindLaws.{place-room}
 
@@ -52,7 +52,7 @@ module _ (p : Plain) (name : Name) (lent : List ℕ) (mine : T (known p (unitIn 
 
 -- ---- Look-up, by what was found
 
-module _ {image : List ℕ} {o : Opened} {n : ℕ} {r : Found} (name : Name) (lent : List ℕ) (meant : MeantOn image o (unitIn name)) (is : n ≡ named name)
+module _ {image : List ℕ} {o : Unit} {n : ℕ} {r : Found} (name : Name) (lent : List ℕ) (meant : MeantOn image o (unitIn name)) (is : n ≡ named name)
     (finds : FindsName image o n r) where
   found : (p : Plain) → OnDisc image p → NumbersOf o p → NameFound image p (named name) r
   found p on num = subst (λ (m : ℕ). NameFound image p m r) is (finds .all p (on-catalog on) num)

@@ -15,8 +15,8 @@ use Rattle.plain.specs.Unit.{Plain, File, sysOf, entry}
 use Rattle.plain.specs.Questions.{asks, replies, done}
 use Rattle.plain.specs.Taking.{placesTaken}
 use Rattle.sound.specs.Places.{Unused}
-use Rattle.unit.specs.declared.Opened.{Opened}
-use Rattle.unit.specs.Opened.{NumbersOf, CatalogOn, unitPlaces}
+use Rattle.catalog.specs.declared.Unit.{Unit}
+use Rattle.unit.specs.Unit.{NumbersOf, CatalogOn, unitPlaces}
 
 -- A place of the code is place t of a catalog of the unit.
 pub record PlaceIs (p : Plain) (c : Catalog) (t : ℕ) (place : Place) : Type 0 where
@@ -46,7 +46,7 @@ pub record NameFound (image : List ℕ) (p : Plain) (n : ℕ) (r : Found) : Type
   pub areaWord : (lent : List ℕ) → areaNameWord r ≡ enteredWord p n 0x4800 lent
 
 -- The same of every unit whose catalog is on the image.
-pub record FindsName (image : List ℕ) (o : Opened) (n : ℕ) (r : Found) : Type 0 where
+pub record FindsName (image : List ℕ) (o : Unit) (n : ℕ) (r : Found) : Type 0 where
   pub all : (p : Plain) → CatalogOn image p → NumbersOf o p → NameFound image p n r
 
 -- "An entry takes the first unused place": place u of the catalog, of those of key k.
@@ -69,5 +69,5 @@ pub record UnusedFound (image : List ℕ) (p : Plain) (c : Catalog) (files : Tab
   pub at : (place : Place) → r ≡ At place → UnusedAt image p c files k place
   pub nothing : r ≡ Nothing → 16 * c .layers ≤ placesTaken (p .H) k c files
 
-pub record FindsUnused (image : List ℕ) (o : Opened) (k : ℕ) (r : Found) : Type 0 where
+pub record FindsUnused (image : List ℕ) (o : Unit) (k : ℕ) (r : Found) : Type 0 where
   pub all : (p : Plain) → CatalogOn image p → NumbersOf o p → UnusedFound image p (sysOf p) (p .files) k r

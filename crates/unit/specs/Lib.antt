@@ -1,4 +1,4 @@
-pub mod Opened
+pub mod Unit
 pub mod Find
 pub mod Files
 pub mod LookUp

@@ -6,27 +6,20 @@ ghost use Prim.Native.Nat.{_<_};
 ghost use Rattle.disc.specs.Names.{packed, unitIn};
 ghost use Rattle.catalog.specs.Catalog.{placeUnused};
 ghost use Rattle.refine.specs.OnDisc.{SomeOnDisc};
-ghost use Rattle.unit.specs.Opened.{NumbersIn, MeantOn, Searchable};
+ghost use Rattle.unit.specs.Unit.{NumbersIn, MeantOn, Searchable};
 ghost use Rattle.unit.specs.Find.{FindsName, FindsUnused};
 ghost use Rattle.unit.specs.Files.{ownBlock, BlockOf, nameOpen};
 ghost use Rattle.unit.specs.LookUp.{LooksUp};
 use catalog::Catalog;
 use catalog::Found;
+use catalog::Unit;
 use index::IndexBlock;
 use types::Name;
 use types::Sector;
 use types::State;
 
-// The unit's numbers: s, F and M of document 01, and its catalog SYS with H and L.
-pub struct Opened {
-    pub slice: u16,
-    pub first: Sector,
-    pub slices: u16,
-    pub catalog: Catalog,
-}
-
 // The numbers of the unit on the image.
-pub fn open_unit(image: &[u16]) -> Opened
+pub fn open_unit(image: &[u16]) -> Unit
     requires { ⌜ SomeOnDisc (now image) ⌝ }
     ensures { λ r. ⌜ NumbersIn (now (image .entry)) r ⌝ }
 {
@@ -39,7 +32,7 @@ pub fn open_unit(image: &[u16]) -> Opened
         keys: g.keys,
         layers: layers,
     };
-    Opened {
+    Unit {
         slice: g.slice,
         first: first,
         slices: g.slices,
@@ -48,23 +41,23 @@ pub fn open_unit(image: &[u16]) -> Opened
 }
 
 // The place of a name as it is stored. Unused places have the name 0, and no entry has it.
-pub fn find_name(image: &[u16], o: Opened, name: Name) -> Found
-    requires { ⌜ Searchable (now image) o ⌝ }
-    ensures { λ r. ⌜ FindsName (now (image .entry)) o (packed name) r ⌝ }
+pub fn find_name(image: &[u16], unit: Unit, name: Name) -> Found
+    requires { ⌜ Searchable (now image) unit ⌝ }
+    ensures { λ r. ⌜ FindsName (now (image .entry)) unit (packed name) r ⌝ }
 {
     if names::packed(name) == 0 {
         return Found::Nothing;
     }
-    catalog::find(image, o.catalog, name)
+    catalog::find(image, unit.catalog, name)
 }
 
 // The first unused place of a key.
-pub fn find_unused(image: &[u16], o: Opened, key: u16) -> Found
-    requires { ⌜ Searchable (now image) o × (key < o .catalog .keys) ⌝ }
-    ensures first { λ r. ⌜ r ≡ placeUnused (now (image .entry)) (o .catalog) key ⌝ }
-    ensures found { λ r. ⌜ FindsUnused (now (image .entry)) o key r ⌝ }
+pub fn find_unused(image: &[u16], unit: Unit, key: u16) -> Found
+    requires { ⌜ Searchable (now image) unit × (key < unit .catalog .keys) ⌝ }
+    ensures first { λ r. ⌜ r ≡ placeUnused (now (image .entry)) (unit .catalog) key ⌝ }
+    ensures found { λ r. ⌜ FindsUnused (now (image .entry)) unit key r ⌝ }
 {
-    catalog::first_unused(image, o.catalog, key)
+    catalog::first_unused(image, unit.catalog, key)
 }
 
 // The index block of the ordinary file with the index sector given; that of a file with no slice, whose index sector is 0.
@@ -90,11 +83,11 @@ pub fn is_open(state: State, name: Name) -> bool
 
 // Look-up from question 3 on, of the name in a message that means this unit: the result word, and the entry in the first 16 lent
 // words.
-pub fn look_up(image: &[u16], o: Opened, name: Name, lent: &mut [u16]) -> u16
-    requires { ⌜ MeantOn (now image) o (unitIn name) ⌝ }
-    ensures { λ r. ⌜ LooksUp (now (image .entry)) o name (now (lent .entry)) r (now (lent .exit)) ⌝ }
+pub fn look_up(image: &[u16], unit: Unit, name: Name, lent: &mut [u16]) -> u16
+    requires { ⌜ MeantOn (now image) unit (unitIn name) ⌝ }
+    ensures { λ r. ⌜ LooksUp (now (image .entry)) unit name (now (lent .entry)) r (now (lent .exit)) ⌝ }
 {
-    let Found::At(place) = find_name(image, o, names::stored(name)) else {
+    let Found::At(place) = find_name(image, unit, names::stored(name)) else {
         return 0x5000;
     };
     if lent.len() < 16 {

@@ -12,6 +12,7 @@ use Rattle.types.specs.State.{areaAt}
 use Rattle.disc.specs.Words.{Words}
 use Rattle.disc.specs.Names.{named, unitIn}
 use Rattle.disc.proofs.Compare.{same-or}
+use Rattle.catalog.specs.declared.Unit.{Unit}
 use Rattle.state.specs.declared.Found.{Found}
 use Rattle.state.specs.declared.Found.the-variants.{At, Absent}
 use Rattle.state.specs.declared.Kind.the-variants.{Exclusive}
@@ -19,21 +20,20 @@ use Rattle.state.specs.Areas.{areaNamed, entryOf, anyOther}
 use Rattle.plain.specs.Unit.{Plain, M, sysOf}
 use Rattle.plain.specs.Step.{isKnown}
 use Rattle.catalog.specs.Value.{valueOf}
-use Rattle.unit.specs.declared.Opened.{Opened}
-use Rattle.unit.specs.Opened.{NumbersOf, Meant}
+use Rattle.unit.specs.Unit.{NumbersOf, Meant}
 use Rattle.transput.specs.Transput.{Seated}
 use Rattle.area_messages.specs.AreaMessages.{reserveWord, UserSteps, CanOperate, Operates, AreaMessages}
 use Rattle.area_messages.proofs.MessageLaws.{step-release, step-position, step-sense, step-other, step-transput, operate-reserve, operate-stranger, operate-seated, operate-user, message-shut, message-reserved, message-nobody, message-strange, message-can, message-asked}
 use Rattle.witness.proofs.Transput.{SomeReply, transput-some}
 
 -- the unit's numbers
-abbrev pub numbers : Plain → Opened
+abbrev pub numbers : Plain → Unit
 numbers p = record { slice = p .s; first = record { 0 = p .F }; slices = M p; catalog = valueOf (p .H) (sysOf p) }
 
 pub numbers-of : (p : Plain) → NumbersOf (numbers p) p
 numbers-of p = record { slice = refl; first = refl; slices = refl; catalog = record { index = refl; from = refl; keys = refl; layers = refl } }
 
-module _ {image : List ℕ} {state : State} {o : Opened} {j sender : ℕ} (lent : List ℕ) (words : Words lent) where
+module _ {image : List ℕ} {state : State} {o : Unit} {j sender : ℕ} (lent : List ℕ) (words : Words lent) where
   -- ---- a user's operation
 
   user-some : {u : ℕ} → Seated image state o j sender u → (operation : Operation) → SomeReply (UserSteps image state o j sender u operation lent)
@@ -60,7 +60,7 @@ module _ {image : List ℕ} {state : State} {o : Opened} {j sender : ℕ} (lent 
 
 -- ---- the message
 
-module _ {image : List ℕ} {state : State} {o : Opened} (name : Name) (h : Meant image state o (unitIn name)) (sender : ℕ) (operation : Operation) (lent : List ℕ) (words : Words lent) where
+module _ {image : List ℕ} {state : State} {o : Unit} (name : Name) (h : Meant image state o (unitIn name)) (sender : ℕ) (operation : Operation) (lent : List ℕ) (words : Words lent) where
   abbrev Result : Type 0
   Result = SomeReply (AreaMessages image state o name sender operation lent)
 

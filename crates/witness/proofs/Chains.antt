@@ -14,9 +14,9 @@ use Rattle.sound.specs.Places.{Unused}
 use Rattle.refine.specs.Represents.{PlaceOf}
 use Rattle.refine.proofs.CatalogLaws.{name-zero}
 use Rattle.refine.proofs.PlaceCount.{used-full}
-use Rattle.unit.specs.Opened.{CatalogOn, unitPlaces}
+use Rattle.unit.specs.Unit.{CatalogOn, unitPlaces}
 use Rattle.unit.specs.Find.{FirstUnused}
-use Rattle.unit.proofs.OpenLaws.{unit-named}
+use Rattle.unit.proofs.UnitLaws.{unit-named}
 
 module _ {image : List ℕ} {p : Plain} (on : CatalogOn image p) (k : ℕ) where
   abbrev P : ℕ → ℕ → ℕ
@@ -57,4 +57,4 @@ module _ {image : List ℕ} {p : Plain} (on : CatalogOn image p) (k : ℕ) where
     where
       go : Search (placeCount (p .H) (p .layers)) → (u : ℕ) × FirstUnused image p (sysOf p) k u
       go (first u f) = (u, f)
-      go (full f) = absurd (omega (arith, used-full p (on .good .names) (ordinary-files (on .good)) (on .sys .places) k low f))
+      go (full f) = absurd (omega (arith, used-full p (on .good .catalog .names) (ordinary-files (on .good)) (on .sys .places) k low f))

@@ -31,10 +31,10 @@ use Rattle.refine.specs.Writes.{emptyPlace, resizedImage, changedImage, renamed
 use Rattle.refine.specs.Replies.{refused, written}
 use Rattle.steps.specs.Units.{grownUnit}
 use Rattle.steps.proofs.RenameStep.{rename-emptied}
-use Rattle.unit.specs.Opened.{CatalogOn, unitPlaces}
+use Rattle.unit.specs.Unit.{CatalogOn, unitPlaces}
 use Rattle.unit.specs.Find.{FirstUnused}
 use Rattle.grow.specs.Grow.{GrownFrom}
-use Rattle.rewrite.specs.Rewrite.{stayed, moved}
+use Rattle.change.specs.Rewrite.{stayed, moved}
 use Rattle.change.specs.Change.{sizeThen, attributesThen, fileAfter, layersThen, ChangedOn, Changed, stays, grows, ChangeDone}
 use Rattle.change.proofs.AnswerLaws.{change-no, change-yes}
 use Rattle.change.proofs.ChangeUnit.{change-grown}
@@ -64,7 +64,7 @@ module _ {p : Plain} (g : Good p) (n : ℕ) {f : File} (file : tableFind n (p .f
 
   module _ {i : List ℕ} (on : OnDisc i (changeGrown p n (newName n lent) (sizeThen f lent) (attributesThen f lent) f lent)) where
     stands : (t : ℕ) × (t < placeCount (grown .H) (grown .layers)) × (nameAt (unitPlaces i grown) t ≡ n)
-    stands = name-place on n (entry-of grown n f (on .good .files n f file .ordinary) file)
+    stands = name-place on n (entry-of grown n f (on .good .catalog .files n f file .ordinary) file)
 
     abbrev f′ : File
     f′ = fileAfter (changeGrown p n (newName n lent) (sizeThen f lent) (attributesThen f lent) f lent) f lent

@@ -25,9 +25,9 @@ use Rattle.refine.specs.OnDisc.{OnDisc}
 use Rattle.refine.specs.Writes.{createdImage, removedImage, grownSys}
 use Rattle.steps.specs.Units.{layerSlices, grownUnit, newFileOf}
 use Rattle.steps.proofs.GrowStep.{grow-on}
-use Rattle.unit.specs.Opened.{unitPlaces}
+use Rattle.unit.specs.Unit.{unitPlaces}
 use Rattle.unit.specs.Find.{FirstUnused}
-use Rattle.unit.proofs.OpenLaws.{on-catalog}
+use Rattle.unit.proofs.UnitLaws.{on-catalog}
 use Rattle.grow.specs.Grow.{GrownFrom}
 use Rattle.create.specs.Create.{Created, stays, grows}
 use Rattle.remove.specs.Remove.{Removed}
@@ -64,7 +64,7 @@ module _ {image : List ℕ} {p : Plain} (on : OnDisc image p) where
     in-layer : {j : List ℕ} → 16 * p .layers ≤ placesTaken (p .H) (keyOf (p .H) n) (sysOf p) (p .files) → GrownFrom image p j → OnDisc j (grownUnit p)
         → Made (λ i. done (unitAfter p (suc (p .layers)) n size attributes optional tail) (words i))
     in-layer {j} taken from grown-on =
-        let u = first-place grown-on n (omega (arith, on .good .chains (keyOf (p .H) n))) in
+        let u = first-place grown-on n (omega (arith, on .good .catalog .chains (keyOf (p .H) n))) in
         finish _ (createdImage (grownUnit p) (sysOf (grownUnit p)) j (u .0) n (newFileOf (grownUnit p) size attributes optional tail))
         (grows (record { full = taken; grown = j; grows = from; created = record { place = u .0; first = u .1; written = refl } }) (unit-grown p (suc (p .layers)) n size attributes optional tail))
 

@@ -9,6 +9,7 @@ use Rattle.types.specs.declared.State.{State}
 use Rattle.types.specs.State.{areaAt, userAt}
 use Rattle.disc.specs.Words.{Words}
 use Rattle.disc.proofs.Compare.{same-or, below-or}
+use Rattle.catalog.specs.declared.Unit.{Unit}
 use Rattle.plain.specs.Table.{tableFind}
 use Rattle.plain.specs.Unit.{Plain, File}
 use Rattle.plain.specs.Transput.{isOutput, isRandom, stepTransput}
@@ -16,8 +17,7 @@ use Rattle.plain.proofs.TableLaws.{some-inj}
 use Rattle.refine.proofs.SoundRepresents.{sound-represents}
 use Rattle.refine.proofs.StateLaws.{named-name}
 use Rattle.refine.proofs.UserLaws.{entry-id}
-use Rattle.unit.specs.declared.Opened.{Opened}
-use Rattle.unit.specs.Opened.{NumbersOf}
+use Rattle.unit.specs.Unit.{NumbersOf}
 use Rattle.sharing.specs.declared.AreaReply.{AreaReply}
 use Rattle.sharing.specs.Sharing.{atPosition, positionWord}
 use Rattle.sharing.specs.Seat.{Seat, areaUsers, areaUser}
@@ -43,12 +43,12 @@ module _ {image : List ℕ} {state : State} {j u : ℕ} {p : Plain} {n sender : 
       let from : sender′ ≡ sender = sym (entry-id (areaAt state j) sender′ u (s .entry)) ∙ entry-id (areaAt state j) sender u (seat .entry) in
       (unit, name, from, some-inj (sym (s .file) ∙ ap₂ (λ (x : Plain) (m : ℕ). tableFind m (x .files)) unit name ∙ seat .file))
 
-  one-transput : {o : Opened} {operation bytes block : ℕ} {lent : List ℕ} {r : AreaReply} {filled after : List ℕ}
+  one-transput : {o : Unit} {operation bytes block : ℕ} {lent : List ℕ} {r : AreaReply} {filled after : List ℕ}
       → TransputLeaves (stepTransput p n sender (areaUsers state j) (areaUser state j u) f operation bytes block lent) image state p f j u operation lent r filled after
       → Transputs image state o j sender u operation bytes block lent r filled after
   one-transput l = record { all = λ p′ n′ f′ s num. let e = same-seat s in rw (e .0, e .1, e .3) l }
 
-module _ {image : List ℕ} {state : State} {o : Opened} {p q : Plain} {n j sender u : ℕ} {f : File} {k : ℕ} (at : Placed image state o p q n j sender u f k) where
+module _ {image : List ℕ} {state : State} {o : Unit} {p q : Plain} {n j sender u : ℕ} {f : File} {k : ℕ} (at : Placed image state o p q n j sender u f k) where
   same-unit : {p′ q′ : Plain} {n′ sender′ : ℕ} {f′ : File} → Placed image state o p′ q′ n′ j sender′ u f′ k → q′ ≡ q
   same-unit {q′ = q′} a = sound-represents .unique image (atPosition state j u k) q q′ (at .good) (a .good) (at .represents) (a .represents)
 
@@ -79,7 +79,7 @@ module _ {image : List ℕ} {state : State} {o : Opened} {p q : Plain} {n j send
 
 -- ---- transput
 
-module _ {image : List ℕ} {state : State} {o : Opened} {p : Plain} {n j sender u : ℕ} {f : File} (seat : Seat image state p n j sender u f) (num : NumbersOf o p)
+module _ {image : List ℕ} {state : State} {o : Unit} {p : Plain} {n j sender u : ℕ} {f : File} (seat : Seat image state p n j sender u f) (num : NumbersOf o p)
     (operation bytes block : ℕ) (lent : List ℕ) (words : Words lent) where
   abbrev Result : Type 0
   Result = SomeReply (Transputs image state o j sender u operation bytes block lent)

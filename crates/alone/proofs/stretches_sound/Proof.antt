@@ -1,11 +1,12 @@
 -- `alone::stretches_sound` meets its contract: the places before block b have passed, and the blocks before it are those of the pairs
 -- before pair j. Assumes nothing.
-use mathlib.Core.Path.{_≡_, refl}
+use mathlib.Core.Path.{_≡_, refl, ap}
 use Prim.Native.Nat.{_*_, _-_, _≤_, _<_}
 use native.Mathlib.Omega.{arith}
 use borrow.Author.Needs.{needs}
 use Rattle.disc.specs.Words.{word}
 use Rattle.disc.proofs.WalkLaws.{sectorsBefore}
+use Rattle.catalog.specs.declared.Catalog.{Catalog}
 use Rattle.entries.specs.Legal.{ownEntry}
 use Rattle.entries.specs.Sys.{placesIn}
 use Rattle.entries.proofs.SysLaws.{Turn, turn, sys-small}
@@ -15,34 +16,34 @@ use Rattle.alone.proofs.stretches_sound.Statement.{statement}
 use Rattle.alone.proofs.stretches_sound.Tie as tie
 
 abbrev Inv-loop : tie.InvT-loop
-Inv-loop image g expected classes filter₀ size b₀ j₀ filter b j =
+Inv-loop image g expected classes filter₀ size sys b₀ j₀ filter b j =
     (j ≤ word image 6 0) × (b .0 ≤ expected .size) × (b .0 < expected .size → b .0 ≡ sectorsBefore image 6 j) × Passed (placesIn image g) (g .keys) (ownEntry expected) filter (16 * b .0)
 
 abbrev μ-loop : tie.MeasureT-loop
-μ-loop image g expected classes filter₀ size b₀ j₀ filter b j = word image 6 0 - j
+μ-loop image g expected classes filter₀ size sys b₀ j₀ filter b j = word image 6 0 - j
 
 -- the turn, known once its numbers are read
-turn-of : (c : tie.After-pair-start Inv-loop μ-loop) → let at = c .before .before .before .before .before .before in let a = at .before .before .args in
+turn-of : (c : tie.After-pair-start Inv-loop μ-loop) → let at = c .before .before .before .before .before .before in let a = at .before .before .before .args in
     Turn (a .image .now) (a .g) (a .expected .size) (at .loop .j) (at .loop .b .0) (c .before .lesser .result) (c .pair-start .result .0)
 turn-of c =
     let at = c .before .before .before .before .before .before in
-    let l = at .before .before .pre .0 in
-    turn (l .catalog .sys) (at .loop .j) (in-slices l) (at .loop .inv .0) (at .loop .inv .2) (c .before .before .before .before .if1 .taken) (c .before .before .before .pair-length .ensures) (c .before .lesser .ensures) (c .pair-start .ensures)
+    let l = at .before .before .before .pre .0 in
+    turn (l .catalog .sys) (ap (λ (x : Catalog). x .index .0) (l .catalog .is)) (at .loop .j) (in-slices l) (at .loop .inv .0) (at .loop .inv .2) (c .before .before .before .before .if1 .taken) (c .before .before .before .pair-length .ensures) (c .before .lesser .ensures) (c .pair-start .ensures)
 
 loop-holds : tie.Need-loop-holds Inv-loop μ-loop
-loop-holds c = (omega arith, omega arith, λ h. refl, passed-none _ (c .before .pre .2))
+loop-holds c = (omega arith, omega arith, λ h. refl, passed-none _ (c .before .before .pre .2))
 
 pair-length-requires : tie.Need-pair-length-requires Inv-loop μ-loop
-pair-length-requires c κs = omega (arith, c .before .before .before .before .pre .0 .catalog .sys .index .few)
+pair-length-requires c κs = omega (arith, c .before .before .before .before .before .pre .0 .catalog .sys .index .few)
 
 pair-start-requires : tie.Need-pair-start-requires Inv-loop μ-loop
-pair-start-requires c κs = omega (arith, c .before .before .before .before .before .before .before .pre .0 .catalog .sys .index .few)
+pair-start-requires c κs = omega (arith, c .before .before .before .before .before .before .before .before .pre .0 .catalog .sys .index .few)
 
 stretch-sound-requires : tie.Need-stretch-sound-requires Inv-loop μ-loop
 stretch-sound-requires c κs =
     let t = turn-of (c .before) in
     let at = c .before .before .before .before .before .before .before in
-    let pre = at .before .before .pre in
+    let pre = at .before .before .before .pre in
     (fewer (t .high) (pre .0), pre .1, t .walk, t .small, at .loop .inv .3)
 
 returns : tie.Need-returns Inv-loop μ-loop
@@ -50,9 +51,9 @@ returns c =
     let t = turn-of (c .before .before .before) in
     refused (c .before .stretch-sound .ensures) (c .if2 .taken) (omega (arith, t .high))
 
-add-t12 : tie.Need-add-t12 Inv-loop μ-loop
-add-t12 c =
-    let l = c .before .before .before .before .before .before .before .before .before .before .before .before .pre .0 in
+add-t14 : tie.Need-add-t14 Inv-loop μ-loop
+add-t14 c =
+    let l = c .before .before .before .before .before .before .before .before .before .before .before .before .before .pre .0 in
     omega (arith, turn-of (c .before .before .before .before) .high, in-slices l, sys-small (l .catalog .sys), l .catalog .sys .unit .limits .sectors)
 
 add-j : tie.Need-add-j Inv-loop μ-loop
@@ -74,4 +75,4 @@ stretches-sound-spec =
     tie.close
     (tie.spec
     Inv-loop μ-loop loop-holds pair-length-requires (λ c. search needs) (λ c κs. search needs) pair-start-requires stretch-sound-requires
-    returns add-t12 add-j loop-less loop-again returns-2)
+    returns add-t14 add-j loop-less loop-again returns-2)

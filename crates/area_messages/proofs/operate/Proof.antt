@@ -7,23 +7,23 @@ use Rattle.area_messages.proofs.operate.Tie as tie
 reserve-requires : tie.Need-reserve-requires
 reserve-requires c κs =
     let a = c .before .before .before .before .args in
-    operate-low (a .image .now) (a .state) (a .o) (a .j) (a .sender) (a .operation) (c .before .before .before .before .pre)
+    operate-low (a .image .now) (a .state) (a .unit) (a .j) (a .sender) (a .operation) (c .before .before .before .before .pre)
 
 returns : tie.Need-returns
 returns c =
     let a = c .before .before .before .before .before .args in
-    operate-reserve (a .image .now) (a .state) (a .o) (a .j) (a .sender) (a .operation) (c .before .before .reserve-count .ensures) (c .before .if1 .taken) (c .reserve .ensures)
+    operate-reserve (a .image .now) (a .state) (a .unit) (a .j) (a .sender) (a .operation) (c .before .before .reserve-count .ensures) (c .before .if1 .taken) (c .reserve .ensures)
 
 area-at-requires : tie.Need-area-at-requires
 area-at-requires c κs =
     let a = c .before .before .before .before .args in
-    operate-low (a .image .now) (a .state) (a .o) (a .j) (a .sender) (a .operation) (c .before .before .before .before .pre)
+    operate-low (a .image .now) (a .state) (a .unit) (a .j) (a .sender) (a .operation) (c .before .before .before .before .pre)
 
 returns-2 : tie.Need-returns-2
 returns-2 c =
     let found = c .before .before .before in
     let a = found .before .before .before .before .before .before .args in
-    operate-stranger (a .image .now) (a .state) (a .o) (a .j) (a .sender) (a .operation) (found .before .before .before .reserve-count .ensures) (found .before .before .if1 .left) (found .before .area-at .ensures) (found .find-user .ensures .first)
+    operate-stranger (a .image .now) (a .state) (a .unit) (a .j) (a .sender) (a .operation) (found .before .before .before .reserve-count .ensures) (found .before .before .if1 .left) (found .before .area-at .ensures) (found .find-user .ensures .first)
     (c .before .enum-told .given .1) (c .reply .ensures)
 
 user-step-requires : tie.Need-user-step-requires
@@ -31,14 +31,14 @@ user-step-requires c κs =
     let at = c .before .before .before in
     let found = at .before .before in
     let a = found .before .before .before .before .before .before .args in
-    operate-seated (a .image .now) (a .state) (a .o) (a .j) (a .sender) (a .operation) (found .before .before .before .reserve-count .ensures) (found .before .before .if1 .left) (found .before .area-at .ensures) (found .find-user .ensures .first) (at .u .given .1) (found .before .before .before .before .before .before .pre)
+    operate-seated (a .image .now) (a .state) (a .unit) (a .j) (a .sender) (a .operation) (found .before .before .before .reserve-count .ensures) (found .before .before .if1 .left) (found .before .area-at .ensures) (found .find-user .ensures .first) (at .u .given .1) (found .before .before .before .before .before .before .pre)
 
 returns-3 : tie.Need-returns-3
 returns-3 c =
     let at = c .before .before .before .before .before .before .before .before in
     let found = at .before .before in
     let a = found .before .before .before .before .before .before .args in
-    operate-user (a .image .now) (a .state) (a .o) (a .j) (a .sender) (a .operation) (found .before .before .before .reserve-count .ensures) (found .before .before .if1 .left) (found .before .area-at .ensures) (found .find-user .ensures .first) (at .u .given .1)
+    operate-user (a .image .now) (a .state) (a .unit) (a .j) (a .sender) (a .operation) (found .before .before .before .reserve-count .ensures) (found .before .before .if1 .left) (found .before .area-at .ensures) (found .find-user .ensures .first) (at .u .given .1)
     (c .before .before .before .before .user-step .ensures)
 
 pub operate-spec : {M : Type 1} → statement M

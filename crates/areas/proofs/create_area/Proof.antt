@@ -1,7 +1,7 @@
 -- `areas::create_area` meets its contract. Assumes nothing.
 use mathlib.Core.Path.{sym, _∙_}
 use borrow.Author.Needs.{needs}
-use Rattle.unit.proofs.OpenLaws.{searchable}
+use Rattle.unit.proofs.UnitLaws.{searchable}
 use Rattle.unit.proofs.FileLaws.{represented-on}
 use Rattle.areas.proofs.CreateLaws.{creates-none, creates-system, creates-open, creates-full, creates-done}
 use Rattle.areas.proofs.create_area.Statement.{statement}

@@ -4,13 +4,13 @@ use native.Mathlib.Omega.{arith}
 use native.Mathlib.Nat.{mod-lt}
 use borrow.Author.Needs.{needs}
 use Rattle.disc.proofs.DecideLaws.{was-false, was-true}
-use Rattle.unit.proofs.OpenLaws.{searchable}
+use Rattle.unit.proofs.UnitLaws.{searchable}
 use Rattle.change.proofs.LayerLaws.{some-layers, layers-kept, layers-same, layers-found, layers-more}
 use Rattle.change.proofs.layers_for.Statement.{statement}
 use Rattle.change.proofs.layers_for.Tie as tie
 
 returns : tie.Need-returns
-returns c = let a = c .before .before .before .args in layers-kept (a .image .now) (a .o) _ (a .w) (was-false refl (c .if1 .taken))
+returns c = let a = c .before .before .before .args in layers-kept (a .image .now) (a .unit) _ (a .w) (was-false refl (c .if1 .taken))
 
 key-requires : tie.Need-key-requires
 key-requires c κs = some-layers (c .before .before .before .pre) .0
@@ -24,7 +24,7 @@ returns-2 c =
     let key = own .before in
     let other = key .before in
     let a = other .before .before .before .args in
-    layers-same (a .image .now) (a .o) _ (a .w) (was-true refl (other .if1 .left)) (key .key .ensures) (own .key2 .ensures) (c .if2 .taken)
+    layers-same (a .image .now) (a .unit) _ (a .w) (was-true refl (other .if1 .left)) (key .key .ensures) (own .key2 .ensures) (c .if2 .taken)
 
 find-unused-requires : tie.Need-find-unused-requires
 find-unused-requires c κs =
@@ -45,7 +45,7 @@ returns-3 c =
     let key = own .before in
     let other = key .before in
     let a = other .before .before .before .args in
-    layers-found (a .image .now) (a .o) _ (a .w) (was-true refl (other .if1 .left)) (key .key .ensures) (own .key2 .ensures) (differ .if2 .left) (found .find-unused .ensures .1) (c .enum-told .given .1)
+    layers-found (a .image .now) (a .unit) _ (a .w) (was-true refl (other .if1 .left)) (key .key .ensures) (own .key2 .ensures) (differ .if2 .left) (found .find-unused .ensures .1) (c .enum-told .given .1)
 
 returns-4 : tie.Need-returns-4
 returns-4 c =
@@ -56,7 +56,7 @@ returns-4 c =
     let key = own .before in
     let other = key .before in
     let a = other .before .before .before .args in
-    layers-more (a .image .now) (a .o) _ (a .w) (was-true refl (other .if1 .left)) (key .key .ensures) (own .key2 .ensures) (differ .if2 .left) (found .find-unused .ensures .1) (told .enum-told2 .given .1)
+    layers-more (a .image .now) (a .unit) _ (a .w) (was-true refl (other .if1 .left)) (key .key .ensures) (own .key2 .ensures) (differ .if2 .left) (found .find-unused .ensures .1) (told .enum-told2 .given .1)
 
 pub layers-for-spec : {M : Type 1} → statement M
 layers-for-spec =

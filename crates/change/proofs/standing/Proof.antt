@@ -1,14 +1,14 @@
 -- `change::standing` meets its contract. Assumes nothing.
 use mathlib.Core.Path.{refl}
 use borrow.Author.Needs.{needs}
-use Rattle.change.proofs.StandLaws.{total-fits, stands-as}
+use Rattle.change.proofs.StandLaws.{slices-fit, stands-as}
 use Rattle.change.proofs.standing.Statement.{statement}
 use Rattle.change.proofs.standing.Tie as tie
 
 slice-total-requires : tie.Need-slice-total-requires
 slice-total-requires c κs =
     let index = c .before in
-    total-fits (index .before .before .before .before .pre .can) (index .entry-word3 .ensures) (c .file-block .ensures .1)
+    slices-fit (index .before .before .before .before .pre .can) (index .entry-word3 .ensures) (c .file-block .ensures .1)
 
 returns : tie.Need-returns
 returns c =

@@ -8,7 +8,7 @@ room-requires : tie.Need-room-requires
 room-requires c κs =
     let empty = c .before .before in
     let start = empty .before .before .before in
-    record { unit = _; slices = _; asked = asked-of (start .pre .can .asked) (empty .empty-block .ensures) }
+    record { unit = _; own = _; slices = _; asked = asked-of (start .pre .can .asked) (empty .empty-block .ensures) }
 
 returns : tie.Need-returns
 returns c =

@@ -7,8 +7,8 @@ use Rattle.entries.proofs.named_legal.Tie as tie
 
 returns : tie.Need-returns
 returns c =
-    let same = c .before .before in
-    judged-sys (same .before .before .before .pre .2) (same .same-name .ensures) (same .before .before .before .args .expected) (same .before .sys-name .ensures) (c .before .if1 .taken) (c .is-entry .ensures)
+    let same = c .before .before .before in
+    judged-sys (same .before .before .before .pre .2) (same .same-name .ensures) (same .before .before .before .args .expected) (same .before .sys-name .ensures) (c .before .before .if1 .taken) (c .is-entry .ensures)
 
 returns-2 : tie.Need-returns-2
 returns-2 c =

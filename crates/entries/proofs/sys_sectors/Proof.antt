@@ -1,9 +1,10 @@
 -- `entries::sys_sectors` meets its contract. Assumes nothing.
-use mathlib.Core.Path.{_≡_, _∙_}
+use mathlib.Core.Path.{_≡_, ap, _∙_}
 use Prim.Native.Nat.{_*_}
 use native.Mathlib.Omega.{arith}
 use lib.ListN.{length}
 use borrow.Author.Needs.{needs}
+use Rattle.index.specs.Block.{sectorTotal}
 use Rattle.index.proofs.ReadLaws.{read-sectors}
 use Rattle.entries.specs.Sys.{sysSlices}
 use Rattle.entries.proofs.SysLaws.{sys-few, sys-small}
@@ -14,10 +15,11 @@ total : (c : tie.After-sector-total-at) → let a = c .before .before .args in c
 total c =
     let start = c .before .before in
     let a = start .args in
-    c .sector-total-at .ensures ∙ read-sectors (a .image .now) (a .g .first .0) (a .g .slice) 6 (sysSlices (a .image .now) (a .g)) (sys-few (start .pre)) (start .pre .index .pairs)
+    c .sector-total-at .ensures ∙ ap (sectorTotal (a .image .now)) (start .pre .1)
+    ∙ read-sectors (a .image .now) (a .g .first .0) (a .g .slice) 6 (sysSlices (a .image .now) (a .g)) (sys-few (start .pre .0)) (start .pre .0 .index .pairs)
 
 cast-result : tie.Need-cast-result
-cast-result c = let sys = c .before .before .pre in omega (arith, total c, sys-small sys, sys .unit .limits .sectors)
+cast-result c = let sys = c .before .before .pre .0 in omega (arith, total c, sys-small sys, sys .unit .limits .sectors)
 
 returns : tie.Need-returns
 returns c = total c

@@ -1,9 +1,5 @@
 -- `files::files_sound` meets its contract. Assumes nothing.
-use Prim.Native.Nat.{_*_}
-use native.Mathlib.Omega.{arith}
 use Rattle.state.proofs.ShapeLaws.{areas-length}
-use Rattle.entries.proofs.SysLaws.{sys-small}
-use Rattle.files.proofs.SysLaws.{known-sys}
 use Rattle.files.proofs.SoundLaws.{ordinary-known, files-marked}
 use borrow.Author.Tests.{not-true, not-false}
 use Rattle.disc.proofs.DecideLaws.{true≢false}
@@ -12,15 +8,9 @@ use borrow.Author.Needs.{needs}
 use Rattle.files.proofs.files_sound.Statement.{statement}
 use Rattle.files.proofs.files_sound.Tie as tie
 
-mul-stretches-sound : tie.Need-mul-stretches-sound
-mul-stretches-sound c =
-    let flat = c .before .before .before .before .before .before in
-    let known = flat .before .before .before .before .before .pre .0 in
-    omega (arith, known .room, sys-small (known-sys known), known .unit .limits .sectors)
-
 stretches-sound-requires : tie.Need-stretches-sound-requires
 stretches-sound-requires c κs =
-    let fill = c .before .before .before .before .before .before in
+    let fill = c .before .before .before .before .before in
     let upto = fill .before .before .before in
     let flat = upto .before .before in
     let pre = flat .before .before .before .before .before .pre in
@@ -29,21 +19,21 @@ stretches-sound-requires c κs =
 returns : tie.Need-returns
 returns c =
     let stretches = c .before .before .before in
-    let upto = stretches .before .before .before .before .before .before .before .before .before .before in
+    let upto = stretches .before .before .before .before .before .before .before .before .before in
     let flat = upto .before .before in
     let start = flat .before .before .before .before .before in
     let a = start .args in
-    let judged = files-marked (a .image .now) (a .state) (a .g) _ _ _ (areas-length (a .state) _ (start .good .1 .0)) (flat .flatten .ensures) (upto .open-upto .ensures) (16 * (a .g .keys * a .layers)) (start .pre .1) (stretches .stretches-sound .ensures) (start .pre .0 .marked) in
+    let judged = files-marked (a .image .now) (a .state) (a .g) _ _ _ (areas-length (a .state) _ (start .good .1 .0)) (flat .flatten .ensures) (upto .open-upto .ensures) (a .sys .layers) (start .pre .1) (stretches .stretches-sound .ensures) (start .pre .0 .known .marked) in
     (λ _. c .unmark-all .ensures, refuses (judged .not (not-true _ (c .before .before .if1 .taken))))
 
 returns-2 : tie.Need-returns-2
 returns-2 c =
     let stretches = c .before in
-    let upto = stretches .before .before .before .before .before .before .before .before .before .before in
+    let upto = stretches .before .before .before .before .before .before .before .before .before in
     let flat = upto .before .before in
     let start = flat .before .before .before .before .before in
     let a = start .args in
-    let judged = files-marked (a .image .now) (a .state) (a .g) _ _ _ (areas-length (a .state) _ (start .good .1 .0)) (flat .flatten .ensures) (upto .open-upto .ensures) (16 * (a .g .keys * a .layers)) (start .pre .1) (stretches .stretches-sound .ensures) (start .pre .0 .marked) in
+    let judged = files-marked (a .image .now) (a .state) (a .g) _ _ _ (areas-length (a .state) _ (start .good .1 .0)) (flat .flatten .ensures) (upto .open-upto .ensures) (a .sys .layers) (start .pre .1) (stretches .stretches-sound .ensures) (start .pre .0 .known .marked) in
     let y = judged .yes (not-false _ (c .if1 .left)) in
     (λ e. absurd (true≢false e), marks (y .0) (record { is = y .2; once = y .1 }))
 
@@ -54,7 +44,6 @@ files-sound-spec =
     (λ c κs. search needs)
     (λ c κs. search needs)
     (λ c κs. search needs)
-    mul-stretches-sound
     stretches-sound-requires
     (λ c κs. search needs)
     returns

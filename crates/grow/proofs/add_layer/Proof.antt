@@ -5,46 +5,49 @@ use Rattle.grow.proofs.GrowLaws.{layers-small, from-small, slice-low, h
 use Rattle.grow.proofs.add_layer.Statement.{statement}
 use Rattle.grow.proofs.add_layer.Tie as tie
 
-add-sys-more : tie.Need-add-sys-more
-add-sys-more c = omega (arith, layers-small (c .before .before .before .before .pre .can))
+add-slices-more : tie.Need-add-slices-more
+add-slices-more c = omega (arith, layers-small (c .before .before .before .before .pre .can))
 
-sys-more-requires : tie.Need-sys-more-requires
-sys-more-requires c κs =
+slices-more-requires : tie.Need-slices-more-requires
+slices-more-requires c κs =
     let can = c .before .before .before .before .pre .can in (omega (arith, slice-low can), had-small can (c .before .read-block .ensures))
 
 cast-more : tie.Need-cast-more
 cast-more c =
     let read = c .before .before in
     let can = read .before .before .before .pre .can in
-    omega (arith, more-is can (read .read-block .ensures) (c .sys-more .ensures), more-small can)
+    omega (arith, more-is can (read .read-block .ensures) (c .slices-more .ensures), more-small can)
 
 take-at-requires : tie.Need-take-at-requires
 take-at-requires c κs =
     let more = c .before in
     let read = more .before .before in
     let can = read .before .before .before .pre .can in
-    (index-inside can, can-lengthen can (read .read-block .ensures) (more-is can (read .read-block .ensures) (more .sys-more .ensures)))
+    (index-inside can, can-lengthen can (read .read-block .ensures) (more-is can (read .read-block .ensures) (more .slices-more .ensures)))
 
 mul-zero-sectors : tie.Need-mul-zero-sectors
 mul-zero-sectors c = omega (arith, from-small (c .before .before .before .before .before .before .before .before .before .before .before .pre .can))
 
+add-zero-sectors : tie.Need-add-zero-sectors
+add-zero-sectors c = omega (arith, from-small (c .before .before .before .before .before .before .before .before .before .before .before .before .pre .can))
+
 zero-sectors-requires : tie.Need-zero-sectors-requires
 zero-sectors-requires c κs =
-    let took = c .before .before .before .before in
+    let took = c .before .before .before .before .before in
     let more = took .before .before in
     let read = more .before .before in
     let can = read .before .before .before .pre .can in
-    can-zero can (read .read-block .ensures) (more-is can (read .read-block .ensures) (more .sys-more .ensures)) (took .take-at .ensures)
+    can-zero can (read .read-block .ensures) (more-is can (read .read-block .ensures) (more .slices-more .ensures)) (took .take-at .ensures)
 
 returns : tie.Need-returns
 returns c =
     let zeroed = c .before .before in
-    let took = zeroed .before .before .before .before .before in
+    let took = zeroed .before .before .before .before .before .before in
     let more = took .before .before in
     let read = more .before .before in
     record {
-      all = λ p can.
-          layer-added can (read .read-block .ensures) (more-is can (read .read-block .ensures) (more .sys-more .ensures)) (took .take-at .ensures) (zeroed .zero-sectors .ensures);
+      all = λ p own can.
+          layer-added can (read .read-block .ensures) (more-is can (read .read-block .ensures) (more .slices-more .ensures)) (took .take-at .ensures) (zeroed .zero-sectors .ensures);
     }
 
 pub add-layer-spec : {M : Type 1} → statement M
@@ -52,11 +55,12 @@ add-layer-spec =
     tie.close
     (tie.spec
     (λ c κs. search needs)
-    add-sys-more
-    sys-more-requires
+    add-slices-more
+    slices-more-requires
     cast-more
     take-at-requires
     mul-zero-sectors
+    add-zero-sectors
     zero-sectors-requires
     (λ c. search needs)
     returns)

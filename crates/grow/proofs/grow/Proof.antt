@@ -19,12 +19,12 @@ add-layers c = omega (arith, layers-small (c .before .before .before .before .be
 cast-reserved : tie.Need-cast-reserved
 cast-reserved c =
     let start = c .before .before .before .before .before .before .before .before .before .before .before .before .before in
-    omega (arith, c .sys-slices-for .ensures, slices-small (start .pre .can))
+    omega (arith, c .slices-for .ensures, slices-small (start .pre .can))
 
 mul-reserved : tie.Need-mul-reserved
 mul-reserved c =
     let start = c .before .before .before .before .before .before .before .before .before .before .before .before .before .before in
-    omega (arith, ap (λ (n : ℕ). start .args .o .slice * n) (c .before .sys-slices-for .ensures), reserved-small (start .pre .can))
+    omega (arith, ap (λ (n : ℕ). start .args .unit .slice * n) (c .before .slices-for .ensures), reserved-small (start .pre .can))
 
 mul-enter-sys : tie.Need-mul-enter-sys
 mul-enter-sys c =
@@ -47,7 +47,7 @@ count-free-requires c κs =
     let f = place .before .before in
     let start = f .before .before .before .before in
     can-count (start .pre .can) (f .before .sys-name .ensures .packed) (f .find-name .ensures) (place .place .given .1) (added .add-layer .ensures) (entered .enter-sys .ensures) refl
-    (ap (λ (n : ℕ). start .args .o .slice * n) (counted .sys-slices-for .ensures))
+    (ap (λ (n : ℕ). start .args .unit .slice * n) (counted .slices-for .ensures))
 
 returns-2 : tie.Need-returns-2
 returns-2 c =
@@ -61,7 +61,7 @@ returns-2 c =
     record {
       all = λ p can. (
         grown-from can (f .before .sys-name .ensures .packed) (f .find-name .ensures) (place .place .given .1) (added .add-layer .ensures) (entered .enter-sys .ensures) refl
-            (ap (λ (n : ℕ). start .args .o .slice * n) (counted .sys-slices-for .ensures)) (free .count-free .ensures),
+            (ap (λ (n : ℕ). start .args .unit .slice * n) (counted .slices-for .ensures)) (free .count-free .ensures),
         grown-numbers can _ (c .with-layers .ensures),
       );
     }

@@ -5,8 +5,8 @@ use Rattle.grow.proofs.RoomLaws.{room-slice, room-had, for-small, answe
 use Rattle.grow.proofs.room.Statement.{statement}
 use Rattle.grow.proofs.room.Tie as tie
 
-sys-more-requires : tie.Need-sys-more-requires
-sys-more-requires c κs =
+slices-more-requires : tie.Need-slices-more-requires
+slices-more-requires c κs =
     let asked = c .before .before .pre .asked in (omega (arith, room-slice asked), room-had asked (c .read-block .ensures))
 
 add-if1 : tie.Need-add-if1
@@ -14,7 +14,7 @@ add-if1 c =
     let more = c .before in
     let read = more .before in
     let s = read .before .before in
-    omega (arith, for-small (s .pre .asked) (read .read-block .ensures) (s .args .layers) (more .sys-more .ensures) (s .args .more) (omega arith))
+    omega (arith, for-small (s .pre .asked) (read .read-block .ensures) (s .args .layers) (more .slices-more .ensures) (s .args .more) (omega arith))
 
 returns : tie.Need-returns
 returns c =
@@ -23,8 +23,8 @@ returns c =
     let read = more .before in
     let a = read .before .before .args in
     record {
-      all = λ p slices asked.
-          answer-few asked (read .read-block .ensures) (a .layers) (more .sys-more .ensures) (a .more) (free .count-free .ensures) (c .if1 .taken);
+      all = λ p own slices asked.
+          answer-few asked (read .read-block .ensures) (a .layers) (more .slices-more .ensures) (a .more) (free .count-free .ensures) (c .if1 .taken);
     }
 
 fits-requires : tie.Need-fits-requires
@@ -35,7 +35,7 @@ fits-requires c κs =
     let s = read .before .before in
     let asked = s .pre .asked in
     let r = read .read-block .ensures in
-    let m = more .sys-more .ensures in
+    let m = more .slices-more .ensures in
     can-fit asked r (s .args .layers) m (s .args .more) (free-enough asked r (s .args .layers) m (s .args .more) (free .count-free .ensures) (omega (arith, c .if1 .left)))
 
 returns-2 : tie.Need-returns-2
@@ -46,9 +46,9 @@ returns-2 c =
     let read = more .before in
     let a = read .before .before .args in
     let r = read .read-block .ensures in
-    let m = more .sys-more .ensures in
+    let m = more .slices-more .ensures in
     record {
-      all = λ p slices asked lent files.
+      all = λ p own slices asked lent files.
           let enough = free-enough asked r (a .layers) m (a .more) (free .count-free .ensures) (omega (arith, fits .before .if1 .left)) in
           answer-no asked r (a .layers) m (a .more) enough (fits .fits2 .ensures) lent files (c .if2 .taken);
     }
@@ -61,9 +61,9 @@ returns-3 c =
     let read = more .before in
     let a = read .before .before .args in
     let r = read .read-block .ensures in
-    let m = more .sys-more .ensures in
+    let m = more .slices-more .ensures in
     record {
-      all = λ p slices asked lent files.
+      all = λ p own slices asked lent files.
           let enough = free-enough asked r (a .layers) m (a .more) (free .count-free .ensures) (omega (arith, fits .before .if1 .left)) in
           answer-yes asked r (a .layers) m (a .more) enough (fits .fits2 .ensures) lent files (c .if2 .left);
     }
@@ -73,7 +73,7 @@ room-spec =
     tie.close
     (tie.spec
     (λ c κs. search needs)
-    sys-more-requires
+    slices-more-requires
     (λ c κs. search needs)
     (λ c. search needs)
     add-if1

@@ -14,7 +14,7 @@ returns-2 c = rw (c .refused2 .ensures) (describes-short _ _ _ _ (c .before .bef
 store-description-requires : tie.Need-store-description-requires
 store-description-requires c κs =
     let start = c .before .before .before .before .before in
-    (known-low (start .pre .opened .unit) _ (start .pre .meant), c .before .if2 .left)
+    (known-low (start .pre .standing .unit) _ (start .pre .meant), c .before .if2 .left)
 
 returns-3 : tie.Need-returns-3
 returns-3 c =

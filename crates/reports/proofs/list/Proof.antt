@@ -6,10 +6,10 @@ use Rattle.reports.proofs.list.Statement.{statement}
 use Rattle.reports.proofs.list.Tie as tie
 
 mul-blocks : tie.Need-mul-blocks
-mul-blocks c = omega (arith, can-read (c .before .before .before .before .pre .meant .opened) .few)
+mul-blocks c = omega (arith, can-read (c .before .before .before .before .pre .meant .standing) .few)
 
 count-entries-requires : tie.Need-count-entries-requires
-count-entries-requires c κs = can-read (c .before .before .before .before .pre .meant .opened)
+count-entries-requires c κs = can-read (c .before .before .before .before .pre .meant .standing)
 
 returns : tie.Need-returns
 returns c =
@@ -19,7 +19,7 @@ returns c =
 note-entries-requires : tie.Need-note-entries-requires
 note-entries-requires c κs =
     let count = c .before .before in
-    (can-read (count .before .before .before .before .before .pre .meant .opened), omega (arith, c .before .if1 .left, count .count-entries .ensures .words))
+    (can-read (count .before .before .before .before .before .pre .meant .standing), omega (arith, c .before .if1 .left, count .count-entries .ensures .words))
 
 by-name-requires : tie.Need-by-name-requires
 by-name-requires c κs =
@@ -27,7 +27,7 @@ by-name-requires c κs =
     let left = noted .before .before in
     let count = left .before in
     let start = count .before .before .before .before .before in
-    lists-can _ (count .count-entries .ensures) (left .if1 .left) (noted .note-entries .ensures) (omega arith) (start .pre .meant .opened)
+    lists-can _ (count .count-entries .ensures) (left .if1 .left) (noted .note-entries .ensures) (omega arith) (start .pre .meant .standing)
 
 returns-2 : tie.Need-returns-2
 returns-2 c =

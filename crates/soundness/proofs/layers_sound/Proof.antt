@@ -29,8 +29,9 @@ files-sound-requires : tie.Need-files-sound-requires
 files-sound-requires c κs =
     let else1 = c .before .before .before in
     let names = else1 .before in
-    let known = names .before .before .pre .0 in
-    (known, names-known known (grants _ (names .names-sound .ensures) (else1 .if1 .left)))
+    let pre = names .before .before .pre in
+    let known = pre .0 in
+    (record { known = known; is = pre .1 }, names-known known (grants _ (names .names-sound .ensures) (else1 .if1 .left)))
 
 returns-3 : tie.Need-returns-3
 returns-3 c = files-refused (c .before .files-sound .ensures .1) (c .if3 .taken)

@@ -6,7 +6,7 @@ use Rattle.catalog.specs.Catalog.{placeNamed}
 use Rattle.catalog.specs.declared.Catalog.{Catalog}
 use Rattle.catalog.proofs.ValueLaws.{is-value}
 use Rattle.plain.specs.Unit.{Plain}
-use Rattle.unit.specs.Opened.{NumbersOf}
+use Rattle.unit.specs.Unit.{NumbersOf}
 use Rattle.disc.specs.Names.{pack}
 use Rattle.unit.proofs.FindLaws.{some-key, unitSys, name-found, zero-found}
 use Rattle.unit.proofs.find_name.Statement.{statement}
@@ -23,7 +23,7 @@ returns-2 c =
     let a = c .before .before .before .before .args in
     let n = pack (a .name .0) (a .name .1) (a .name .2) in
     let nz : n ≢ 0 = λ z. c .before .if1 .left (c .before .before .packed .ensures ∙ z) in
-    let at : (p : Plain) → NumbersOf (a .o) p → c .find .result ≡ placeNamed (a .image .now) (unitSys p) n =
+    let at : (p : Plain) → NumbersOf (a .unit) p → c .find .result ≡ placeNamed (a .image .now) (unitSys p) n =
     λ p num. c .find .ensures .place ∙ ap (λ (v : Catalog). placeNamed (a .image .now) v n) (is-value (num .catalog)) in
     record { all = λ p on num. name-found on n nz (at p num) }
 

@@ -6,7 +6,7 @@ use Rattle.catalog.specs.Catalog.{placeUnused}
 use Rattle.catalog.specs.declared.Catalog.{Catalog}
 use Rattle.catalog.proofs.ValueLaws.{is-value}
 use Rattle.plain.specs.Unit.{Plain}
-use Rattle.unit.specs.Opened.{NumbersOf}
+use Rattle.unit.specs.Unit.{NumbersOf}
 use Rattle.unit.proofs.FindLaws.{unitSys}
 use Rattle.unit.proofs.UnusedLaws.{unused-found}
 use Rattle.unit.proofs.find_unused.Statement.{statement}
@@ -17,7 +17,7 @@ returns c =
     let start = c .before .before in
     let a = start .args in
     let e = c .first-unused .ensures .place in
-    let at : (p : Plain) → NumbersOf (a .o) p → c .first-unused .result ≡ placeUnused (a .image .now) (unitSys p) (a .key) =
+    let at : (p : Plain) → NumbersOf (a .unit) p → c .first-unused .result ≡ placeUnused (a .image .now) (unitSys p) (a .key) =
     λ p num. e ∙ ap (λ (v : Catalog). placeUnused (a .image .now) v (a .key)) (is-value (num .catalog)) in
     (e, record { all = λ p on num. unused-found on (a .key) (omega (arith, start .pre .1, num .catalog .keys)) (at p num) })
 

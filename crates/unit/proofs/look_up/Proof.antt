@@ -1,14 +1,14 @@
 -- `unit::look_up` meets its contract. Assumes nothing.
 use native.Mathlib.Omega.{arith}
 use borrow.Author.Needs.{needs}
-use Rattle.unit.proofs.OpenLaws.{searchable}
+use Rattle.unit.proofs.UnitLaws.{searchable}
 use Rattle.unit.proofs.FindLaws.{name-room}
 use Rattle.unit.proofs.LookUpLaws.{looks-none, looks-short, looks-done}
 use Rattle.unit.proofs.look_up.Statement.{statement}
 use Rattle.unit.proofs.look_up.Tie as tie
 
 find-name-requires : tie.Need-find-name-requires
-find-name-requires c κs = searchable (c .before .before .before .pre .opened)
+find-name-requires c κs = searchable (c .before .before .before .pre .standing)
 
 returns : tie.Need-returns
 returns c =
@@ -25,7 +25,7 @@ read-entry-requires : tie.Need-read-entry-requires
 read-entry-requires c κs =
     let place = c .before .before .before in
     let f = place .before .before in
-    (omega (arith, c .before .if1 .left), name-room (searchable (f .before .before .before .before .pre .opened)) (f .find-name .ensures) (place .place .given .1))
+    (omega (arith, c .before .if1 .left), name-room (searchable (f .before .before .before .before .pre .standing)) (f .find-name .ensures) (place .place .given .1))
 
 returns-3 : tie.Need-returns-3
 returns-3 c =

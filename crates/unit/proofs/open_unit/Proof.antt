@@ -1,7 +1,7 @@
 -- `unit::open_unit` meets its contract. Assumes nothing.
 use mathlib.Core.Path.{refl}
 use borrow.Author.Needs.{needs}
-use Rattle.unit.proofs.OpenLaws.{sys-of, numbers-of}
+use Rattle.unit.proofs.UnitLaws.{sys-of, numbers-of}
 use Rattle.unit.proofs.open_unit.Statement.{statement}
 use Rattle.unit.proofs.open_unit.Tie as tie
 

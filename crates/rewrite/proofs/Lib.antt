@@ -1,3 +1,0 @@
-pub mod EntryLaws
-pub mod MoveLaws
-pub mod RewriteLaws

@@ -1,2 +1,0 @@
-pub mod Move
-pub mod Rewrite
