@@ -17,7 +17,7 @@ use Rattle.sound.specs.Places.{Unused}
 use Rattle.catalog.specs.declared.Catalog.{Catalog}
 use Rattle.catalog.specs.declared.Place.{Place}
 use Rattle.catalog.specs.declared.Found.the-variants.{At, Nothing}
-use Rattle.catalog.specs.Catalog.{keySector, placeStart, slotWord, entryWord, slotNamed, slotUnused, placeNamed, placeUnused}
+use Rattle.catalog.specs.Catalog.{keySector, slotWord, entryWord, slotNamed, slotUnused, placeNamed, placeUnused}
 use Rattle.catalog.proofs.SearchLaws.{FirstPlace, NoPlace, place-first, no-place, name-decides, unused-decides}
 
 -- ---- numbers of places
@@ -125,9 +125,6 @@ pub record LiesIn (image : List ℕ) (c : Catalog) (F s : ℕ) (slices : List �
 -- the words of a found place are those of its number
 module _ (image : List ℕ) (F s : ℕ) (slices : List ℕ) (from : ℕ) {Q : ℕ → Type 0} {H L k : ℕ} {p : Place}
     (f : FirstWith Q (blockSector F s slices from) H L k p) where
-  pub found-start : placeStart p ≡ blockSector F s slices from (f .place / 16) * 256 + f .place % 16 * 16
-  found-start = rw (f .sector, f .slot)
-
   pub found-word : (w : ℕ) → entryWord image p w ≡ placeWord image F s slices from (f .place) w
   found-word w = rw (f .sector, f .slot)
 

@@ -47,7 +47,7 @@ module _ {image : List ℕ} {o : Unit} {now : Standing} {p : Plain} {n : ℕ} {f
   grown-is : PlaceIs (grownUnit p) (sysOf (grownUnit p)) (s .at .number) (now .place)
   grown-is =
       let gr = ground p (s .on .good) in
-      let same = grown-sector gr (s .on .layout) (layerSlices p) (s .at .number / 16 + sysFrom) (place-in (sys-ground gr) (s .at .number) (s .at .is .inside)) in
+      let same = grown-sector (p .F) (p .s) (p .sys) (layerSlices p) (s .at .number / 16 + sysFrom) (place-in (sys-ground gr) (s .at .number) (s .at .is .inside)) in
       record { inside = omega (arith, s .at .is .inside); sector = s .at .is .sector ∙ sym same; slot = s .at .is .slot }
 
   grown-at : NameAt after (grownUnit p) n (now .place)

@@ -1,5 +1,5 @@
 -- The writes of Change on a unit: what each asks for, and that they leave the image of the file after it.
-use mathlib.Core.Path.{_≡_, refl, sym, ap, ap₂, _∙_, subst}
+use mathlib.Core.Path.{_≡_, refl, ap, ap₂, _∙_, subst}
 use mathlib.Core.Bool.{Bool, true, false, cond}
 use mathlib.Core.List.{List}
 use mathlib.Core.Logic.{_≢_}
@@ -7,7 +7,7 @@ use Prim.Native.Nat.{ℕ, _+_, _*_, _%_, _≤_, _<_}
 use native.Mathlib.Omega.{arith}
 use native.Mathlib.Nat.{mod-lt, mul-le-mul-left}
 use lib.ListN.{length, take, drop}
-use lib.Seq.{take-all, length-take-le}
+use lib.Seq.{take-all}
 use Rattle.disc.specs.Numbers.{bit}
 use Rattle.disc.specs.Words.{Words}
 use Rattle.disc.specs.Names.{pack, keyOf}
@@ -31,7 +31,7 @@ use Rattle.plain.proofs.KeepsCatalog.{removed-good}
 use Rattle.plain.proofs.ChangeUnit.{Changes, changes-size}
 use Rattle.plain.proofs.QuestionLaws.{cond-law}
 use Rattle.refine.specs.Writes.{countedFree, storePlace, emptyPlace, resizedImage, changedImage, renamedImage}
-use Rattle.refine.proofs.Ground.{Ground, ground, top, entry-length}
+use Rattle.refine.proofs.Ground.{Ground, ground, top}
 use Rattle.refine.proofs.Writers.{long}
 use Rattle.steps.proofs.WriteLaws.{zeroed-size}
 use Rattle.steps.proofs.ResizeLaws.{resliced-size}
@@ -62,10 +62,6 @@ use Rattle.change.proofs.MoveLaws.{stored-place}
 cond-part : (P : List ℕ → List ℕ) (b : Bool) (x y u v : List ℕ) → P x ≡ u → P y ≡ v → P (cond b x y) ≡ cond b u v
 cond-part P true x y u v d e = d
 cond-part P false x y u v d e = e
-
-cond-length : (b : Bool) (x y : List ℕ) (k : ℕ) → length x ≡ k → length y ≡ k → length (cond b x y) ≡ k
-cond-length true x y k d e = d
-cond-length false x y k d e = e
 
 module _ {image : List ℕ} {o : Unit} {now : Standing} {w : Wanted} {lent : List ℕ} {p : Plain} {n m : ℕ} {f : File} (can : CanRewriteFrom image o now w lent p n m f) where
   abbrev s₀ : StandsAs image o now p n f
@@ -113,11 +109,6 @@ module _ {image : List ℕ} {o : Unit} {now : Standing} {w : Wanted} {lent : Lis
     source-is =
         told ∙ ap₂ (λ (b : Bool) (l : List ℕ). cond b l (take 16 lent)) (ap permanent (s₀ .attributes))
         (entry-at (on-catalog (s₀ .on)) (s₀ .at) ∙ file-entry (s₀ .on .good) (s₀ .at) f (s₀ .file))
-
-    pub source-length : length source ≡ 16
-    source-length =
-        let e : length old ≡ 16 = ap length (sym (file-entry (s₀ .on .good) (s₀ .at) f (s₀ .file))) ∙ entry-length p (s₀ .on .good) n (s₀ .at .words) (s₀ .at .entered) in
-        ap length source-is ∙ cond-length (permanent (f .attributes)) old (take 16 lent) 16 e (length-take-le 16 lent (can .lentSize))
 
     source-optional : take 3 (drop 3 source) ≡ cond (permanent (f .attributes)) (f .optional) (optionalIn lent)
     source-optional =

@@ -18,7 +18,7 @@ use Rattle.plain.specs.Taking.{layersFor, placesTaken}
 use Rattle.plain.specs.Catalog.{optionalIn, attributesIn, sizeIn, tailIn, isRecord, newFile, stepCreate, stepSet}
 use Rattle.plain.specs.Good.{Good, WordsOf}
 use Rattle.plain.proofs.QuestionLaws.{asks-law}
-use Rattle.plain.proofs.UnitLaws.{entry-none, ordinary-files}
+use Rattle.plain.proofs.UnitLaws.{entry-none}
 use Rattle.plain.proofs.WordLaws.{wordsOf-zeros, optional-words, tail-words}
 use Rattle.plain.proofs.TakingLaws.{layers-grow}
 use Rattle.plain.proofs.GrowUnit.{grown-good}
@@ -28,7 +28,7 @@ use Rattle.refine.specs.Represents.{SameAreas, Represents}
 use Rattle.refine.specs.OnDisc.{OnDisc}
 use Rattle.refine.specs.Replies.{Replies, refused, written}
 use Rattle.refine.specs.Writes.{createdImage, grownSys}
-use Rattle.refine.proofs.PlaceCount.{unused-room}
+use Rattle.refine.proofs.PlaceCount.{sys-entries, unused-room}
 use Rattle.steps.proofs.NewFileStep.{new-file-stays, new-file-grows}
 use Rattle.steps.proofs.AreaSteps.{grow-areas, create-areas}
 use Rattle.steps.proofs.Whole.{on-disc, represents}
@@ -72,7 +72,7 @@ module _ {image : List ℕ} {p : Plain} (on : OnDisc image p) (n size attributes
   -- the key has no unused place
   full : 16 * p .layers ≤ placesTaken (p .H) (keyOf (p .H) n) (sysOf p) (p .files)
       → (t : ℕ) → t < placeCount (p .H) (p .layers) → t / 16 % p .H ≡ keyOf (p .H) n → Unused (unitPlaces image p) t → ⊥
-  full h t x k u = let r = unused-room p (on .good .catalog .names) (ordinary-files (on .good)) (on .layout .sys .places) (keyOf (p .H) n) t x k u in omega arith
+  full h t x k u = let r = unused-room (sys-entries (on .good)) (on .layout .sys .places) (keyOf (p .H) n) t x k u in omega arith
 
   pub created-on : {after : List ℕ} → WordsOf 3 optional → WordsOf 6 tail → Created p image n size attributes optional tail after q → OnDisc after q
   created-on three six (stays c e) =

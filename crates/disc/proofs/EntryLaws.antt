@@ -1,12 +1,10 @@
 -- The words of an entry, by number.
-use mathlib.Core.Path.{_≡_, refl, ap, sym, _∙_}
-use mathlib.Core.List.{List, [], _∷_, _++_}
-use Prim.Native.Nat.{ℕ, zero, suc, _+_, _*_, _-_, _≤_, _<_}
+use mathlib.Core.Path.{_≡_, refl}
+use mathlib.Core.List.{List, [], _∷_}
+use Prim.Native.Nat.{ℕ, _-_, _≤_, _<_}
 use native.Mathlib.Omega.{arith}
 use native.Mathlib.Nat.{zero-div, zero-mod}
 use lib.ListN.{length, getD, length-append}
-use Rattle.disc.specs.Numbers.{sliceStart}
-use Rattle.disc.specs.Slices.{firstOf}
 use Rattle.disc.specs.Stretches.{sectorIn}
 use Rattle.disc.specs.Entries.{entryWords, indexSector}
 

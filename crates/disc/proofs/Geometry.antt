@@ -6,8 +6,8 @@ use Prim.Native.Nat.{ℕ, zero, suc, _+_, _*_, _-_, _/_, _%_, _≤_, _<_, compar
 use native.Mathlib.Omega.{arith}
 use native.Mathlib.Nat.{div-add-mod', mod-lt, div-lt-iff-lt-mul, mul-le-mul-right}
 use lib.ListN.{length, getD}
-use Rattle.disc.specs.Numbers.{need, ceilDiv, sliceStart}
-use Rattle.disc.specs.Slices.{InRangeOnce, inUnit, occurrences}
+use Rattle.disc.specs.Numbers.{need, ceilDiv}
+use Rattle.disc.specs.Slices.{InRangeOnce, occurrences}
 use Rattle.disc.specs.Stretches.{sectorIn}
 use Rattle.disc.proofs.Compare.{Tri, less, same, more, tri}
 use Rattle.disc.proofs.SliceLaws.{inUnit-le, inUnit-out, occurrences-self}

@@ -1,12 +1,11 @@
 -- An index block's words determine its slice list.
 use mathlib.Core.Path.{_≡_, refl, sym, ap, ap₂, _∙_}
 use mathlib.Core.List.{List, [], _∷_}
-use Prim.Native.Nat.{ℕ, zero, suc, _+_, _*_, _-_, _/_, _≤_, _<_, compare, Ordering, Ordering·lt, Ordering·eq, Ordering·gt}
+use Prim.Native.Nat.{ℕ, suc, _+_, _*_, _-_, _/_, _≤_, _<_, compare, Ordering, Ordering·lt, Ordering·eq, Ordering·gt}
 use native.Mathlib.Omega.{arith}
 use native.Mathlib.Nat.{mul-div-cancel-left, mul-div-left}
 use lib.ListN.{length, getD}
 use lib.Seq.{ext-getD}
-use Rattle.disc.specs.Numbers.{sliceStart}
 use Rattle.disc.specs.Words.{Holds}
 use Rattle.disc.specs.Stretches.{Stretch, joinBy, join, stretches, stretchCount, pairs, indexWords, expand}
 use Rattle.disc.proofs.StretchLaws.{expand-stretches}

@@ -30,9 +30,6 @@ pack-words n = omega arith
 pub pack-injective : (a b c d e f : ℕ) → b < 65536 → c < 65536 → e < 65536 → f < 65536 → pack a b c ≡ pack d e f → (a ≡ d) × (b ≡ e) × (c ≡ f)
 pack-injective a b c d e f p q r s g = omega arith
 
-pub pack-small : (a b c : ℕ) → a < 65536 → b < 65536 → c < 65536 → pack a b c < 0x1000000000000
-pack-small a b c p q r = omega arith
-
 -- the key is that of the words' sum
 pub key-pack : (a b c H : ℕ) → b < 65536 → c < 65536 → keyOf H (pack a b c) ≡ (a + b + c) % 65536 % H
 key-pack a b c H p q = ap (λ (n : ℕ). n % 65536 % H) (omega arith)

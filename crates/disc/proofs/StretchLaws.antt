@@ -4,7 +4,7 @@ use mathlib.Core.List.{List, [], _∷_}
 use Prim.Native.Nat.{ℕ, suc, _≤_, compare, Ordering, Ordering·lt, Ordering·eq, Ordering·gt}
 use native.Mathlib.Omega.{arith}
 use lib.ListN.{length}
-use Rattle.disc.specs.Stretches.{Stretch, joinBy, join, stretches, stretchCount, span, expand}
+use Rattle.disc.specs.Stretches.{Stretch, joinBy, join, stretches, stretchCount, expand}
 use Rattle.disc.proofs.Compare.{Tri, less, same, more, tri}
 
 pub expand-stretches : (l : List ℕ) → expand (stretches l) ≡ l

@@ -1,11 +1,11 @@
 -- The sectors that an index block describes, walked pair by pair: where the sectors of each pair lie among the joined ones,
 -- and how many there are in all.
 use mathlib.Core.Path.{_≡_, refl, sym, ap, _∙_}
-use mathlib.Core.List.{List, [], _∷_, _++_}
-use Prim.Native.Nat.{ℕ, zero, suc, _+_, _*_, _-_, _/_, _≤_, _<_}
+use mathlib.Core.List.{List, _++_}
+use Prim.Native.Nat.{ℕ, zero, suc, _+_, _*_, _-_, _≤_, _<_}
 use native.Mathlib.Omega.{arith}
 use native.Mathlib.Nat.{add-zero, zero-add, mul-add, mul-comm}
-use lib.ListN.{length, getD, length-append}
+use lib.ListN.{length, length-append}
 use Rattle.disc.specs.Words.{word, Holds}
 use Rattle.disc.specs.Slices.{InRangeOnce}
 use Rattle.disc.specs.Stretches.{Stretch, stretches, stretchCount, indexWords, span, expand, slicesAt, sectorIn}

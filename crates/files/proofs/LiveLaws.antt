@@ -15,9 +15,9 @@ use Rattle.types.specs.declared.Area.{Area}
 use Rattle.types.specs.declared.State.{State}
 use Rattle.types.specs.State.{pastArea}
 use Rattle.disc.proofs.Compare.{same-or}
-use Rattle.sound.specs.State.{areaName, firstOpen, openArea, liveIndex, liveLength}
+use Rattle.sound.specs.State.{areaName, firstOpen, openArea, liveIndex}
 use Rattle.files.specs.declared.Live.{Live}
-use Rattle.files.specs.Live.{closedFile, liveOf, indexBy, lengthBy, liveFrom, liveIn, openName, FlatOf, OpenUpto}
+use Rattle.files.specs.Live.{closedFile, liveOf, indexBy, liveFrom, liveIn, openName, FlatOf, OpenUpto}
 
 module _ (names indexes lengths : List ℕ) (name : ℕ) where
   abbrev From : ℕ → ℕ → Live
@@ -130,10 +130,6 @@ module _ (names indexes lengths : List ℕ) (name : ℕ) (named : name ≡ 0 →
 pub index-of : (o : Option Area) (booked : ℕ) → indexBy (liveOf o) booked ≡ liveIndex o booked
 index-of none booked = refl
 index-of (some a) booked = refl
-
-pub length-of : (o : Option Area) (booked : ℕ) → lengthBy (liveOf o) booked ≡ liveLength o booked
-length-of none booked = refl
-length-of (some a) booked = refl
 
 -- ---- lists that are filled
 

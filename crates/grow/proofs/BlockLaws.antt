@@ -20,7 +20,6 @@ use Rattle.refine.specs.Writes.{countedFree}
 use Rattle.refine.proofs.Ground.{ground, sys-ground, part-sectors}
 use Rattle.catalog.specs.declared.Unit.{Unit}
 use Rattle.unit.specs.Unit.{NumbersOf}
-use Rattle.unit.proofs.UnitLaws.{on-catalog, sys-once}
 use Rattle.slices.specs.FileBlock.{FileBlock}
 use Rattle.slices.proofs.BlockLaws.{unit-file}
 use Rattle.grow.specs.Catalog.{CatalogIn}

@@ -35,7 +35,7 @@ use Rattle.steps.proofs.WriteLaws.{zeroed-size}
 use Rattle.steps.proofs.GrowStep.{grow-on}
 use Rattle.steps.specs.Units.{layerOf, layerSlices, grownUnit}
 use Rattle.unit.specs.Unit.{NumbersWith}
-use Rattle.unit.specs.Unit.{NumbersOf, Searchable}
+use Rattle.unit.specs.Unit.{NumbersOf}
 use Rattle.unit.specs.Find.{NameAt, FindsName}
 use Rattle.unit.proofs.UnitLaws.{on-catalog}
 use Rattle.unit.proofs.FindLaws.{place-room}
@@ -190,9 +190,6 @@ module _ {image : List ℕ} {o : Unit} {p : Plain} {c : Catalog} (can : CanGrowF
 -- ---- SYS's place
 
 module _ {image : List ℕ} {o : Unit} {p : Plain} (can : CanGrowFrom image o p (sysOf p)) where
-  pub searchable : Searchable image o
-  searchable = record { unit = p; on = on-catalog (on can); numbers = num can }
-
   module _ {n : ℕ} {found : Found} (is : n ≡ SYS) (finds : FindsName image o n found) where
     -- SYS is entered
     pub never-nothing : found ≡ Nothing → ⊥

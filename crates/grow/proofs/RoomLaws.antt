@@ -14,7 +14,6 @@ use Rattle.disc.specs.Stretches.{stretchCount}
 use Rattle.disc.specs.Map.{onesInMap}
 use Rattle.disc.specs.Catalog.{Catalog, slicesFor}
 use Rattle.disc.proofs.NumberLaws.{ceilDiv-le}
-use Rattle.disc.proofs.SliceLaws.{sum-law}
 use Rattle.disc.proofs.Compare.{below-or}
 use Rattle.disc.proofs.DecideLaws.{refutes, grants}
 use Rattle.map.proofs.CountLaws.{ones-free}
@@ -27,7 +26,6 @@ use Rattle.plain.specs.Taking.{Taking, taking, enough}
 use Rattle.plain.proofs.QuestionLaws.{asks-law, asks-yes, asks-no}
 use Rattle.refine.specs.OnDisc.{OnDisc}
 use Rattle.unit.specs.Unit.{NumbersWith}
-use Rattle.unit.specs.Unit.{NumbersOf}
 use Rattle.slices.specs.declared.Growth.{Growth}
 use Rattle.slices.specs.FileBlock.{FileBlock}
 use Rattle.slices.specs.Fit.{CanFitFrom, CanFit, Fits}
@@ -95,9 +93,6 @@ module _ {image : List ℕ} {o : Unit} {block : List ℕ} {p : Plain} {c : Catal
   pub room-slice : 2 ≤ o .slice
   room-slice = omega (arith, num .slice, on .good .limits .slice-low)
 
-  pub room-long : 2560 ≤ length image
-  room-long = catalog-file (asked .catalog) refl .long
-
   asked-file : FileBlock image block (p .F) (p .s) (M p) slices
   asked-file =
       unit-file image block slices (on .good .limits) (on .layout .size) (asked .words) (asked .few)
@@ -105,9 +100,6 @@ module _ {image : List ℕ} {o : Unit} {block : List ℕ} {p : Plain} {c : Catal
 
   pub free-is : onesInMap image ≡ freeSlices p
   free-is = ones-free (M p) (held p) image (on .good .limits .slices-high) (on .layout .map) (on .words)
-
-  pub free-small : freeSlices p ≤ 4096
-  free-small = omega (arith, sum-law (M p) (held p) (on .good .once), on .good .limits .slices-high)
 
   module _ {index : List ℕ} (at-index : index ≡ blockAt image (o .catalog .index .0)) where
     read : index ≡ blockAt image (c .index)

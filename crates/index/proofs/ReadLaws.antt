@@ -3,15 +3,15 @@ use mathlib.Core.Path.{_≡_, refl, sym, ap, ap₂, _∙_}
 use mathlib.Core.Bool.{true, false}
 use mathlib.Core.List.{List, [], _∷_, _++_}
 use mathlib.Core.Logic.{_≢_}
-use Prim.Native.Nat.{ℕ, suc, _+_, _-_, _*_, _/_, _%_, _≤_, _<_, compare, Ordering, Ordering·lt, Ordering·eq, Ordering·gt}
+use Prim.Native.Nat.{ℕ, suc, _+_, _-_, _*_, _/_, _%_, _≤_, _<_}
 use native.Mathlib.Omega.{arith}
 use native.Mathlib.Nat.{add-zero, min-eq-left, mul-add, mod-eq-of-lt, mul-div-cancel-left, mul-mod-right, mul-le-mul-left}
 use lib.ListN.{length, getD, length-append}
 use borrow.Author.Tests.{lt-ltb, le-ltb, eq-eqb, ne-eqb}
 use Rattle.disc.specs.Numbers.{sliceStart}
 use Rattle.disc.specs.Words.{word, Holds}
-use Rattle.disc.specs.Slices.{firstOf, lastOf}
-use Rattle.disc.specs.Stretches.{Stretch, joinBy, join, stretches, stretchCount, pairs, indexWords, expand, sectorIn}
+use Rattle.disc.specs.Slices.{lastOf}
+use Rattle.disc.specs.Stretches.{Stretch, stretches, stretchCount, pairs, indexWords, expand, sectorIn}
 use Rattle.disc.specs.Pairs.{pairLength, pairStart}
 use Rattle.disc.proofs.Compare.{below-or, same-or}
 use Rattle.disc.proofs.NumberLaws.{slice-of-start}
@@ -22,7 +22,7 @@ use Rattle.disc.proofs.SectorLaws.{ends-before, before-ends, sector-span, secto
 use Rattle.disc.proofs.IndexUnique as unique
 use Rattle.disc.proofs.IndexUnique.{Firsts, firsts}
 use Rattle.disc.proofs.IndexLaws.{Described, none, more, described}
-use Rattle.index.specs.Block.{whole, wholeIndex, pairCount, pairsFrom, blockAt, sectorsFrom, sectorTotal, sliceTotal, firstSliceOf, firstSlice, lastSliceOf, lastSlice, sectorFrom, jointSector, sliceNumber, joinsLast, joins, stretchesWith}
+use Rattle.index.specs.Block.{whole, wholeIndex, pairCount, pairsFrom, blockAt, sectorsFrom, sectorTotal, sliceTotal, lastSliceOf, lastSlice, sectorFrom, jointSector, sliceNumber, joinsLast, joins, stretchesWith}
 
 -- ---- pairs that describe stretches
 
@@ -62,29 +62,6 @@ module _ (w : List ℕ) (F s q : ℕ) where
   described-last (t ∷ front) r j (more x y d) = let e : j + suc (length front) ≡ suc j + length front = omega arith in rw e (described-last front r (suc j) d)
 
 -- ---- first and last stretches
-
-firstIn : List Stretch → ℕ
-firstIn [] = 0
-firstIn (r ∷ rs) = r .first
-
-first-stretch : (l : List ℕ) → firstIn (stretches l) ≡ firstOf l
-unfolding firstIn
-first-stretch [] = refl
-first-stretch (x ∷ l) = go (stretches l)
-  where
-    by : (o : Ordering) (r : Stretch) (rs : List Stretch) → firstIn (joinBy o x r rs) ≡ x
-    by Ordering·lt r rs = refl
-    by Ordering·eq r rs = refl
-    by Ordering·gt r rs = refl
-
-    go : (rs : List Stretch) → firstIn (join x rs) ≡ x
-    go [] = refl
-    go (r ∷ rs) = by (compare (suc x) (r .first)) r rs
-
-described-first : (w : List ℕ) (F s q : ℕ) {rs : List Stretch} → 1 ≤ s → Firsts rs → Described w F s q 0 rs → firstSliceOf F s w q (length rs) ≡ firstIn rs
-unfolding firstIn firstSliceOf
-described-first w F s q pos a none = refl
-described-first w F s q pos (unique.next p a) (more {r = r} x y d) = ap (λ (n : ℕ). (n - F) / s + 1) y ∙ slice-of-start F s (r .first) pos p
 
 first-final : (front : List Stretch) (r : Stretch) → Firsts (front ++ (r ∷ [])) → 1 ≤ r .first
 first-final [] r (unique.next p a) = p
@@ -144,9 +121,6 @@ module _ (w : List ℕ) (F s q : ℕ) (l : List ℕ) (few : stretchCount l ≤ 1
           let e : sectorIn F s l (s * j) ≡ sliceStart F s (getD l j 0) = ap₂ (λ (a b : ℕ). sliceStart F s (getD l a 0) + b) d r ∙ z in
           ap (λ (n : ℕ). (n - F) / s + 1) (read-sector (s * j) (omega (arith, mul-le-mul-left s x)) (rw e fits) ∙ e)
           ∙ slice-of-start F s (getD l j 0) pos (above j x)
-
-      pub read-first : firstSlice F s w q ≡ firstOf l
-      read-first = ap (firstSliceOf F s w q) read-count ∙ described-first w F s q pos (firsts l above) all ∙ first-stretch l
 
       last-pair : 1 ≤ length l → LastPair w F s q l
       last-pair some = go (stretches l) refl

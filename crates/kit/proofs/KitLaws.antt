@@ -6,7 +6,7 @@ use Prim.Native.Nat.{ℕ, zero, suc, _*_, _/_, _%_, _≤_, _<_}
 use native.Mathlib.Nat.{div-add-mod'}
 use native.Mathlib.Omega.{arith}
 use lib.ListN.{length, getD}
-use Rattle.disc.specs.Numbers.{ceilDiv, sliceCount}
+use Rattle.disc.specs.Numbers.{ceilDiv}
 use Rattle.disc.specs.Words.{word, Holds}
 use Rattle.disc.specs.Kit.{kitSector, mapIndexSector}
 use Rattle.disc.specs.Map.{onesInMap}
@@ -57,9 +57,6 @@ module _ {image : List ℕ} {g : Geometry} {H s F N : ℕ} (is : GeometryOf imag
 
   pub sectors-are : g .sectors ≡ N
   sectors-are = is .sectors ∙ kit .kit .sectors
-
-  pub slices-are : g .slices ≡ sliceCount s F N
-  slices-are = rw (← slice-is, ← first-is, ← sectors-are) (is .slices)
 
   pub sound-unit : UnitOf image g
   sound-unit = record {

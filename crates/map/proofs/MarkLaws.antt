@@ -15,7 +15,7 @@ use Rattle.disc.specs.Slices.{occurrences, inUnit, InRangeOnce}
 use Rattle.disc.specs.Map.{mapBit, MapOf}
 use Rattle.disc.proofs.Compare.{same-or}
 use Rattle.disc.proofs.SliceLaws.{inUnit-le, inUnit-in, inUnit-out, occurrences-self, occurrences-other, occurrences-append}
-use Rattle.map.specs.Marks.{marked, allMarked, markedUsed, allUsed, allFree}
+use Rattle.map.specs.Marks.{marked, allMarked, allUsed, allFree}
 use Rattle.map.proofs.Digits.{digit, withDigit, with-same, with-other, with-lt}
 
 pub mapBit-le : (image : List ℕ) (k : ℕ) → mapBit image k ≤ 1
@@ -101,10 +101,6 @@ all-marked-append v (x ∷ l) t image = all-marked-append v l t (marked v image 
 pub all-marked-one : (v : ℕ) (image : List ℕ) (k : ℕ) → allMarked v image (k ∷ []) ≡ marked v image k
 unfolding allMarked
 all-marked-one v image k = refl
-
--- the turn of a loop that marks one slice after the other
-pub all-marked-more : (v : ℕ) (l image : List ℕ) (k : ℕ) → allMarked v image (l ++ (k ∷ [])) ≡ marked v (allMarked v image l) k
-all-marked-more v l image k = all-marked-append v l (k ∷ []) image ∙ all-marked-one v (allMarked v image l) k
 
 module _ (v : ℕ) (bit : v ≤ 1) where
   long-next : (x : ℕ) (image : List ℕ) → 2560 ≤ length image → 2560 ≤ length (marked v image x)
@@ -192,16 +188,6 @@ map-taken m l held image few long is once k a b =
       all-used-bits l image (λ j. omega (arith, once j, occurrences-append j l held, in-larger m j few)) long
           (λ j p q. omega (arith, once j, occurrences-append j l held, is j p q)) k a,
     )
-
--- taking one slice that is free
-pub map-taken-one : (m k : ℕ) (held image : List ℕ) → m ≤ 4096 → 2560 ≤ length image → MapOf image m held → occurrences k held ≡ 0
-    → inUnit m k ≡ 1 → MapOf (markedUsed image k) m (k ∷ held)
-map-taken-one m k held image few long is free inside j a b =
-    let r = inUnit-out m k (omega arith) in
-    let high : k ≤ 4096 = omega (arith, r .1) in
-    same-or j k
-    (λ e. rw e (omega (arith, marked-same 0 (omega arith) image k (r .0) high long, occurrences-self k held)))
-    (λ d. omega (arith, marked-other 0 (omega arith) image k (r .0) high long j a d, occurrences-other j k held d, is j a b))
 
 -- giving back: the held slices are l and the rest, by their counts
 pub map-freed : (m : ℕ) (l rest held image : List ℕ) → m ≤ 4096 → 2560 ≤ length image → MapOf image m held → InRangeOnce m held

@@ -1,13 +1,10 @@
 -- Laws of `NameIs`: at most one name is a number's, and its words are the number's words.
 use mathlib.Core.Path.{_≡_, sym, _∙_}
-use Prim.Native.Nat.{ℕ, _/_, _%_}
+use Prim.Native.Nat.{ℕ}
 use native.Mathlib.Omega.{arith}
 use Rattle.types.specs.declared.Name.{Name}
 use Rattle.disc.proofs.NameLaws.{pack-injective}
 use Rattle.names.specs.NameIs.{NameIs}
-
-pub nameIs-words : {name : Name} {n : ℕ} → NameIs name n → (name .0 ≡ n / 0x100000000) × (name .1 ≡ n / 65536 % 65536) × (name .2 ≡ n % 65536)
-nameIs-words k = omega arith
 
 pub nameIs-unique : {a b : Name} {n : ℕ} → NameIs a n → NameIs b n → (a .0 ≡ b .0) × (a .1 ≡ b .1) × (a .2 ≡ b .2)
 nameIs-unique {a} {b} j k =

@@ -1,7 +1,7 @@
 -- The law of the reciprocal: a product with it, divided by 65,536, is the quotient of a number that the divisor divides.
 use mathlib.Core.Path.{_≡_, ap, _∙_}
 use Prim.Native.Nat.{ℕ, _+_, _-_, _*_, _/_, _≤_, _<_}
-use native.Mathlib.Nat.{add-mul, mul-add, mul-assoc, mul-comm, mul-le-mul, mul-le-mul-left, div-add-mod', mod-lt, div-lt-iff-lt-mul}
+use native.Mathlib.Nat.{mul-add, mul-assoc, mul-comm, mul-le-mul, mul-le-mul-left, div-add-mod', mod-lt}
 use native.Mathlib.Omega.{arith}
 
 -- s times its reciprocal is 65,536 and e more, with e at most s; so c slices' sectors times it are c times 65,536 and c times e more,

@@ -16,7 +16,7 @@ use Rattle.catalog.specs.declared.Unit.{Unit}
 use Rattle.plain.specs.Table.{Table}
 use Rattle.plain.specs.Unit.{Plain, File, AreaUser, M, held, freeSlices}
 use Rattle.plain.specs.Transput.{slicesToTake}
-use Rattle.plain.proofs.KeepsTransput.{append-few, append-good}
+use Rattle.plain.proofs.KeepsTransput.{append-few}
 use Rattle.refine.specs.Writes.{countedFree, takenImage, extendedImage}
 use Rattle.refine.proofs.Ground.{ground, part-file}
 use Rattle.steps.proofs.OutputStep.{extended-counts}
@@ -24,7 +24,7 @@ use Rattle.steps.proofs.OutputUnit.{Appends}
 use Rattle.steps.proofs.OutputMessage.{appends-extends, appends-room, appends-few}
 use Rattle.slices.specs.FileBlock.{FileBlock}
 use Rattle.slices.specs.Take.{CanLengthenFrom, CanLengthen, Lengthened}
-use Rattle.slices.proofs.BlockLaws.{sector-told, index-told}
+use Rattle.slices.proofs.BlockLaws.{index-told}
 use Rattle.slices.proofs.StoreLaws.{length-taken-image, longer-file}
 use Rattle.steps.specs.Units.{appendSlices}
 use Rattle.output.specs.Output.{roomWord, outputWord, CanExtendFrom}

@@ -18,7 +18,6 @@ use Rattle.catalog.specs.declared.Unit.{Unit}
 use Rattle.plain.specs.Table.{tableFind}
 use Rattle.plain.specs.Unit.{Plain, File, M, held, freeSlices}
 use Rattle.plain.specs.Transput.{oneIf, slicesToTake}
-use Rattle.plain.proofs.UnitLaws.{entry-of}
 use Rattle.refine.specs.OnDisc.{OnDisc}
 use Rattle.refine.proofs.Ground.{ground, part-file}
 use Rattle.slices.specs.declared.Next.{Next}

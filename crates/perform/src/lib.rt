@@ -6,6 +6,7 @@ ghost use Rattle.perform.specs.Perform.{performed, CanObey, Obeys, Perfo
 use areas::AreaDone;
 use catalog::Unit;
 use sharing::AreaReply;
+use soundness::Judged;
 use types::Answer;
 use types::Block;
 use types::Message;
@@ -111,9 +112,8 @@ pub fn perform(image: &mut [u16], state: State, message: Message, lent: &mut [u1
     if !known::known(state, message) {
         return word_alone(known::unknown_word(message), state);
     }
-    if !soundness::sound(image, state) {
+    let Judged::Sound(unit) = soundness::judge(image, state) else {
         return word_alone(known::unsound_word(message), state);
-    }
-    let unit = unit::open_unit(image);
+    };
     obey(image, unit, state, message, lent)
 }

@@ -5,7 +5,7 @@ use mathlib.Core.Bool.{Bool, true, false, not, _&&_, _||_, cond}
 use mathlib.Core.List.{List, _++_}
 use mathlib.Core.Logic.{_≢_}
 use mathlib.Core.Option.{none, some}
-use Prim.Native.Nat.{ℕ, suc, _+_, _*_, _-_, _≤_, _<_}
+use Prim.Native.Nat.{ℕ, _+_, _*_, _-_, _≤_, _<_}
 use native.Mathlib.Omega.{arith}
 use lib.Dec.{T, leb, eqb, leb→le, eqb→eq}
 use lib.ListN.{length, take}
@@ -24,11 +24,12 @@ use Rattle.plain.specs.Questions.{done}
 use Rattle.plain.specs.Taking.{Taking, taking, layersFor, placesTaken}
 use Rattle.plain.specs.Catalog.{isRecord, slicesAfter, resized, changed, changeFile}
 use Rattle.plain.specs.Good.{Good, WordsOf}
-use Rattle.plain.proofs.TableLaws.{weightAt, find-remove-other, sorted-remove, total-put, total-remove, remove-some}
+use Rattle.plain.proofs.TableLaws.{weightAt, find-remove-other, total-put, total-remove}
 use Rattle.plain.proofs.QuestionLaws.{asks-yes, cond-law, or-case, not-some}
 use Rattle.plain.proofs.UnitLaws.{holds, occurrences-held, vacant-name, no-area, area-name}
 use Rattle.plain.proofs.WordLaws.{optional-words, tail-words, length-resized, resized-words}
-use Rattle.plain.proofs.TakingLaws.{layers-up, layers-stay, layers-grow, layers-fit, places-remove, places-same, chains-put}
+use Rattle.plain.proofs.TakingLaws.{layers-up, layers-fit, places-same, chains-put}
+use Rattle.plain.proofs.CatalogLaws.{catalog-removed}
 use Rattle.plain.proofs.GrowUnit.{sysExtra, grownTo, not-grown, taken-grown, free-grown, grown-good}
 use Rattle.plain.proofs.CreateUnit.{booked-good, placed-good}
 
@@ -65,7 +66,7 @@ module _ {p : Plain} {f f′ : File} {size count : ℕ} (c : Changes p f f′ si
       → Good (withFiles p (tablePut m f′ (tableRemove n (p .files))))
   changed-good g n m found shut shutₘ legal ordinary chains =
       let others : Table File = tableRemove n (p .files) in
-      placed-good p m f′ others g shutₘ (sorted-remove 0 n (p .files) (g .catalog .names)) (λ k a h. g .catalog .files k a (remove-some k n 0 (p .files) a (g .catalog .names) h .1))
+      placed-good p m f′ others g shutₘ (catalog-removed (g .catalog) n)
       (λ k users h. find-remove-other k n 0 (p .files) (g .catalog .names) (area-name p n shut k users h))
       chains
       (λ k. omega (
@@ -197,15 +198,8 @@ module _ (p : Plain) (n m size attributes : ℕ) (f : File) (lent : List ℕ) wh
   pub moved-vacant : m ≢ n → ChangeAsked → entry p m ≡ none
   moved-vacant d a = or-case (eqb m n) (not (isSome (entry p m))) (λ q. absurd (d (eqb→eq m n q))) (λ q. not-some (entry p m) q) (a .vacant)
 
-  -- the key has a place already, or is full
-  pub moved-stays : Good p → m ≢ n → placesTaken (p .H) (keyOf (p .H) m) (sysOf p) (tableRemove n (p .files)) < 16 * p .layers → changeGrown ≡ p
-  moved-stays g d h = ap (grownTo p) (moved-layers d ∙ layers-stay (p .H) (sysOf p) m (tableRemove n (p .files)) h) ∙ not-grown p g
-
-  pub moved-grows : m ≢ n → 16 * p .layers ≤ placesTaken (p .H) (keyOf (p .H) m) (sysOf p) (tableRemove n (p .files)) → changeGrown ≡ grownTo p (suc (p .layers))
-  moved-grows d h = ap (grownTo p) (moved-layers d ∙ layers-grow (p .H) (sysOf p) m (tableRemove n (p .files)) h)
-
   chains-without : Good p → (k : ℕ) → placesTaken (p .H) k (sysOf p) (tableRemove n (p .files)) ≤ 16 * p .layers
-  chains-without g k = omega (arith, g .catalog .chains k, places-remove (p .H) k (sysOf p) n (p .files))
+  chains-without g = catalog-removed (g .catalog) n .chains
 
   -- afterwards it has one
   pub moved-fits : Good p → m ≢ n → placesTaken (p .H) (keyOf (p .H) m) (sysOf p) (tableRemove n (p .files)) < 16 * changeLayers

@@ -15,18 +15,19 @@ use Rattle.disc.specs.Slices.{occurrences, InRangeOnce, taken}
 use Rattle.disc.specs.Stretches.{stretchCount}
 use Rattle.disc.specs.Catalog.{Catalog, isReserved}
 use Rattle.disc.proofs.SliceLaws.{occurrences-append, taken-law, length-taken}
-use Rattle.plain.specs.Table.{Table, tableFind, tablePut, SortedFrom, isSome, Every}
+use Rattle.plain.specs.Table.{Table, tableFind, tablePut, isSome}
 use Rattle.plain.specs.Unit.{Plain, File, AreaUser, M, held, slicesOf, freeSlices, entry, withTables, withFiles, sysOf}
 use Rattle.plain.specs.Questions.{done}
 use Rattle.plain.specs.Taking.{placesTaken, layersFor, zeroSectors}
 use Rattle.plain.specs.Catalog.{newFile}
-use Rattle.plain.specs.Good.{Good, GoodFile, WordsOf}
-use Rattle.plain.proofs.TableLaws.{weightAt, find-put-other, sorted-put, total-put, every-put}
+use Rattle.plain.specs.Good.{Good, GoodCatalog, GoodFile, WordsOf}
+use Rattle.plain.proofs.TableLaws.{weightAt, find-put-other, total-put}
 use Rattle.plain.proofs.QuestionLaws.{asks-yes, not-some}
 use Rattle.plain.proofs.AttributeLaws.{given-legal}
-use Rattle.plain.proofs.UnitLaws.{legal-positive, vacant-name, no-area, holds, occurrences-held, area-name}
+use Rattle.plain.proofs.UnitLaws.{vacant-name, no-area, holds, occurrences-held, area-name}
 use Rattle.plain.proofs.WordLaws.{length-zeroSectors, zeroSectors-words}
 use Rattle.plain.proofs.TakingLaws.{chains-put}
+use Rattle.plain.proofs.CatalogLaws.{catalog-placed}
 use Rattle.plain.proofs.GrowUnit.{sysExtra, sysTaken, grownTo, not-grown, taken-grown, entry-grown, free-grown}
 use Rattle.plain.proofs.KeepsAreas.{area-beside}
 
@@ -54,22 +55,15 @@ booked-good c s areas n f legal ordinary attributes only optional tail sectors s
 }
 
 -- the unit in which the name n, which has no area, has the file f, beside the files `others`
-pub placed-good : (p : Plain) (n : ℕ) (f : File) (others : Table File) (g : Good p) → tableFind n (p .areas) ≡ none → SortedFrom 0 others
-    → Every (GoodFile (sysOf p) (p .s) (p .areas)) others
+pub placed-good : (p : Plain) (n : ℕ) (f : File) (others : Table File) (g : Good p) → tableFind n (p .areas) ≡ none
+    → GoodCatalog (p .H) (p .s) (sysOf p) (p .areas) others
     → ((k : ℕ) (users : Table AreaUser) → tableFind k (p .areas) ≡ some users → tableFind k others ≡ tableFind k (p .files))
     → ((k : ℕ) → placesTaken (p .H) k (sysOf p) (tablePut n f others) ≤ 16 * p .layers)
     → InRangeOnce (M p) (p .sys ++ slicesOf (tablePut n f others))
     → GoodFile (sysOf p) (p .s) (p .areas) n f → Good (withFiles p (tablePut n f others))
-placed-good p n f others g shut sorted files same chains once good = record {
+placed-good p n f others g shut beside same chains once good = record {
   limits = g .limits;
-  catalog = record {
-    layered = g .catalog .layered;
-    count = g .catalog .count;
-    few = g .catalog .few;
-    names = sorted-put 0 n f others (legal-positive n (good .name)) sorted;
-    chains = chains;
-    files = every-put (GoodFile (sysOf p) (p .s) (p .areas)) n f others files good;
-  };
+  catalog = catalog-placed beside n f chains good;
   sysFirst = g .sysFirst;
   once = once;
   areaNames = g .areaNames;
@@ -123,7 +117,7 @@ module _ {p : Plain} {n : ℕ} {f : File} (g : Good p) (new : NewFile p n f) whe
 
   pub created-good : placesTaken (p .H) (keyOf (p .H) n) (sysOf p) (p .files) < 16 * p .layers → Good (withFiles p (tablePut n f (p .files)))
   created-good places =
-      placed-good p n f (p .files) g (no-area p n g none-there) (g .catalog .names) (g .catalog .files) (λ k users h. refl) (chains-put (p .H) (sysOf p) (p .layers) n f (p .files) (g .catalog .chains) places)
+      placed-good p n f (p .files) g (no-area p n g none-there) (g .catalog) (λ k users h. refl) (chains-put (p .H) (sysOf p) (p .layers) n f (p .files) (g .catalog .chains) places)
       (λ k. omega (
         arith,
         held-more k,

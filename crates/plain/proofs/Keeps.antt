@@ -1,6 +1,5 @@
 -- Every call and every list of calls keeps `Good`; the free and the held slices add up.
 use mathlib.Core.List.{List, [], _∷_}
-use lib.ListN.{length}
 use Prim.Native.Nat.{ℕ}
 use Rattle.types.specs.declared.Message.{Message}
 use Rattle.types.specs.declared.Message.the-variants.{Init, Set, Create, LookUp, Change, Remove, CreateArea, RemoveArea, AreaMessage, UnitDescription, Listing}

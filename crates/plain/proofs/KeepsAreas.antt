@@ -12,41 +12,22 @@ use Rattle.types.specs.declared.Name.{Name}
 use Rattle.types.specs.declared.Role.the-variants.{Sharing}
 use Rattle.disc.specs.Slices.{occurrences, inUnit}
 use Rattle.disc.specs.Catalog.{Catalog}
-use Rattle.disc.proofs.Compare.{same-or}
-use Rattle.plain.specs.Table.{Row, Table, tableFind, tablePut, tableRemove, isSome, SortedFrom, Every}
+use Rattle.plain.specs.Table.{Table, tableFind, tablePut, tableRemove, isSome, SortedFrom, Every}
 use Rattle.plain.specs.Unit.{Plain, File, AreaUser, sysOf, M, held, slicesOf, withTables, withAreas}
 use Rattle.plain.specs.Questions.{Outcome}
 use Rattle.plain.specs.Areas.{stepCreateArea, stepRemoveArea, stepReserve, stepRelease, stepPosition, positioned, bookLive, isExclusive, isWriter, isUser, other, opened, opensOf, released, atPosition, moved}
 use Rattle.plain.specs.Good.{Good, GoodFile, GoodArea, GoodUser, GoodRoles}
-use Rattle.plain.proofs.TableLaws.{some≢none, some-inj, find-put, find-put-other, find-remove-other, find-above, sorted-put, sorted-remove, total-put, weightAt, every-put, remove-some, none-put, length-put-new, length-put-old, length-remove}
+use Rattle.plain.proofs.TableLaws.{some≢none, some-inj, find-put-other, find-remove-other, find-above, sorted-put, sorted-remove, total-put, weightAt, every-put, remove-some, none-put, length-put-new, length-put-old, length-remove}
 use Rattle.plain.proofs.QuestionLaws.{asks-law, given-law}
-use Rattle.plain.proofs.UnitLaws.{legal-positive, entry-file, holds, occurrences-held}
-use Rattle.plain.proofs.TakingLaws.{places-again}
+use Rattle.plain.proofs.UnitLaws.{entry-file, holds, occurrences-held}
+use Rattle.plain.proofs.CatalogLaws.{catalog-beside, catalog-changed}
 use Rattle.plain.proofs.RoleLaws.{users-found, users-length, roles-remove, roles-same, roles-raised}
 
 -- The unit after a call is good.
 abbrev pub Keeps : Outcome → Type 0
 Keeps o = Good (o .unit)
 
--- ---- files and areas beside others
-
--- a file beside other areas, where none that is open is closed
-pub file-beside : {c : Catalog} {s : ℕ} {old new : Table (Table AreaUser)} {n : ℕ} {f : File} → GoodFile c s old n f → (tableFind n new ≡ none → tableFind n old ≡ none) → GoodFile c s new n f
-file-beside g h = record {
-  name = g .name;
-  ordinary = g .ordinary;
-  attributes = g .attributes;
-  entryOnly = g .entryOnly;
-  optional = g .optional;
-  tail = g .tail;
-  sectors = g .sectors;
-  covered = g .covered;
-  few = g .few;
-  bookedLow = g .bookedLow;
-  bookedSlicesLow = g .bookedSlicesLow;
-  bookedCovered = g .bookedCovered;
-  closed = λ e. g .closed (h e);
-}
+-- ---- an area beside other files
 
 -- an area beside other files, where its own is no shorter
 pub area-beside : {old new : Table File} {n : ℕ} {users : Table AreaUser} (a : GoodArea old n users) (f : File) → tableFind n new ≡ some f → length (a .file .sectors) ≤ length (f .sectors)
@@ -83,29 +64,13 @@ pub file-put-good : (p : Plain) (n : ℕ) (f new : File) (areas : Table (Table A
     → Good (withTables p (p .layers) (p .sys) (tablePut n new (p .files)) areas)
 file-put-good p n f new areas g h good room others sorted eight each = record {
   limits = g .limits;
-  catalog = record {
-    layered = g .catalog .layered;
-    count = g .catalog .count;
-    few = g .catalog .few;
-    names = sorted-put 0 n new (p .files) (legal-positive n (good .name)) (g .catalog .names);
-    chains = λ k. omega (arith, g .catalog .chains k, places-again (p .H) k (sysOf p) n f new (p .files) h);
-    files = λ k a e. same-or k n (own k a e) (beside k a e);
-  };
+  catalog = catalog-changed (g .catalog) n f new areas h good others;
   sysFirst = g .sysFirst;
   once = λ k. omega (arith, room k, occurrences-put p n f new k h);
   areaNames = sorted;
   eight = eight;
   areas = each;
 }
-  where
-    own : (k : ℕ) (a : File) → tableFind k (tablePut n new (p .files)) ≡ some a → k ≡ n → GoodFile (sysOf p) (p .s) areas k a
-    own k a e q =
-        let e₂ : tableFind n (tablePut n new (p .files)) ≡ some a = rw q at e in
-        let z : new ≡ a = some-inj (sym (find-put n new (p .files)) ∙ e₂) in
-        rw (q, ← z) good
-
-    beside : (k : ℕ) (a : File) → tableFind k (tablePut n new (p .files)) ≡ some a → k ≢ n → GoodFile (sysOf p) (p .s) areas k a
-    beside k a e d = file-beside (g .catalog .files k a (sym (find-put-other k n new (p .files) d) ∙ e)) (λ z. sym (others k d) ∙ z)
 
 -- ---- the users of one area
 
@@ -114,14 +79,7 @@ pub area-put-good : (p : Plain) (n : ℕ) (users : Table AreaUser) → Good p �
     → Good (withAreas p (tablePut n users (p .areas)))
 area-put-good p n users g positive a le = record {
   limits = g .limits;
-  catalog = record {
-    layered = g .catalog .layered;
-    count = g .catalog .count;
-    few = g .catalog .few;
-    names = g .catalog .names;
-    chains = g .catalog .chains;
-    files = λ k f h. file-beside (g .catalog .files k f h) (λ e. none-put k n users (p .areas) e .1);
-  };
+  catalog = catalog-beside (g .catalog) (tablePut n users (p .areas)) (λ k e. none-put k n users (p .areas) e .1);
   sysFirst = g .sysFirst;
   once = g .once;
   areaNames = sorted-put 0 n users (p .areas) positive (g .areaNames);

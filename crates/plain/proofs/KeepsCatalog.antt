@@ -13,10 +13,11 @@ use Rattle.plain.specs.Unit.{Plain, File, withFiles, sysOf}
 use Rattle.plain.specs.Taking.{layersFor}
 use Rattle.plain.specs.Catalog.{stepInit, newFile, stepCreate, stepSet, stepLookUp, stepRemove, changeFile, stepChange, isRecord}
 use Rattle.plain.specs.Good.{Good, WordsOf}
-use Rattle.plain.proofs.TableLaws.{find-remove-other, sorted-remove, total-remove, remove-some}
+use Rattle.plain.proofs.TableLaws.{find-remove-other, total-remove}
 use Rattle.plain.proofs.QuestionLaws.{asks-law, given-law, not-some}
 use Rattle.plain.proofs.UnitLaws.{holds, occurrences-held, area-name}
-use Rattle.plain.proofs.TakingLaws.{layers-up, layers-fit, places-remove}
+use Rattle.plain.proofs.TakingLaws.{layers-up, layers-fit}
+use Rattle.plain.proofs.CatalogLaws.{catalog-removed}
 use Rattle.plain.proofs.WordLaws.{wordsOf-zeros, optional-words, tail-words}
 use Rattle.plain.proofs.GrowUnit.{grown-good}
 use Rattle.plain.proofs.CreateUnit.{created-good, Yes, sys-room, sys-few, unit-grown, new-grown}
@@ -36,14 +37,7 @@ look-up-keeps p name lent g = asks-law Keeps _ g λ _. given-law Keeps _ g λ _ 
 pub removed-good : (p : Plain) (n : ℕ) → Good p → tableFind n (p .areas) ≡ none → Good (withFiles p (tableRemove n (p .files)))
 removed-good p n g e = record {
   limits = g .limits;
-  catalog = record {
-    layered = g .catalog .layered;
-    count = g .catalog .count;
-    few = g .catalog .few;
-    names = sorted-remove 0 n (p .files) (g .catalog .names);
-    chains = λ k. omega (arith, g .catalog .chains k, places-remove (p .H) k (sysOf p) n (p .files));
-    files = λ k f h. g .catalog .files k f (remove-some k n 0 (p .files) f (g .catalog .names) h .1);
-  };
+  catalog = catalog-removed (g .catalog) n;
   sysFirst = g .sysFirst;
   once = λ k.
       omega (arith, g .once k, occurrences-held k (p .sys) (p .files), occurrences-held k (p .sys) (tableRemove n (p .files)), total-remove (holds k) n (p .files));

@@ -2,11 +2,11 @@ pub mod TableLaws
 pub mod QuestionLaws
 pub mod AttributeLaws
 pub mod UnitLaws
-pub mod CatalogLaws
 pub mod WordLaws
 pub mod RoleLaws
 pub mod TransputLaws
 pub mod TakingLaws
+pub mod CatalogLaws
 pub mod GrowUnit
 pub mod KeepsAreas
 pub mod CreateUnit

@@ -4,7 +4,7 @@ use mathlib.Core.List.{List, [], _∷_, _++_}
 use Prim.Native.Nat.{ℕ, zero, suc, _+_, _-_, _≤_, _<_}
 use native.Mathlib.Omega.{arith}
 use lib.ListN.{length, getD, take, drop, set, replicate, length-append, length-take, length-drop, length-set, length-replicate, getD-replicate, List·getD-append}
-use lib.Seq.{getD-take, getD-drop, getD-append-add, getD-set-same, getD-set-other, length-take-le}
+use lib.Seq.{getD-take, getD-append-add, getD-set-same, getD-set-other, length-take-le}
 use Rattle.disc.specs.Words.{Words}
 use Rattle.disc.proofs.WordLaws.{words-take, words-drop, words-replicate}
 use Rattle.disc.proofs.Compare.{same-or, below-or}
@@ -19,9 +19,6 @@ EachOf P d l = (k : ℕ) → k < length l → P (getD l k d)
 module _ {A : Type 0} (P : A → Type 0) (d : A) where
   pub each-take : (n : ℕ) (l : List A) → EachOf P d l → EachOf P d (take n l)
   each-take n l ok k h = rw (getD-take n l k d (omega (arith, length-take n l))) (ok k (omega (arith, length-take n l)))
-
-  pub each-drop : (n : ℕ) (l : List A) → EachOf P d l → EachOf P d (drop n l)
-  each-drop n l ok k h = rw (getD-drop n l k d) (ok (n + k) (omega (arith, length-drop n l)))
 
   pub each-append : (l m : List A) → EachOf P d l → EachOf P d m → EachOf P d (l ++ m)
   each-append l m p q k h = below-or k (length l) first second

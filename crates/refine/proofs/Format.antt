@@ -1,6 +1,6 @@
 -- Format makes a good unit, and the image that it writes represents it, whatever stood in the image before.
 use mathlib.Core.Path.{_≡_, refl, sym, ap, _∙_}
-use mathlib.Core.Bool.{Bool, true, false}
+use mathlib.Core.Bool.{true}
 use mathlib.Core.List.{List, [], _∷_, append-nil}
 use mathlib.Core.Logic.{_≢_, inl}
 use mathlib.Core.Option.{Option, none, some}

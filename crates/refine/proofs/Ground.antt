@@ -18,13 +18,14 @@ use Rattle.disc.specs.Entries.{indexSector}
 use Rattle.disc.proofs.Compare.{below-or}
 use Rattle.disc.specs.Catalog.{Catalog, placesOf}
 use Rattle.disc.proofs.SliceLaws.{occurrences-append, sum-law}
-use Rattle.disc.proofs.Geometry.{quot, in-range, data-sector, apart, within, need-cover, ceil-cover}
+use Rattle.disc.proofs.Geometry.{quot, in-range, data-sector, apart, within, need-cover}
 use Rattle.disc.proofs.EntryLaws.{length-entry}
 use Rattle.disc.proofs.NameLaws.{pack-words}
 use Rattle.plain.specs.Table.{tableFind, SortedFrom, Every}
 use Rattle.plain.specs.Unit.{Plain, File, M, held, slicesOf, fileEntry, entry, sysOf}
 use Rattle.plain.specs.Good.{Good}
 use Rattle.plain.proofs.TableLaws.{find-below, total-one, total-two}
+use Rattle.plain.proofs.CatalogLaws.{catalog-cover}
 use Rattle.plain.proofs.UnitLaws.{holds, occurrences-held, mapSome, entry-other, entry-cases}
 use Rattle.refine.proofs.CatalogLaws.{Named, nameIn}
 
@@ -40,7 +41,7 @@ ground p g = record {
   limits = g .limits;
   once = g .once;
   names = g .catalog .names;
-  sysCover = ceil-cover (p .s) (p .H * p .layers) (length (p .sys)) (omega (arith, g .limits .slice-low)) (omega (arith, g .catalog .count));
+  sysCover = omega (arith, catalog-cover (g .catalog) (omega (arith, g .limits .slice-low)));
   cover = λ n f h. g .catalog .files n f h .covered;
 }
 
@@ -124,20 +125,26 @@ module _ (p : Plain) (g : Ground p) where
 
 -- ---- a catalog of the unit
 
--- its slices are the unit's and no file's, and hold its blocks
+-- its slices are the unit's and no file's, and hold its blocks, of which none is its index block
 pub record CatalogGround (p : Plain) (c : Catalog) : Type 0 where
   pub unit : Ground p
   pub part : (k : ℕ) → occurrences k (c .slices) ≤ occurrences k (held p)
   pub beside : (m : ℕ) (a : File) → tableFind m (p .files) ≡ some a → (k : ℕ) → occurrences k (a .slices) + occurrences k (c .slices) ≤ occurrences k (held p)
   pub cover : p .H * c .layers + c .from ≤ length (c .slices) * p .s
+  pub index : (b : ℕ) → c .from ≤ b → b / p .s < length (c .slices) → sectorIn (p .F) (p .s) (c .slices) b ≢ c .index
 
 pub sys-ground : {p : Plain} → Ground p → CatalogGround p (sysOf p)
 sys-ground {p} g = record {
   unit = g;
-  part = λ k. omega (arith, occurrences-append k (p .sys) (slicesOf (p .files)));
+  part = part-sys;
   beside = λ m a e k. omega (arith, occurrences-held k (p .sys) (p .files), total-one (holds k) m a (p .files) e);
   cover = omega (arith, g .sysCover);
+  index = λ b lo x e.
+      let r = data-sector (p .F) (p .s) (M p) (held p) (positive p g) (g .once) (p .sys) b part-sys x in omega (arith, r .0, g .limits .first, e);
 }
+  where
+    part-sys : (k : ℕ) → occurrences k (p .sys) ≤ occurrences k (held p)
+    part-sys k = omega (arith, occurrences-append k (p .sys) (slicesOf (p .files)))
 
 module _ {p : Plain} {c : Catalog} (g : CatalogGround p c) where
   abbrev sector : ℕ → ℕ

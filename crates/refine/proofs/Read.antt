@@ -11,7 +11,7 @@ use Rattle.disc.specs.Numbers.{need}
 use Rattle.disc.specs.Words.{Holds}
 use Rattle.disc.specs.Names.{isSystem}
 use Rattle.disc.specs.Slices.{occurrences, inUnit, InRangeOnce}
-use Rattle.disc.specs.Stretches.{indexWords, slicesAt, sectorIn, blockSector, fileFrom, sysFrom}
+use Rattle.disc.specs.Stretches.{indexWords, sectorIn, blockSector, fileFrom, sysFrom}
 use Rattle.disc.specs.Kit.{Kit, sysIndexSector}
 use Rattle.disc.specs.Map.{mapBit, onesInMap}
 use Rattle.disc.specs.Catalog.{Catalog, sysCatalog, placesOf, placesIn}

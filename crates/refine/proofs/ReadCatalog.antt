@@ -3,11 +3,11 @@ use mathlib.Core.Path.{_≡_, sym, ap, _∙_}
 use mathlib.Core.List.{List, []}
 use mathlib.Core.Logic.{_≢_, _⊎_, inl, inr, ⊎-elim}
 use mathlib.Core.Option.{Option, some}
-use Prim.Native.Nat.{ℕ, zero, suc, _*_, _/_, _%_, _≤_, _<_}
+use Prim.Native.Nat.{ℕ, zero, suc, _*_, _≤_, _<_}
 use native.Mathlib.Omega.{arith}
 use lib.Dec.{T, eqb, eqb→eq, not-T}
 use Rattle.types.specs.declared.State.{State}
-use Rattle.disc.specs.Names.{SYS, MAP, isSystem, keyOf}
+use Rattle.disc.specs.Names.{SYS, MAP, isSystem}
 use Rattle.disc.specs.Entries.{placeCount, nameAt, sysEntry, mapEntry}
 use Rattle.disc.specs.Catalog.{Catalog, sysCatalog, placesIn}
 use Rattle.disc.proofs.Compare.{same-or}
@@ -22,7 +22,7 @@ use Rattle.refine.specs.Represents.{PlaceOf, CatalogOf}
 use Rattle.refine.proofs.CatalogLaws.{name-of}
 use Rattle.refine.proofs.ReadFile.{readFile, shown, entry-shown}
 use Rattle.refine.proofs.ReadFiles.{sorted-files, filesBelow, used-name, file-there, file-find}
-use Rattle.refine.proofs.PlaceCount.{places-most}
+use Rattle.refine.proofs.PlaceCount.{entries-of, places-most}
 
 -- n words are all 0, or they are not
 all-zero : (n : ℕ) (f : ℕ → ℕ) → ((w : ℕ) → w < n → f w ≡ 0) ⊎ (((w : ℕ) → w < n → f w ≡ 0) → ⊥)
@@ -71,9 +71,6 @@ module _ (image : List ℕ) (state : State) (H s F : ℕ) (layers : ℕ) (sys : 
   only : (t u n : ℕ) → t < placeCount H layers → u < placeCount H layers → nameAt P t ≡ n → nameAt P u ≡ n → n ≢ 0 → t ≡ u
   only t u n x y a b nz = en .alone t u x y (used-name image state F s c t (λ z. nz (sym a ∙ z))) (used-name image state F s c u (λ z. nz (sym b ∙ z))) (a ∙ sym b)
 
-  key-at : (t n : ℕ) → t < placeCount H layers → nameAt P t ≡ n → n ≢ 0 → t / 16 % H ≡ keyOf H n
-  key-at t n x e nz = en .legal t x (used-name image state F s c t (λ z. nz (sym e ∙ z))) .key ∙ ap (keyOf H) e
-
   module _ (number N : ℕ) (areas : Table (Table AreaUser)) where
     abbrev E : ℕ → Option (List ℕ)
     E = entry (unit number N areas)
@@ -113,5 +110,5 @@ module _ (image : List ℕ) (state : State) (H s F : ℕ) (layers : ℕ) (sys : 
 
   pub read-chains : (k : ℕ) → placesTaken H k c files ≤ 16 * layers
   read-chains =
-      places-most (unit 0 0 []) (sorted-files image state F s c (placeCount H layers))
-      (λ n f e. let w = file-there image state F s c (placeCount H layers) n f e in not-T (isSystem n) (rw (w .name) at (w .ordinary))) (read-catalog 0 0 [])
+      places-most (entries-of (unit 0 0 []) (sorted-files image state F s c (placeCount H layers))
+      (λ n f e. let w = file-there image state F s c (placeCount H layers) n f e in not-T (isSystem n) (rw (w .name) at (w .ordinary)))) (read-catalog 0 0 [])

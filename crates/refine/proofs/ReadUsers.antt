@@ -12,16 +12,16 @@ use Rattle.types.specs.declared.User.{User}
 use Rattle.types.specs.declared.Area.{Area}
 use Rattle.types.specs.State.{vacantUser, userAt}
 use Rattle.disc.proofs.Compare.{same-or}
-use Rattle.plain.specs.Table.{Row, tableFind, tablePut, SortedFrom}
+use Rattle.plain.specs.Table.{Row, tableFind, tablePut}
 use Rattle.plain.specs.Unit.{AreaUser}
 use Rattle.plain.specs.Areas.{isExclusive, isWriter, isUser, usersOf}
 use Rattle.plain.specs.Good.{GoodRoles, GoodUser}
-use Rattle.plain.proofs.TableLaws.{some≢none, some-inj, find-put, find-put-other, sorted-put, total-put}
+use Rattle.plain.proofs.TableLaws.{some≢none, some-inj, find-put, find-put-other, total-put}
 use Rattle.plain.proofs.RoleLaws.{users-length, writer-le}
 use Rattle.plain.proofs.Collect.{sumBelow}
 use Rattle.sound.specs.State.{LegalUsers}
 use Rattle.refine.specs.Represents.{withUser, usersIn}
-use Rattle.refine.proofs.UserLaws.{plainUser, users-sorted}
+use Rattle.refine.proofs.UserLaws.{plainUser}
 use Rattle.refine.proofs.KeyPlaces.{sum-most, sum-front, sum-alone, sum-some}
 
 -- what is found is a taken entry

@@ -1,11 +1,11 @@
 -- The image by sectors: what two images share, and what a write leaves alone. The frame laws of all messages.
-use mathlib.Core.Path.{_≡_, refl, sym, ap, ap₂, _∙_}
+use mathlib.Core.Path.{_≡_, refl, ap₂, _∙_}
 use mathlib.Core.List.{List, [], _∷_, _++_}
 use mathlib.Core.Logic.{_≢_}
 use Prim.Native.Nat.{ℕ, zero, suc, _+_, _-_, _*_, _/_, _≤_, _<_}
 use native.Mathlib.Omega.{arith}
 use lib.Count.{ones}
-use lib.ListN.{length, getD}
+use lib.ListN.{length}
 use Rattle.disc.specs.Words.{word, Holds}
 use Rattle.disc.specs.Kit.{mapSector}
 use Rattle.disc.specs.Map.{mapBit, onesBelow, onesInMap}
@@ -45,15 +45,6 @@ notin-right q (x ∷ l) m h = notin-right q l m (h .1)
 pub record Outside (i j : List ℕ) (Q : List ℕ) : Type 0 where
   pub size : length j ≡ length i
   pub same : (q : ℕ) → NotIn q Q → Same i j q
-
-pub outside-refl : (i : List ℕ) → Outside i i []
-outside-refl i = record { size = refl; same = λ q h. same-refl i q }
-
-pub outside-then : {i j k : List ℕ} {Q R : List ℕ} → Outside i j Q → Outside j k R → Outside i k (Q ++ R)
-outside-then {Q = Q} {R = R} a c = record {
-  size = c .size ∙ a .size;
-  same = λ q h. same-trans (a .same q (notin-left q Q R h)) (c .same q (notin-right q Q R h));
-}
 
 -- ---- one write
 

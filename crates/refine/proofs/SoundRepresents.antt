@@ -1,11 +1,8 @@
 -- A unit is sound exactly if some good plain unit is represented, and that one is unique.
-use mathlib.Core.Path.{_≡_, refl, sym, ap, _∙_, subst}
+use mathlib.Core.Path.{_≡_, refl, sym, subst}
 use mathlib.Core.List.{List}
 use Prim.Native.Nat.{ℕ}
 use Rattle.types.specs.declared.State.{State}
-use Rattle.disc.specs.Words.{word}
-use Rattle.disc.specs.Stretches.{slicesAt}
-use Rattle.disc.specs.Kit.{kitSector, sysIndexSector}
 use Rattle.disc.specs.Catalog.{sysCatalog}
 use Rattle.plain.specs.Unit.{Plain, sysOf}
 use Rattle.plain.specs.Good.{Good}
@@ -50,6 +47,11 @@ module _ {image : List ℕ} {state : State} {p : Plain} (g : Good p) (r : Repres
       let with-sys = subst (λ (l : List ℕ). SoundWith image state (p .H) (p .s) (p .F) (p .N) (sysCatalog (p .layers) l))
       (sym (sys-read image p g (r .layout .sys .index))) with-unit in
       record { layers = p .layers; rules = rw (kit .keys, kit .slice, kit .first, kit .sectors) with-sys }
+
+  -- L of the rules is the unit's
+  pub represents-layers : represents-sound .layers ≡ p .layers
+  unfolding represents-sound
+  represents-layers = refl
 
 pub sound-represents : SoundRepresents
 sound-represents = record {

@@ -4,7 +4,7 @@ use mathlib.Core.List.{List, [], _∷_}
 use mathlib.Core.Bool.{Bool, true, false, not, cond, _&&_}
 use mathlib.Core.Logic.{_≢_}
 use mathlib.Core.Option.{Option, none, some}
-use Prim.Native.Nat.{ℕ, zero, suc, _+_, _≤_, _<_}
+use Prim.Native.Nat.{ℕ, zero, suc, _+_, _<_}
 use native.Mathlib.Omega.{arith}
 use lib.ListN.{length, getD, set, length-set, getD-replicate}
 use lib.Dec.{eqb, ltb}
@@ -26,9 +26,9 @@ use Rattle.state.specs.declared.Found.the-variants.{At, Absent}
 use Rattle.state.specs.declared.Kind.{Kind}
 use Rattle.state.specs.declared.Kind.the-variants.{AnyUser, Writer, Exclusive}
 use Rattle.state.specs.Areas.{countOf, hasId, entryOf, isTaken, userCount, isKind, isOther, anyOther, setUser, createdArea, withLive}
-use Rattle.state.proofs.SearchLaws.{FirstAt, first-at, at-first, first-nowhere, firstThat, that-at, that-nowhere, that-set, that-set-other, that-set-none, any-count, count-most, count-full, count-room}
+use Rattle.state.proofs.SearchLaws.{FirstAt, first-at, at-first, first-nowhere, firstThat, that-at, that-nowhere, that-set, that-set-other, that-set-none, any-count, count-full, count-room}
 use Rattle.state.proofs.DistinctLaws.{keyed, Distinct, distinct-tail, distinct-head, distinct-set}
-use Rattle.sound.specs.State.{IsTaken, LegalUsers}
+use Rattle.sound.specs.State.{IsTaken}
 use Rattle.refine.specs.Represents.{withUser, usersIn}
 use Rattle.refine.proofs.TableCount.{table-count}
 
@@ -119,9 +119,6 @@ created-users name index size = record { three = refl; only = λ u v hu hv t e. 
 
 pub live-users : (a : Area) (index : Sector) (size : ℕ) → DistinctUsers a → DistinctUsers (withLive a index size)
 live-users a index size o = record { three = o .three; only = o .only }
-
-pub legal-users : (a : Area) → length (a .users) ≡ 3 → LegalUsers a → DistinctUsers a
-legal-users a n l = record { three = n; only = l .distinct }
 
 -- ---- an entry set
 
@@ -220,9 +217,6 @@ same-keys l n = same-or n 0 (λ e. rw (e, users-zero l, that-nowhere (keyed isTa
 module _ (a : Area) (o : DistinctUsers a) where
   pub users-count : length (usersIn (a .users)) ≡ userCount a
   users-count = table-count isTaken idOf vacantUser (a .users) 0 (usersIn (a .users)) (users-sorted (a .users)) (by-keys a o) (same-keys (a .users))
-
-  pub users-most : length (usersIn (a .users)) ≤ 3
-  users-most = omega (arith, users-count, count-most isTaken (a .users), o .three)
 
   -- fewer than three exactly if an entry is vacant
   pub users-room : (v : ℕ) → entryOf 0 a ≡ At v → length (usersIn (a .users)) < 3

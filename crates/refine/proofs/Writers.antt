@@ -12,24 +12,24 @@ use Rattle.disc.specs.Names.{keyOf}
 use Rattle.disc.specs.Slices.{occurrences, inUnit, InRangeOnce}
 use Rattle.disc.specs.Stretches.{sectorIn, indexWords, sysFrom}
 use Rattle.disc.specs.Kit.{Kit, kitSector}
-use Rattle.disc.specs.Map.{mapBit, MapOf}
+use Rattle.disc.specs.Map.{mapBit}
 use Rattle.disc.specs.Entries.{placeWord, placeCount, nameAt}
-use Rattle.disc.specs.Catalog.{placeSector, Catalog, placesOf, placesIn}
+use Rattle.disc.specs.Catalog.{placeSector, Catalog, placesOf, placesIn, withLayer}
 use Rattle.disc.proofs.Compare.{same-or, below-or}
 use Rattle.disc.proofs.SliceLaws.{inUnit-mono, occurrences-append}
-use Rattle.words.specs.Store.{store, zeroWords}
+use Rattle.words.specs.Store.{zeroWords}
 use Rattle.words.proofs.StoreLaws.{length-zeroWords, getD-zeroWords, word-store-in, word-store-beside}
 use Rattle.map.specs.Marks.{allUsed, allFree}
 use Rattle.map.proofs.MarkLaws.{map-taken, map-freed, in-map}
 use Rattle.plain.specs.Table.{Table, tableFind, tablePut, tableRemove}
-use Rattle.plain.specs.Unit.{Plain, File, sysOf, M, withFiles, withTables}
-use Rattle.plain.proofs.TableLaws.{some≢none, some-inj, find-put, find-put-other, remove-some}
+use Rattle.plain.specs.Unit.{Plain, File, AreaUser, sysOf, M, withFiles, withTables}
+use Rattle.plain.proofs.TableLaws.{some-inj, find-put, find-put-other, remove-some}
 use Rattle.sound.specs.Places.{Unused}
-use Rattle.refine.specs.Represents.{FileOnImage, CatalogOf, Layout}
+use Rattle.refine.specs.Represents.{FileOnImage, CatalogOnImage, Layout}
 use Rattle.refine.specs.Writes.{setFree, storePlace}
-use Rattle.refine.proofs.Sectors.{Same, Outside, NotIn, holds-kept, store-outside, marked-outside-map, bit-kept}
+use Rattle.refine.proofs.Sectors.{Same, Outside, holds-kept, store-outside, marked-outside-map, bit-kept}
 use Rattle.refine.proofs.CatalogLaws.{Named, nameIn, catalog-put, catalog-remove, catalog-grow, catalog-same}
-use Rattle.refine.proofs.Ground.{Ground, positive, top, joined-in, sys-ground, first-in, block-in, catalog-data, file-data, catalog-file, file-file, in-catalog, place-in, CatalogGround}
+use Rattle.refine.proofs.Ground.{Ground, top, joined-in, sys-ground, first-in, block-in, catalog-data, file-data, catalog-file, file-file, in-catalog, place-in, CatalogGround}
 
 -- ---- the kit
 
@@ -101,6 +101,73 @@ module _ {p : Plain} {c : Catalog} (g : CatalogGround p c) where
       → (t w : ℕ) → t < placesOf (p .H) c → w < 16 → placesIn j F s c t w ≡ placesIn i F s c t w
   place-same i j same t w x y = same (t / 16 + c .from) (place-in g t x) .at (t % 16 * 16 + w) (omega arith)
 
+-- ---- a catalog on the image
+
+module _ {p : Plain} {c : Catalog} (g : CatalogGround p c) {i : List ℕ} {E : ℕ → Option (List ℕ)} (on : CatalogOnImage i (p .H) (p .s) (p .F) c E) where
+  -- where its index block and its sectors keep their words
+  pub catalog-kept : (j : List ℕ) → Same i j (c .index) → ((q : ℕ) → q / p .s < length (c .slices) → Same i j (sectorIn (p .F) (p .s) (c .slices) q))
+      → CatalogOnImage j (p .H) (p .s) (p .F) c E
+  catalog-kept j head same = record { index = holds-kept (on .index) head; places = catalog-same (on .places) _ E (place-same g i j same) (λ m. refl) }
+
+  module _ (size : length i ≡ 256 * p .N) (t : ℕ) (in₀ : t < placesOf (p .H) c) where
+    index-kept : (e : List ℕ) → length e ≡ 16 → Holds (storePlace p c i t e) (c .index) (indexWords (p .F) (p .s) (c .slices))
+    index-kept e len =
+        holds-kept (on .index) (place-outside g i size t in₀ e len .same (c .index) ((λ q. g .index (t / 16 + c .from) (omega arith) (place-in g t in₀) (sym q)), tt))
+
+    -- an entry at an unused place, or in the place of the name's old one
+    pub catalog-entered : (e : List ℕ) → length e ≡ 16 → (D : ℕ → Option (List ℕ)) (n : ℕ) → Named E → ((m : ℕ) → m ≢ n → D m ≡ E m) → D n ≡ some e → nameIn e ≡ n → n ≢ 0
+        → t / 16 % p .H ≡ keyOf (p .H) n → ((u : ℕ) → u < placesOf (p .H) c → nameAt (placesIn i (p .F) (p .s) c) u ≡ n → u ≡ t)
+        → (nameAt (placesIn i (p .F) (p .s) c) t ≢ n → nameAt (placesIn i (p .F) (p .s) c) t ≡ 0) → CatalogOnImage (storePlace p c i t e) (p .H) (p .s) (p .F) c D
+    catalog-entered e len D n nm other new named nz key only mine = record {
+      index = index-kept e len;
+      places = catalog-put (on .places) nm _ D n t in₀ (place-off g i size t in₀ e len) other e new named nz (place-here g i size t in₀ e len) key only mine;
+    }
+
+    -- a place emptied
+    pub catalog-emptied : (D : ℕ → Option (List ℕ)) (n : ℕ) → Named E → ((m : ℕ) → m ≢ n → D m ≡ E m) → D n ≡ none → nameAt (placesIn i (p .F) (p .s) c) t ≡ n → n ≢ 0
+        → CatalogOnImage (storePlace p c i t (zeroWords 16)) (p .H) (p .s) (p .F) c D
+    catalog-emptied D n nm other gone was nz =
+        let len : length (zeroWords 16) ≡ 16 = length-zeroWords 16 in
+        record {
+          index = index-kept (zeroWords 16) len;
+          places =
+              catalog-remove (on .places) nm _ D n t in₀ (place-off g i size t in₀ (zeroWords 16) len) other gone was nz
+              (record { zero = λ w x. place-here g i size t in₀ (zeroWords 16) len w x ∙ getD-zeroWords 16 w });
+        }
+
+-- ---- a catalog grows by a layer
+
+pub grown-sector : (F s : ℕ) (l y : List ℕ) (q : ℕ) → q / s < length l → sectorIn F s (l ++ y) q ≡ sectorIn F s l q
+grown-sector F s l y q x = ap (λ (k : ℕ). sliceStart F s k + q % s) (List·getD-append l y 0 (q / s) x)
+
+-- what is written where it took the slices y: its index block, and the blocks of the new layer, which are zeroed
+pub record NewLayer (p : Plain) (c : Catalog) (y i j : List ℕ) : Type 0 where
+  pub size : length j ≡ length i
+  pub keep : (q : ℕ) → q ≢ c .index
+      → ((b : ℕ) → p .H * c .layers + c .from ≤ b → b < p .H * suc (c .layers) + c .from → q ≢ sectorIn (p .F) (p .s) (c .slices ++ y) b) → Same i j q
+  pub index : Holds j (c .index) (indexWords (p .F) (p .s) (c .slices ++ y))
+  pub zeroed : (b w : ℕ) → p .H * c .layers + c .from ≤ b → b < p .H * suc (c .layers) + c .from → w < 256 → word j (sectorIn (p .F) (p .s) (c .slices ++ y) b) w ≡ 0
+
+module _ {p : Plain} {c : Catalog} {y : List ℕ} {layers : ℕ} {sys : List ℕ} {files : Table File} {areas : Table (Table AreaUser)} (g : CatalogGround p c)
+    (g′ : CatalogGround (withTables p layers sys files areas) (withLayer c y)) {i j : List ℕ} (n : NewLayer p c y i j) where
+  -- the old places keep their words, the new ones are zero
+  pub layer-old : (t w : ℕ) → t < placesOf (p .H) c → w < 16 → placesIn j (p .F) (p .s) (withLayer c y) t w ≡ placesIn i (p .F) (p .s) c t w
+  layer-old t w x z =
+      let old : (t / 16 + c .from) / p .s < length (c .slices) = place-in g t x in
+      let e : sectorIn (p .F) (p .s) (c .slices ++ y) (t / 16 + c .from) ≡ placeSector (p .F) (p .s) c t = grown-sector (p .F) (p .s) (c .slices) y (t / 16 + c .from) old in
+      let q : Same i j (placeSector (p .F) (p .s) c t) = n .keep _ (g .index (t / 16 + c .from) (omega arith) old) (λ b lo hi r.
+      let u : t / 16 + c .from ≡ b = in-catalog g′ (t / 16 + c .from) b (joined-in g′ (t / 16 + c .from) (omega arith)) (joined-in g′ b (omega (arith, hi))) (e ∙ r) in omega arith) in
+      ap (λ (k : ℕ). word j k (t % 16 * 16 + w)) e ∙ q .at (t % 16 * 16 + w) (omega arith)
+
+  pub layer-new : (t : ℕ) → placesOf (p .H) c ≤ t → t < placesOf (p .H) (withLayer c y) → Unused (placesIn j (p .F) (p .s) (withLayer c y)) t
+  layer-new t lo hi = record { zero = λ w x. n .zeroed (t / 16 + c .from) (t % 16 * 16 + w) (omega arith) (omega arith) (omega arith) }
+
+  pub catalog-layered : {E : ℕ → Option (List ℕ)} → CatalogOnImage i (p .H) (p .s) (p .F) c E → CatalogOnImage j (p .H) (p .s) (p .F) (withLayer c y) E
+  catalog-layered {E} on = record {
+    index = n .index;
+    places = catalog-grow (on .places) _ E (placesOf (p .H) (withLayer c y)) (omega arith) layer-old layer-new (λ m. refl);
+  }
+
 -- q is none of the sectors of a slice list
 abbrev pub Off : ℕ → ℕ → List ℕ → ℕ → Type 0
 Off F s l q = (b : ℕ) → b / s < length l → q ≢ sectorIn F s l b
@@ -128,7 +195,7 @@ module _ {i : List ℕ} {p : Plain} {v : ℕ} {h : List ℕ} {E : ℕ → Option
     size = size ∙ r .size;
     kit = kit;
     map = map;
-    sys = record { index = holds-kept (r .sys .index) six; places = catalog-same (r .sys .places) _ E (place-same (sys-ground g) i j (λ q x. keep _ (catalog-data (sys-ground g) q x .0))) (λ m. refl) };
+    sys = catalog-kept (sys-ground g) (r .sys) j six (λ q x. keep _ (catalog-data (sys-ground g) q x .0));
     mapIndex = holds-kept (r .mapIndex) seven;
     files = λ m a e. file-kept p g i j m a e (λ b x. keep _ (file-data p g m a e b x .0)) (r .files m a e);
   }
@@ -173,9 +240,10 @@ module _ {i : List ℕ} {p : Plain} {v : ℕ} {h : List ℕ} {E : ℕ → Option
 
   -- ---- a place of SYS
 
-  module _ (t : ℕ) (in₀ : t < placeCount (p .H) (p .layers)) (e : List ℕ) (len : length e ≡ 16) where
-    place-write : (D : ℕ → Option (List ℕ)) → CatalogOf (placeWord (storePlace p (sysOf p) i t e) (p .F) (p .s) (p .sys) sysFrom) (placeCount (p .H) (p .layers)) (p .H) D → Layout (storePlace p (sysOf p) i t e) p v h D
-    place-write D c =
+  module _ (t : ℕ) (in₀ : t < placeCount (p .H) (p .layers)) where
+    place-write : (e : List ℕ) → length e ≡ 16 → {D : ℕ → Option (List ℕ)} → CatalogOnImage (storePlace p (sysOf p) i t e) (p .H) (p .s) (p .F) (sysOf p) D
+        → Layout (storePlace p (sysOf p) i t e) p v h D
+    place-write e len c =
         let o = place-outside (sys-ground g) i (r .size) t in₀ e len in
         let d = catalog-data (sys-ground g) (t / 16 + sysFrom) (place-in (sys-ground g) t in₀) in
         let low : (q : ℕ) → q < 10 → Same i (storePlace p (sysOf p) i t e) q = λ q x. o .same q (omega (arith, d .0), tt) in
@@ -183,26 +251,24 @@ module _ {i : List ℕ} {p : Plain} {v : ℕ} {h : List ℕ} {E : ℕ → Option
           size = o .size ∙ r .size;
           kit = kit-kept (r .kit) (low 8 (omega arith));
           map = λ x a b. omega (arith, bit-kept x a b (low 9 (omega arith)), r .map x a b);
-          sys = record { index = holds-kept (r .sys .index) (low 6 (omega arith)); places = c };
+          sys = c;
           mapIndex = holds-kept (r .mapIndex) (low 7 (omega arith));
           files = λ m a f. file-kept p g i _ m a f (λ b x. o .same _ (catalog-file (sys-ground g) m a f b (t / 16 + sysFrom) x (place-in (sys-ground g) t in₀), tt)) (r .files m a f);
         }
 
     -- an entry at an unused place, or in the place of the name's old one
-    pub write-entry : (D : ℕ → Option (List ℕ)) (n : ℕ) → Named E → ((m : ℕ) → m ≢ n → D m ≡ E m) → D n ≡ some e → nameIn e ≡ n → n ≢ 0 → t / 16 % p .H ≡ keyOf (p .H) n
-        → ((u : ℕ) → u < placeCount (p .H) (p .layers) → nameAt (placeWord i (p .F) (p .s) (p .sys) sysFrom) u ≡ n → u ≡ t)
+    pub write-entry : (e : List ℕ) → length e ≡ 16 → (D : ℕ → Option (List ℕ)) (n : ℕ) → Named E → ((m : ℕ) → m ≢ n → D m ≡ E m) → D n ≡ some e → nameIn e ≡ n → n ≢ 0
+        → t / 16 % p .H ≡ keyOf (p .H) n → ((u : ℕ) → u < placeCount (p .H) (p .layers) → nameAt (placeWord i (p .F) (p .s) (p .sys) sysFrom) u ≡ n → u ≡ t)
         → (nameAt (placeWord i (p .F) (p .s) (p .sys) sysFrom) t ≢ n → nameAt (placeWord i (p .F) (p .s) (p .sys) sysFrom) t ≡ 0)
         → Layout (storePlace p (sysOf p) i t e) p v h D
-    write-entry D n nm other new named nz key only mine =
-        place-write D (catalog-put (r .sys .places) nm _ D n t in₀ (place-off (sys-ground g) i (r .size) t in₀ e len) other e new named nz (place-here (sys-ground g) i (r .size) t in₀ e len) key only mine)
+    write-entry e len D n nm other new named nz key only mine =
+        place-write e len (catalog-entered (sys-ground g) (r .sys) (r .size) t in₀ e len D n nm other new named nz key only mine)
 
-  -- a place emptied
-  pub write-zero : (t : ℕ) → t < placeCount (p .H) (p .layers) → (D : ℕ → Option (List ℕ)) (n : ℕ) → Named E → ((m : ℕ) → m ≢ n → D m ≡ E m) → D n ≡ none
-      → nameAt (placeWord i (p .F) (p .s) (p .sys) sysFrom) t ≡ n → n ≢ 0 → Layout (storePlace p (sysOf p) i t (zeroWords 16)) p v h D
-  write-zero t in₀ D n nm other gone was nz =
-      let len : length (zeroWords 16) ≡ 16 = length-zeroWords 16 in
-      place-write t in₀ (zeroWords 16) len D
-      (catalog-remove (r .sys .places) nm _ D n t in₀ (place-off (sys-ground g) i (r .size) t in₀ (zeroWords 16) len) other gone was nz (record { zero = λ w x. place-here (sys-ground g) i (r .size) t in₀ (zeroWords 16) len w x ∙ getD-zeroWords 16 w }))
+    -- a place emptied
+    pub write-zero : (D : ℕ → Option (List ℕ)) (n : ℕ) → Named E → ((m : ℕ) → m ≢ n → D m ≡ E m) → D n ≡ none
+        → nameAt (placeWord i (p .F) (p .s) (p .sys) sysFrom) t ≡ n → n ≢ 0 → Layout (storePlace p (sysOf p) i t (zeroWords 16)) p v h D
+    write-zero D n nm other gone was nz =
+        place-write (zeroWords 16) (length-zeroWords 16) (catalog-emptied (sys-ground g) (r .sys) (r .size) t in₀ D n nm other gone was nz)
 
   -- ---- a file
 
@@ -228,7 +294,7 @@ module _ {i : List ℕ} {p : Plain} {v : ℕ} {h : List ℕ} {E : ℕ → Option
         size = size ∙ r .size;
         kit = kit-kept (r .kit) (low 8 (omega arith));
         map = λ x a b. omega (arith, bit-kept x a b (low 9 (omega arith)), r .map x a b);
-        sys = record { index = holds-kept (r .sys .index) (low 6 (omega arith)); places = catalog-same (r .sys .places) _ E (place-same (sys-ground g) i j (λ q x. keep _ (λ b y z. catalog-file (sys-ground g′) n f here b q y x (sym z)))) (λ m. refl) };
+        sys = catalog-kept (sys-ground g) (r .sys) j (low 6 (omega arith)) (λ q x. keep _ (λ b y z. catalog-file (sys-ground g′) n f here b q y x (sym z)));
         mapIndex = holds-kept (r .mapIndex) (low 7 (omega arith));
         files = λ m a e. same-or m n
             (λ q. let z : f ≡ a = some-inj (sym here ∙ ap (λ (x : ℕ). tableFind x (p′ .files)) (sym q) ∙ e) in rw (← z) new)
@@ -237,38 +303,17 @@ module _ {i : List ℕ} {p : Plain} {v : ℕ} {h : List ℕ} {E : ℕ → Option
 
   -- ---- SYS grows by a layer
 
-  pub grown-sector : (y : List ℕ) (q : ℕ) → q / p .s < length (p .sys) → sectorIn (p .F) (p .s) (p .sys ++ y) q ≡ sectorIn (p .F) (p .s) (p .sys) q
-  grown-sector y q x = ap (λ (k : ℕ). sliceStart (p .F) (p .s) k + q % p .s) (List·getD-append (p .sys) y 0 (q / p .s) x)
-
-  module _ (y : List ℕ) (g′ : Ground (withTables p (suc (p .layers)) (p .sys ++ y) (p .files) (p .areas))) (j : List ℕ) (size : length j ≡ length i)
-      (keep : (q : ℕ) → q ≢ 6 → ((b : ℕ) → p .H * p .layers ≤ b → b < p .H * suc (p .layers) → q ≢ sectorIn (p .F) (p .s) (p .sys ++ y) b) → Same i j q)
-      (six : Holds j 6 (indexWords (p .F) (p .s) (p .sys ++ y)))
-      (zeroed : (b w : ℕ) → p .H * p .layers ≤ b → b < p .H * suc (p .layers) → w < 256 → word j (sectorIn (p .F) (p .s) (p .sys ++ y) b) w ≡ 0) where
-    abbrev grown : Plain
-    grown = withTables p (suc (p .layers)) (p .sys ++ y) (p .files) (p .areas)
-
-    -- the old places keep their words, the new ones are zero
-    pub layer-old : (t w : ℕ) → t < placeCount (p .H) (p .layers) → w < 16 → placeWord j (p .F) (p .s) (p .sys ++ y) sysFrom t w ≡ placeWord i (p .F) (p .s) (p .sys) sysFrom t w
-    layer-old t w x y₁ =
-        let old : (t / 16 + sysFrom) / p .s < length (p .sys) = place-in (sys-ground g) t x in
-        let e : sectorIn (p .F) (p .s) (p .sys ++ y) (t / 16 + sysFrom) ≡ placeSector (p .F) (p .s) (sysOf p) t = grown-sector y (t / 16 + sysFrom) old in
-        let d = catalog-data (sys-ground g) (t / 16 + sysFrom) old in
-        let q : Same i j (placeSector (p .F) (p .s) (sysOf p) t) = keep _ (omega (arith, d .0)) (λ b lo hi z.
-        let u : t / 16 + sysFrom ≡ b = in-catalog (sys-ground g′) (t / 16 + sysFrom) b (joined-in (sys-ground g′) (t / 16 + sysFrom) (omega arith)) (joined-in (sys-ground g′) b (omega (arith, hi))) (e ∙ z) in omega arith) in
-        ap (λ (k : ℕ). word j k (t % 16 * 16 + w)) e ∙ q .at (t % 16 * 16 + w) (omega arith)
-
-    pub layer-new : (t : ℕ) → placeCount (p .H) (p .layers) ≤ t → t < placeCount (p .H) (suc (p .layers)) → Unused (placeWord j (p .F) (p .s) (p .sys ++ y) sysFrom) t
-    layer-new t lo hi = record { zero = λ w x. zeroed (t / 16 + sysFrom) (t % 16 * 16 + w) (omega arith) (omega arith) (omega arith) }
-
-    pub write-layer : Layout j grown v h E
-    write-layer =
-        let low : (q : ℕ) → q < 10 → q ≢ 6 → Same i j q = λ q x d. keep q d (λ b lo hi e. let z = catalog-data (sys-ground g′) b (joined-in (sys-ground g′) b (omega (arith, hi))) in omega (arith, z .0)) in
-        record {
-          size = size ∙ r .size;
-          kit = kit-kept (r .kit) (low 8 (omega arith) (omega arith));
-          map = λ x a b. omega (arith, bit-kept x a b (low 9 (omega arith) (omega arith)), r .map x a b);
-          sys = record { index = six; places = catalog-grow (r .sys .places) _ E (placeCount (p .H) (suc (p .layers))) (omega arith) layer-old layer-new (λ m. refl) };
-          mapIndex = holds-kept (r .mapIndex) (low 7 (omega arith) (omega arith));
-          files = λ m a e. file-kept grown g′ i j m a e
-              (λ b x. keep _ (let d = file-data grown g′ m a e b x in omega (arith, d .0)) (λ c lo hi. catalog-file (sys-ground g′) m a e b c x (joined-in (sys-ground g′) c (omega (arith, hi))))) (r .files m a e);
-        }
+  pub write-layer : (y : List ℕ) → Ground (withTables p (suc (p .layers)) (p .sys ++ y) (p .files) (p .areas)) → (j : List ℕ) → NewLayer p (sysOf p) y i j
+      → Layout j (withTables p (suc (p .layers)) (p .sys ++ y) (p .files) (p .areas)) v h E
+  write-layer y g′ j n =
+      let grown : Plain = withTables p (suc (p .layers)) (p .sys ++ y) (p .files) (p .areas) in
+      let low : (q : ℕ) → q < 10 → q ≢ 6 → Same i j q = λ q x d. n .keep q d (λ b lo hi e. let z = catalog-data (sys-ground g′) b (joined-in (sys-ground g′) b (omega (arith, hi))) in omega (arith, z .0)) in
+      record {
+        size = n .size ∙ r .size;
+        kit = kit-kept (r .kit) (low 8 (omega arith) (omega arith));
+        map = λ x a b. omega (arith, bit-kept x a b (low 9 (omega arith) (omega arith)), r .map x a b);
+        sys = catalog-layered (sys-ground g) (sys-ground g′) n (r .sys);
+        mapIndex = holds-kept (r .mapIndex) (low 7 (omega arith) (omega arith));
+        files = λ m a e. file-kept grown g′ i j m a e
+            (λ b x. n .keep _ (let d = file-data grown g′ m a e b x in omega (arith, d .0)) (λ c lo hi. catalog-file (sys-ground g′) m a e b c x (joined-in (sys-ground g′) c (omega (arith, hi))))) (r .files m a e);
+      }

@@ -10,8 +10,3 @@ pub record OnDisc (image : List ℕ) (p : Plain) : Type 0 where
   pub good : Good p
   pub words : Words image
   pub layout : Layout image p (freeSectors p) (held p) (entry p)
-
--- Some unit is on the image.
-pub record SomeOnDisc (image : List ℕ) : Type 0 where
-  pub unit : Plain
-  pub on : OnDisc image unit

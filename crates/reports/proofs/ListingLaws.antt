@@ -18,14 +18,17 @@ use Rattle.disc.proofs.SliceLaws.{sum-law}
 use Rattle.words.specs.Store.{store}
 use Rattle.index.proofs.ReadLaws.{read-sector}
 use Rattle.plain.specs.Table.{Row, Table}
-use Rattle.plain.specs.Unit.{Plain, M, entries, entry}
+use Rattle.plain.specs.Unit.{Plain, sysOf, M, entries, entry}
 use Rattle.plain.specs.Questions.{answer, fill}
 use Rattle.plain.specs.Reports.{joined, stepListing}
 use Rattle.plain.proofs.QuestionLaws.{and-right, asks-yes, asks-no}
 use Rattle.plain.proofs.UnitLaws.{sorted-entries}
 use Rattle.entries.proofs.PlaceLaws.{legal-first}
 use Rattle.sound.specs.Places.{Unused}
+use Rattle.catalog.specs.declared.Catalog.{Catalog}
 use Rattle.catalog.specs.declared.Unit.{Unit}
+use Rattle.catalog.specs.Value.{valueOf}
+use Rattle.catalog.proofs.ValueLaws.{is-value}
 use Rattle.refine.specs.Represents.{PlaceOf}
 use Rattle.refine.specs.OnDisc.{OnDisc}
 use Rattle.refine.proofs.CatalogLaws.{Named, name-zero}
@@ -35,7 +38,7 @@ use Rattle.unit.specs.Unit.{NumbersOf, UnitOn, unitPlaces}
 use Rattle.unit.proofs.UnitLaws.{on-catalog, sys-once}
 use Rattle.order.specs.Records.{recordAt, recordOf}
 use Rattle.order.specs.ByName.{CanOrder, ByName}
-use Rattle.reports.specs.Listing.{inTurn, slotStart, entryRecord, slotRecord, slotRecords, sysSector, blockRecords, Readable, CountOf, Lists}
+use Rattle.reports.specs.Listing.{inTurn, slotStart, entryRecord, slotRecord, slotRecords, catalogSector, blockRecords, Readable, CountOf, Lists}
 use Rattle.reports.proofs.OrderLaws.{Entries, table-listing, names-increase}
 use Rattle.reports.proofs.RecordLaws.{NotesOf, RowNote, PlaceNote, collect-notes, can-order, in-name-order}
 use Rattle.reports.proofs.TurnLaws.{turn-ext, turn-groups, firstWord, slot-none, slot-some}
@@ -62,6 +65,9 @@ module _ {image : List ℕ} {p : Plain} (on : OnDisc image p) where
   abbrev block : ℕ → ℕ
   block b = blockSector (p .F) (p .s) (p .sys) sysFrom b
 
+  abbrev sys : Catalog
+  sys = valueOf (p .H) (sysOf p)
+
   gr : Ground p
   gr = ground p (on .good)
 
@@ -71,7 +77,7 @@ module _ {image : List ℕ} {p : Plain} (on : OnDisc image p) where
   block-inside : (b : ℕ) → b < p .H * p .layers → block b < p .N
   block-inside b x = let e : b + sysFrom ≡ b = omega arith in rw e (catalog-data (sys-ground gr) b (joined-in (sys-ground gr) b (omega (arith, x))) .1)
 
-  sys-block : (b : ℕ) → b < p .H * p .layers → sysSector image b ≡ block b
+  sys-block : (b : ℕ) → b < p .H * p .layers → catalogSector image sys b ≡ block b
   sys-block b x =
       let e : b + sysFrom ≡ b = omega arith in
       let fits : block b < p .N = block-inside b x in
@@ -85,7 +91,7 @@ module _ {image : List ℕ} {p : Plain} (on : OnDisc image p) where
       let most : length (p .sys) ≤ M p = omega (arith, sum-law (M p) (p .sys) (sys-once (on-catalog on))) in
       omega (arith, gr .sysCover, mul-le-mul-right (p .s) most, top p gr, on .good .limits .sectors)
 
-  readable : Readable image (p .H * p .layers)
+  readable : Readable image sys (p .H * p .layers)
   readable = record {
     few = few-blocks;
     inside = λ b x. rw (sys-block b x) (let h = block-inside b x in omega (arith, on .layout .size));
@@ -149,7 +155,7 @@ module _ {image : List ℕ} {p : Plain} (on : OnDisc image p) where
         subst (λ (o : Option (Row (List ℕ))). PlaceNote image o (placeRecord t)) (sym (ap (rowOf (nameAt P t)) (u .entered))) (rw (place-record u) (used-note u)))
         (on .layout .sys .places .each t x)
 
-  places-noted : NotesOf image (entries p) (blockRecords image (p .H * p .layers))
+  places-noted : NotesOf image (entries p) (blockRecords image (valueOf (p .H) (sysOf p)) (p .H * p .layers))
   unfolding entry
   places-noted =
       let cat = on .layout .sys .places in
@@ -159,8 +165,8 @@ module _ {image : List ℕ} {p : Plain} (on : OnDisc image p) where
       subst (λ (T : Table (List ℕ)). NotesOf image T (inTurn placeRecord N)) (collected P (entries p) sorted (cat .there) (cat .alone))
       (collect-notes (rowAt P (entries p)) (positive-name P (entries p) sorted (cat .there) (cat .alone)) N (one-place P (entries p) sorted (cat .there) (cat .alone)) image placeRecord place-note N (omega arith)) in
       let by-block : inTurn placeRecord N ≡ inTurn (λ b. slotRecords image (block b) 16) n = turn-groups (λ b. slotRecord image (block b)) n in
-      let same : inTurn (λ b. slotRecords image (block b) 16) n ≡ blockRecords image n =
-      turn-ext (λ b. slotRecords image (block b) 16) (λ b. slotRecords image (sysSector image b) 16) n (λ b x. ap (λ (q : ℕ). slotRecords image q 16) (sym (sys-block b x))) in
+      let same : inTurn (λ b. slotRecords image (block b) 16) n ≡ blockRecords image sys n =
+      turn-ext (λ b. slotRecords image (block b) 16) (λ b. slotRecords image (catalogSector image sys b) 16) n (λ b x. ap (λ (q : ℕ). slotRecords image q 16) (sym (sys-block b x))) in
       rw (← same, ← by-block) by-place
 
   -- ---- the plain unit's listing
@@ -171,7 +177,7 @@ module _ {image : List ℕ} {p : Plain} (on : OnDisc image p) where
 
   module _ (lent : List ℕ) (room : 16 * length (entries p) ≤ length lent) where
     abbrev noted : List ℕ
-    noted = store lent (4 * length (entries p)) (blockRecords image (p .H * p .layers))
+    noted = store lent (4 * length (entries p)) (blockRecords image (valueOf (p .H) (sysOf p)) (p .H * p .layers))
 
     listing-can : length (entries p) < 4294967296 → CanOrder image (length (entries p)) noted
     listing-can few = can-order places-noted lent room few
@@ -182,22 +188,22 @@ module _ {image : List ℕ} {p : Plain} (on : OnDisc image p) where
         in-name-order places-noted lent room by (table-listing 0 (entries p) sorted entered) (names-increase 0 (entries p) sorted entered)
 
   -- as many entries as are counted
-  entries-counted : {o : Unit} {count : ℕ} → NumbersOf o p → CountOf (blockRecords image (o .catalog .keys * o .catalog .layers)) count → count ≡ length (entries p)
+  entries-counted : {o : Unit} {count : ℕ} → NumbersOf o p → CountOf (blockRecords image (o .catalog) (o .catalog .keys * o .catalog .layers)) count → count ≡ length (entries p)
   entries-counted {o} num n =
-      let own = rw (num .catalog .keys, num .catalog .layers) at n in
+      let own = rw (is-value (num .catalog)) at n in
       omega (arith, own .words, places-noted .size)
 
 -- ---- the listing
 
-pub can-read : {image : List ℕ} {o : Unit} → UnitOn image o → Readable image (o .catalog .keys * o .catalog .layers)
-can-read h = rw (h .numbers .catalog .keys, h .numbers .catalog .layers) (readable (h .on))
+pub can-read : {image : List ℕ} {o : Unit} → UnitOn image o → Readable image (o .catalog) (o .catalog .keys * o .catalog .layers)
+can-read h = rw (is-value (h .numbers .catalog)) (readable (h .on))
 
 -- the records stored, in the numbers of a unit on the image
-own-noted : (image lent : List ℕ) {o : Unit} {p : Plain} {count : ℕ} {noted : List ℕ} → NumbersOf o p → count ≡ length (entries p) → noted ≡ store lent (4 * count) (blockRecords image (o .catalog .keys * o .catalog .layers))
-    → noted ≡ store lent (4 * length (entries p)) (blockRecords image (p .H * p .layers))
-own-noted image lent num c e = rw (← c, ← num .catalog .keys, ← num .catalog .layers) e
+own-noted : (image lent : List ℕ) {o : Unit} {p : Plain} {count : ℕ} {noted : List ℕ} → NumbersOf o p → count ≡ length (entries p) → noted ≡ store lent (4 * count) (blockRecords image (o .catalog) (o .catalog .keys * o .catalog .layers))
+    → noted ≡ store lent (4 * length (entries p)) (blockRecords image (valueOf (p .H) (sysOf p)) (p .H * p .layers))
+own-noted image lent num c e = rw (← c) (rw (is-value (num .catalog)) at e)
 
-module _ {image : List ℕ} {o : Unit} {count : ℕ} (lent : List ℕ) (n : CountOf (blockRecords image (o .catalog .keys * o .catalog .layers)) count) where
+module _ {image : List ℕ} {o : Unit} {count : ℕ} (lent : List ℕ) (n : CountOf (blockRecords image (o .catalog) (o .catalog .keys * o .catalog .layers)) count) where
   pub lists-short : length lent < 16 * count → Lists image o lent (answer 0x1200 0 0 0) lent
   unfolding stepListing
   lists-short short = record {
@@ -206,7 +212,7 @@ module _ {image : List ℕ} {o : Unit} {count : ℕ} (lent : List ℕ) (n : Coun
         asks-yes _ _ _ mine ∙ asks-no _ _ _ (rw (← c, lt-leb _ _ short) tt);
   }
 
-  module _ (room : 16 * count ≤ length lent) {noted : List ℕ} (e : noted ≡ store lent (4 * count) (blockRecords image (o .catalog .keys * o .catalog .layers))) where
+  module _ (room : 16 * count ≤ length lent) {noted : List ℕ} (e : noted ≡ store lent (4 * count) (blockRecords image (o .catalog) (o .catalog .keys * o .catalog .layers))) where
     pub lists-can : count < 4294967296 → UnitOn image o → CanOrder image count noted
     lists-can few h =
         let c : count ≡ length (entries (h .unit)) = entries-counted (h .on) (h .numbers) n in

@@ -11,7 +11,8 @@ use borrow.Author.Tests.{eq-eqb, ne-eqb}
 use Rattle.disc.proofs.Compare.{same-or}
 use Rattle.words.specs.Store.{store}
 use Rattle.words.proofs.StoreLaws.{store-none, store-append, length-store}
-use Rattle.reports.specs.Listing.{inTurn, slotStart, slotEmpty, entryRecord, slotRecord, slotRecords, sysSector, blockRecords, CountOf, Noted}
+use Rattle.catalog.specs.declared.Catalog.{Catalog}
+use Rattle.reports.specs.Listing.{inTurn, slotStart, slotEmpty, entryRecord, slotRecord, slotRecords, catalogSector, blockRecords, CountOf, Noted}
 
 -- ---- lists one after the other
 
@@ -77,8 +78,8 @@ module _ (image : List ℕ) (q i : ℕ) where
 pub slots-most : (image : List ℕ) (q n : ℕ) → length (slotRecords image q n) ≤ n * 4
 slots-most image q n = turn-most (slotRecord image q) 4 n (slot-most image q)
 
-pub blocks-most : (image : List ℕ) (n : ℕ) → length (blockRecords image n) ≤ n * 64
-blocks-most image n = turn-most (λ b. slotRecords image (sysSector image b) 16) 64 n (λ b. omega (arith, slots-most image (sysSector image b) 16))
+pub blocks-most : (image : List ℕ) (c : Catalog) (n : ℕ) → length (blockRecords image c n) ≤ n * 64
+blocks-most image c n = turn-most (λ b. slotRecords image (catalogSector image c b) 16) 64 n (λ b. omega (arith, slots-most image (catalogSector image c b) 16))
 
 pub count-none : (f : ℕ → List ℕ) → CountOf (inTurn f 0) 0
 unfolding inTurn
@@ -95,11 +96,11 @@ module _ (image : List ℕ) (q i : ℕ) {count : ℕ} (n : CountOf (slotRecords 
       let long : length (slotRecord image q i) ≡ 4 = slot-length image q i d in
       rw (add-one i) (record { words = omega (arith, length-append (slotRecords image q i) (slotRecord image q i), n .words) })
 
-pub count-block : (image : List ℕ) (b : ℕ) {q count more : ℕ} → CountOf (blockRecords image b) count → q ≡ sysSector image b → CountOf (slotRecords image q 16) more
-    → CountOf (blockRecords image (b + 1)) (count + more)
+pub count-block : (image : List ℕ) (c : Catalog) (b : ℕ) {q count more : ℕ} → CountOf (blockRecords image c b) count → q ≡ catalogSector image c b
+    → CountOf (slotRecords image q 16) more → CountOf (blockRecords image c (b + 1)) (count + more)
 unfolding inTurn
-count-block image b {q} {count} {more} n e m =
-    rw (add-one, ← e) (record { words = omega (arith, length-append (blockRecords image b) (slotRecords image q 16), n .words, m .words) })
+count-block image c b {q} {count} {more} n e m =
+    rw (add-one b, ← e) (record { words = omega (arith, length-append (blockRecords image c b) (slotRecords image q 16), n .words, m .words) })
 
 -- ---- records noted
 

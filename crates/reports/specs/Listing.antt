@@ -6,9 +6,9 @@ use Prim.Native.Nat.{ℕ, zero, suc, _+_, _*_, _/_, _%_, _≤_, _<_}
 use lib.ListN.{length, getD}
 use lib.Dec.{T, eqb}
 use Rattle.types.specs.declared.Answer.{Answer}
-use Rattle.disc.specs.Kit.{sysIndexSector}
 use Rattle.words.specs.Store.{store}
 use Rattle.index.specs.Block.{jointSector}
+use Rattle.catalog.specs.declared.Catalog.{Catalog}
 use Rattle.catalog.specs.declared.Unit.{Unit}
 use Rattle.plain.specs.Unit.{Plain}
 use Rattle.plain.specs.Questions.{known}
@@ -44,18 +44,18 @@ slotRecord image q i =
 abbrev pub slotRecords : List ℕ → ℕ → ℕ → List ℕ
 slotRecords image q n = inTurn (slotRecord image q) n
 
--- The sector of SYS's block b.
-abbrev pub sysSector : List ℕ → ℕ → ℕ
-sysSector image b = jointSector image sysIndexSector b
+-- The sector of block b of a catalog: "block b is sector .. (b for SYS and MAP)" of its joined sectors.
+abbrev pub catalogSector : List ℕ → Catalog → ℕ → ℕ
+catalogSector image c b = jointSector image (c .index .0) (b + c .from)
 
--- The records of the entries in the first n blocks of SYS.
-abbrev pub blockRecords : List ℕ → ℕ → List ℕ
-blockRecords image n = inTurn (λ b. slotRecords image (sysSector image b) 16) n
+-- The records of the entries in the first n blocks of a catalog.
+abbrev pub blockRecords : List ℕ → Catalog → ℕ → List ℕ
+blockRecords image c n = inTurn (λ b. slotRecords image (catalogSector image c b) 16) n
 
--- The first n blocks of SYS are sectors of the image.
-pub record Readable (image : List ℕ) (n : ℕ) : Type 0 where
+-- The first n blocks of a catalog are sectors of the image.
+pub record Readable (image : List ℕ) (c : Catalog) (n : ℕ) : Type 0 where
   pub few : n ≤ 32767
-  pub inside : (b : ℕ) → b < n → sysSector image b * 256 + 256 ≤ length image
+  pub inside : (b : ℕ) → b < n → catalogSector image c b * 256 + 256 ≤ length image
 
 -- The number of records in a list of them, 4 words to each.
 pub record CountOf (l : List ℕ) (count : ℕ) : Type 0 where

@@ -8,6 +8,7 @@ ghost use Rattle.plain.specs.Questions.{answer};
 ghost use Rattle.unit.specs.Unit.{MeantOn};
 ghost use Rattle.reports.specs.Description.{described, Describes};
 ghost use Rattle.reports.specs.Listing.{slotRecord, slotRecords, blockRecords, Readable, CountOf, Noted, CanList, Lists};
+use catalog::Catalog;
 use catalog::Unit;
 use types::Answer;
 use types::Block;
@@ -54,7 +55,7 @@ fn store_description(image: &[u16], unit: Unit, number: u16, lent: &mut [u16])
 }
 
 // Get Unit Description of a message that means this unit. N and the free sectors are read in the kit, the other numbers are the
-// unit's as it was opened.
+// unit's.
 pub fn describe(image: &[u16], unit: Unit, number: u16, bytes: u16, lent: &mut [u16]) -> Answer
     requires { ⌜ MeantOn (now image) unit number ⌝ }
     ensures { λ r. ⌜ Describes (now (image .entry)) unit number bytes (now (lent .entry)) r (now (lent .exit)) ⌝ }
@@ -90,15 +91,15 @@ fn count_slots(image: &[u16], q: Sector) -> u32
     count
 }
 
-// The number of used places in the first n blocks of SYS.
-fn count_entries(image: &[u16], n: u32) -> u32
-    requires { ⌜ Readable (now image) n ⌝ }
-    ensures { λ r. ⌜ CountOf (blockRecords (now (image .entry)) n) r ⌝ }
+// The number of used places in the first n blocks of a catalog.
+fn count_entries(image: &[u16], c: Catalog, n: u32) -> u32
+    requires { ⌜ Readable (now image) c n ⌝ }
+    ensures { λ r. ⌜ CountOf (blockRecords (now (image .entry)) c n) r ⌝ }
 {
     let mut count: u32 = 0;
     let mut b: u32 = 0;
     while b < n {
-        let q = index::sector_at(image, Sector(6), b);
+        let q = index::sector_at(image, c.index, b + c.from as u32);
         count += count_slots(image, q);
         b += 1;
     }
@@ -138,15 +139,15 @@ fn note_slots(image: &[u16], q: Sector, lent: &mut [u16], start: usize) -> usize
     at
 }
 
-// Stores the records of the entries in the first n blocks of SYS from lent word `start` on.
-fn note_entries(image: &[u16], n: u32, lent: &mut [u16], start: usize)
-    requires { ⌜ Readable (now image) n × (start + length (blockRecords (now image) n) ≤ length (now lent)) ⌝ }
-    ensures { λ _. ⌜ now (lent .exit) ≡ store (now (lent .entry)) start (blockRecords (now (image .entry)) n) ⌝ }
+// Stores the records of the entries in the first n blocks of a catalog from lent word `start` on.
+fn note_entries(image: &[u16], c: Catalog, n: u32, lent: &mut [u16], start: usize)
+    requires { ⌜ Readable (now image) c n × (start + length (blockRecords (now image) c n) ≤ length (now lent)) ⌝ }
+    ensures { λ _. ⌜ now (lent .exit) ≡ store (now (lent .entry)) start (blockRecords (now (image .entry)) c n) ⌝ }
 {
     let mut at = start;
     let mut b: u32 = 0;
     while b < n {
-        let q = index::sector_at(image, Sector(6), b);
+        let q = index::sector_at(image, c.index, b + c.from as u32);
         at = note_slots(image, q, lent, at);
         b += 1;
     }
@@ -159,11 +160,11 @@ pub fn list(image: &[u16], unit: Unit, lent: &mut [u16]) -> Answer
     ensures { λ r. ⌜ Lists (now (image .entry)) unit (now (lent .entry)) r (now (lent .exit)) ⌝ }
 {
     let blocks = unit.catalog.keys as u32 * unit.catalog.layers as u32;
-    let count = count_entries(image, blocks);
+    let count = count_entries(image, unit.catalog, blocks);
     if lent.len() < 16 * count as usize {
         return refused();
     }
-    note_entries(image, blocks, lent, 4 * count as usize);
+    note_entries(image, unit.catalog, blocks, lent, 4 * count as usize);
     order::by_name(image, lent, count as usize);
     Answer {
         result: 0,

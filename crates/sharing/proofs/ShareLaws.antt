@@ -1,5 +1,5 @@
 -- Reserve, Release and Position on the state are those of the plain unit: what each leaves beside the outcome.
-use mathlib.Core.Path.{_≡_, refl, sym, ap, _∙_, subst}
+use mathlib.Core.Path.{_≡_, refl, sym, ap, _∙_}
 use mathlib.Core.Bool.{Bool, true, false, cond}
 use mathlib.Core.List.{List}
 use mathlib.Core.Logic.{_≢_}
@@ -10,7 +10,6 @@ use lib.Dec.{leb}
 use lib.ListN.{length}
 use lib.Seq.{set-getD}
 use borrow.Author.Tests.{leb-true}
-use Rattle.types.specs.declared.Answer.{Answer}
 use Rattle.types.specs.declared.User.{User}
 use Rattle.types.specs.declared.State.{State}
 use Rattle.types.specs.declared.Operation.the-variants.{Reserve}

@@ -12,16 +12,22 @@ use Rattle.disc.specs.Words.{Words}
 use Rattle.disc.specs.Slices.{InRangeOnce}
 use Rattle.disc.proofs.NumberLaws.{ceilDiv-le}
 use Rattle.disc.proofs.SliceLaws.{occurrences-append}
+use Rattle.disc.proofs.DecideLaws.{holds, fails}
 use Rattle.sound.specs.State.{Shaped}
 use Rattle.sound.specs.Sound.{SoundWith, SoundUnit}
 use Rattle.sound.specs.Parts.{SoundUsers}
+use Rattle.catalog.specs.declared.Unit.{Unit}
+use Rattle.catalog.specs.Catalog.{sysValue}
 use Rattle.kit.specs.declared.Geometry.{Geometry}
 use Rattle.kit.specs.Geometry.{GeometryOf, UnitOf, SoundByKit}
 use Rattle.kit.proofs.KitLaws.{sound-unit}
 use Rattle.marks.specs.Marked.{Marked}
 use Rattle.entries.specs.Sys.{sysSlices, sysWith}
 use Rattle.files.specs.Walk.{SysKnown, sysHeld}
+use Rattle.soundness.specs.declared.Judged.{Judged}
+use Rattle.soundness.specs.declared.Judged.the-variants.{Sound, Unsound}
 use Rattle.soundness.specs.Layers.{SysSound, SysMarking, SoundLayers}
+use Rattle.soundness.specs.Judged.{NumbersBy, Judges}
 
 -- ---- what a sound unit has, by the numbers in the kit
 
@@ -79,12 +85,14 @@ module _ {image : List ℕ} {g : Geometry} (is : GeometryOf image g) where
     }
 
     -- the number of layers that was found is the only one
+    layers-are : {marks : List ℕ} {r : ℕ} → SysMarking image g marks r → (u : SoundUnit image state) → r ≡ u .layers
+    layers-are found u = let w = by-geometry u in found .only (u .layers) (by-sys w) (by-layers w .names)
+
     pub unit-layers : {marks : List ℕ} {r : ℕ} → SysMarking image g marks r → SoundUnit image state
         → SysSound image g r × SoundLayers image state g r
     unit-layers {r = r} found u =
         let w = by-geometry u in
-        let only : r ≡ u .layers = found .only (u .layers) (by-sys w) (by-layers w .names) in
-        subst (λ (L : ℕ). SysSound image g L × SoundLayers image state g L) (sym only) (by-sys w, by-layers w)
+        subst (λ (L : ℕ). SysSound image g L × SoundLayers image state g L) (sym (layers-are found u)) (by-sys w, by-layers w)
 
     layers-unit : {L : ℕ} → Words image → Shaped state → SoundUsers state → SoundByKit image
         → SysSound image g L → SoundLayers image state g L → SoundUnit image state
@@ -122,3 +130,39 @@ module _ {image : List ℕ} {g : Geometry} (is : GeometryOf image g) where
       yes = λ e. layers-unit words shaped users kit s (d .yes e);
       not = λ e u. d .not e (unit-layers found u .1);
     }
+
+    -- ---- the numbers
+
+    pub numbers-by : {marks : List ℕ} {r : ℕ} → SysMarking image g marks r → (u : SoundUnit image state)
+        → NumbersBy image state u (record { slice = g .slice; first = g .first; slices = g .slices; catalog = sysValue (g .keys) r })
+    numbers-by found u = record {
+      slice = is .slice;
+      first = is .first;
+      slices = rw (← is .slice, ← is .first, ← is .sectors) (is .slices);
+      catalog = record { index = refl; from = refl; keys = is .keys; layers = layers-are found u };
+    }
+
+-- ---- the answer
+
+module _ {image : List ℕ} {state : State} where
+  pub not-sound : (SoundUnit image state → ⊥) → Judges image state Unsound
+  not-sound refuted = record {
+    sound = fails refuted;
+    areaSound = fails refuted;
+    numbers = λ u e. absurd (let z : _≡_ {A = ℕ} 0 1 = cc in omega arith);
+  }
+
+  pub is-sound : {u : Unit} → SoundUnit image state → ((unit : SoundUnit image state) → NumbersBy image state unit u)
+      → Judges image state (Sound u)
+  is-sound {u} sound numbers = record {
+    sound = holds sound;
+    areaSound = holds sound;
+    numbers = λ v e unit. let z : u ≡ v = cc in subst (NumbersBy image state unit) z (numbers unit);
+  }
+
+  module _ {r : Judged} (judged : Judges image state r) where
+    pub judged-sound : {u : Unit} → r ≡ Sound u → SoundUnit image state
+    judged-sound e = (rw e at (judged .sound)) .yes refl
+
+    pub judged-unsound : r ≡ Unsound → SoundUnit image state → ⊥
+    judged-unsound e = (rw e at (judged .sound)) .not refl

@@ -15,12 +15,20 @@ ghost use Rattle.marks.specs.Marked.{Marked};
 ghost use Rattle.files.specs.Walk.{SysKnown};
 ghost use Rattle.soundness.specs.Areas.{OrdinaryEntered, AreasEntered};
 ghost use Rattle.soundness.specs.Layers.{SysMarking, SoundLayers};
+ghost use Rattle.soundness.specs.Judged.{Judges};
 use catalog::Catalog;
 use catalog::Found;
+use catalog::Unit;
 use kit::Geometry;
 use types::Name;
 use types::Sector;
 use types::State;
+
+// Whether a unit is sound, and the numbers of one that is.
+pub enum Judged {
+    Sound(Unit),
+    Unsound,
+}
 
 // Whether a name is entered in SYS, and not SYS or MAP.
 fn name_entered(image: &[u16], g: Geometry, sys: Catalog, name: Name) -> bool
@@ -95,21 +103,41 @@ fn layers_sound(
     marks::map_agrees(image, marks, g)
 }
 
-// Whether image and state are a sound unit.
-pub fn sound(image: &[u16], state: State) -> bool
-    ensures { λ r. ⌜ Decides r (SoundUnit (now (image .entry)) state) ⌝ }
+// Whether image and state are a sound unit. The numbers of one that is need not be read again.
+pub fn judge(image: &[u16], state: State) -> Judged
+    ensures { λ r. ⌜ Judges (now (image .entry)) state r ⌝ }
 {
     if !users::users_sound(state) {
-        return false;
+        return Judged::Unsound;
     }
     if !kit::kit_sound(image) {
-        return false;
+        return Judged::Unsound;
     }
     let g = kit::geometry_of(image);
     let mut marks: [u8; 4096] = [0; 4096];
     let layers = mark_sys(image, g, &mut marks);
     if layers == 0 {
-        return false;
+        return Judged::Unsound;
     }
-    layers_sound(image, state, g, catalog::sys(g.keys, layers), &mut marks)
+    let sys = catalog::sys(g.keys, layers);
+    if !layers_sound(image, state, g, sys, &mut marks) {
+        return Judged::Unsound;
+    }
+    let first = g.first;
+    Judged::Sound(Unit {
+        slice: g.slice,
+        first: first,
+        slices: g.slices,
+        catalog: sys,
+    })
+}
+
+// The same as a truth value.
+pub fn sound(image: &[u16], state: State) -> bool
+    ensures { λ r. ⌜ Decides r (SoundUnit (now (image .entry)) state) ⌝ }
+{
+    match judge(image, state) {
+        Judged::Sound(_) => true,
+        Judged::Unsound => false,
+    }
 }

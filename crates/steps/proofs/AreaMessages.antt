@@ -9,27 +9,26 @@ use Prim.Native.Nat.{ℕ, _≤_, _<_}
 use native.Mathlib.Omega.{arith}
 use lib.Dec.{eqb, ltb}
 use lib.ListN.{length}
-use lib.Seq.{getD-set-same, set-set, set-getD}
+use lib.Seq.{getD-set-same, set-getD}
 use Rattle.types.specs.declared.Block.{Block}
 use Rattle.types.specs.declared.Sector.{Sector}
-use Rattle.types.specs.declared.User.{User}
 use Rattle.types.specs.declared.Area.{Area}
 use Rattle.types.specs.declared.State.{State}
-use Rattle.types.specs.State.{vacantUser, pastArea, areaAt, userAt}
+use Rattle.types.specs.State.{pastArea, areaAt, userAt}
 use Rattle.disc.specs.Entries.{indexSector}
 use Rattle.disc.proofs.DecideLaws.{true≢false}
 use Rattle.state.specs.declared.Found.{Found}
 use Rattle.state.specs.declared.Found.the-variants.{At, Absent}
 use Rattle.state.specs.declared.Kind.{Kind}
 use Rattle.state.specs.declared.Reserved.{Reserved}
-use Rattle.state.specs.Areas.{setArea, setUser, areaNamed, entryOf, anyOther, openedAgain, answered, placedAt, shutOut, reserved, released, movedUser, moved, withLive}
+use Rattle.state.specs.Areas.{setArea, setUser, areaNamed, entryOf, anyOther, openedAgain, answered, placedAt, shutOut, reserved, released, moved, withLive}
 use Rattle.plain.specs.Table.{Table, tableFind, tablePut}
 use Rattle.plain.specs.Unit.{Plain, File, AreaUser, withAreas}
 use Rattle.plain.specs.Questions.{Outcome}
 use Rattle.plain.specs.Areas as plain
 use Rattle.plain.specs.Transput.{rewritten, withFile}
 use Rattle.plain.specs.Good.{Good}
-use Rattle.plain.proofs.TableLaws.{some-inj, find-put, find-put-other}
+use Rattle.plain.proofs.TableLaws.{find-put, find-put-other}
 use Rattle.plain.proofs.QuestionLaws.{asks-law}
 use Rattle.plain.proofs.KeepsAreas.{reserve-keeps, release-keeps, move-good}
 use Rattle.refine.specs.Represents.{usersIn, areaOfState, areaOfUnit, SameAreas}
@@ -37,7 +36,6 @@ use Rattle.refine.specs.OnDisc.{OnDisc}
 use Rattle.refine.proofs.UserLaws.{plainUser, DistinctUsers, weightOf, entry-inside, user-found, user-absent, other-law, live-users}
 use Rattle.refine.proofs.ReserveLaws.{outcomeOf, reserve-law, only-users, reserve-users, reserve-distinct, move-law, release-law, move-distinct, release-distinct}
 use Rattle.refine.proofs.StateLaws.{unitArea, named-inside, named-open, named-name, same-found, same-index, same-size, same-users, same-set, same-put}
-use Rattle.refine.proofs.Ground.{ground, length-small}
 use Rattle.steps.proofs.AreaSteps.{areas-on}
 
 -- ---- descriptors set twice, and set to what they are
@@ -45,17 +43,8 @@ use Rattle.steps.proofs.AreaSteps.{areas-on}
 pub area-set : (state : State) (j : ℕ) (new : Area) → j < length (state .areas) → areaAt (setArea state j new) j ≡ new
 area-set state j new h = getD-set-same (state .areas) j new pastArea h
 
-pub area-set-twice : (state : State) (j : ℕ) (x y : Area) → setArea (setArea state j x) j y ≡ setArea state j y
-area-set-twice state j x y = ap (λ (l : List Area). record { unit = state .unit; initialized = state .initialized; areas = l }) (set-set (state .areas) j x y)
-
 pub area-set-same : (state : State) (j : ℕ) → setArea state j (areaAt state j) ≡ state
 area-set-same state j = ap (λ (l : List Area). record { unit = state .unit; initialized = state .initialized; areas = l }) (set-getD (state .areas) j pastArea)
-
--- a position set twice
-pub moved-twice : (a : Area) (u : ℕ) (x y : Block) → u < length (a .users) → moved (moved a u x) u y ≡ moved a u y
-moved-twice a u x y h =
-    ap (λ (v : User). setUser (moved a u x) u (movedUser v y)) (getD-set-same (a .users) u (movedUser (userAt a u) x) vacantUser h)
-    ∙ ap (λ (l : List User). record { live = a .live; name = a .name; index = a .index; length = a .length; users = l }) (set-set (a .users) u _ _)
 
 -- ---- a Reserve that is refused leaves the descriptor
 
@@ -182,23 +171,10 @@ module _ {state : State} {p : Plain} (r : SameAreas state p) (n j : ℕ) (e : ar
           let inside = area .each sender (plainUser (userAt (areaAt state j) u)) sender-found .inside in
           omega (arith, inside, same-size state p r n j (area .file) e (area .entered))
 
-  -- the live length is a file's
-  pub length-low : Good p → areaAt state j .length ≤ 32767
-  length-low g =
-      let area = g .areas n (usersIn (areaAt state j .users)) area-found in
-      omega (arith, length-small p (ground p g) n (area .file) (area .entered), same-size state p r n j (area .file) e (area .entered))
-
 -- ---- the unit: an open area has a file, and its users' positions are in it
 
 pub area-file : {p : Plain} → Good p → (n : ℕ) {users : Table AreaUser} → tableFind n (p .areas) ≡ some users → (f : File) × (tableFind n (p .files) ≡ some f)
 area-file g n {users} live = let a = g .areas n users live in (a .file, a .entered)
-
-pub position-in : {p : Plain} → Good p → (n sender : ℕ) {users : Table AreaUser} {u : AreaUser} {f : File} → tableFind n (p .areas) ≡ some users → tableFind sender users ≡ some u → tableFind n (p .files) ≡ some f
-    → u .position ≤ length (f .sectors)
-position-in g n sender {users} {u} {f} live w found =
-    let a = g .areas n users live in
-    let z : f ≡ a .file = some-inj (sym found ∙ a .entered) in
-    omega (arith, a .each sender u w .inside, ap (λ (x : File). length (x .sectors)) z)
 
 -- ---- the image stays
 

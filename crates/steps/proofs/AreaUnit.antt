@@ -20,9 +20,6 @@ use Rattle.plain.proofs.QuestionLaws.{true-yes, false-no, asks-yes, asks-no, gi
 -- ---- "open? 4800h; no other exclusive user? 0200h; sender not 0? 0810h; known operation? 0A00h"
 
 module _ (p : Plain) (name : Name) (sender : ℕ) (operation : Operation) (lent : List ℕ) where
-  pub area-unknown : known p (unitIn name) ≡ false → stepArea p name sender operation lent ≡ replies p 0x0A00 lent
-  area-unknown k = asks-no _ _ _ (false-no k)
-
   module _ (k : known p (unitIn name) ≡ true) where
     pub area-shut : tableFind (named name) (p .areas) ≡ none → stepArea p name sender operation lent ≡ replies p 0x4800 lent
     area-shut e = asks-yes _ _ _ (true-yes k) ∙ given-none _ _ _ e

@@ -2,13 +2,11 @@
 -- unit after `changeFile`, and the open areas are the state's.
 use mathlib.Core.Path.{_≡_, sym, ap, _∙_, subst}
 use mathlib.Core.List.{List}
-use mathlib.Core.Logic.{_≢_, _⊎_}
 use mathlib.Core.Option.{some}
-use Prim.Native.Nat.{ℕ, _/_, _%_, _<_}
+use Prim.Native.Nat.{ℕ, _<_}
 use lib.Dec.{T}
 use Rattle.types.specs.declared.State.{State}
 use Rattle.disc.specs.Words.{Words}
-use Rattle.disc.specs.Names.{keyOf}
 use Rattle.disc.specs.Stretches.{sysFrom}
 use Rattle.disc.specs.Entries.{placeWord, placeCount, nameAt}
 use Rattle.plain.specs.Table.{tableFind, tablePut, tableRemove}
@@ -16,14 +14,11 @@ use Rattle.plain.specs.Unit.{Plain, File, sysOf, withFiles}
 use Rattle.plain.specs.Questions.{Outcome}
 use Rattle.plain.specs.Catalog.{isRecord, changeFile}
 use Rattle.plain.specs.Good.{Good}
-use Rattle.plain.proofs.GrowUnit.{entry-grown}
-use Rattle.plain.proofs.ChangeUnit.{changeGrown, changedOn, changedUnit, ChangeAsked, change-outcome, change-shut, change-shutₘ, change-changes, changeLayers, kept-unit, moved-vacant, moved-fits}
-use Rattle.sound.specs.Places.{Unused}
+use Rattle.plain.proofs.ChangeUnit.{changeGrown, changedOn, changedUnit, ChangeAsked, change-outcome, change-shut, change-shutₘ, change-changes, changeLayers, kept-unit}
 use Rattle.refine.specs.Represents.{SameAreas}
 use Rattle.refine.specs.OnDisc.{OnDisc}
-use Rattle.refine.specs.Writes.{changedImage, renamedImage}
+use Rattle.refine.specs.Writes.{changedImage}
 use Rattle.steps.proofs.ChangeStep.{change-on}
-use Rattle.steps.proofs.RenameStep.{rename-on}
 use Rattle.steps.proofs.ChangeAreas.{areas-grown, areas-changed}
 
 module _ (p : Plain) (n m size attributes : ℕ) (f : File) (lent : List ℕ) (g : Good p) (found : tableFind n (p .files) ≡ some f)
@@ -55,22 +50,6 @@ module _ (p : Plain) (n m size attributes : ℕ) (f : File) (lent : List ℕ) (g
       where
         name-back : withFiles grown (tablePut n (on grown) (tableRemove n (p .files))) ≡ changedUnit p n m size attributes f lent grown
         name-back = ap (λ (x : ℕ). withFiles grown (tablePut x (on grown) (tableRemove n (p .files)))) (sym e)
-
-    -- another name, on the unit q with SYS grown where its key is full
-    pub change-moved : m ≢ n → (q : Plain) → changeGrown p n m size attributes f lent ≡ q → (i : List ℕ) → OnDisc i q
-        → (t : ℕ) → t < placeCount (q .H) (q .layers) → nameAt (placeWord i (q .F) (q .s) (q .sys) sysFrom) t ≡ n
-        → (u : ℕ) → u < placeCount (q .H) (q .layers) → u / 16 % q .H ≡ keyOf (q .H) m → (u ≡ t) ⊎ Unused (placeWord i (q .F) (q .s) (q .sys) sysFrom) u
-        → OnDisc (renamedImage q (sysOf q) i t u m f (on q)) unit
-    change-moved d q e i =
-        subst
-        (λ (q : Plain). OnDisc i q → (t : ℕ) → t < placeCount (q .H) (q .layers) → nameAt (placeWord i (q .F) (q .s) (q .sys) sysFrom) t ≡ n
-        → (u : ℕ) → u < placeCount (q .H) (q .layers) → u / 16 % q .H ≡ keyOf (q .H) m → (u ≡ t) ⊎ Unused (placeWord i (q .F) (q .s) (q .sys) sysFrom) u
-        → OnDisc (renamedImage q (sysOf q) i t u m f (on q)) unit)
-        e
-        (λ o t in₀ was u in₁ key free. subst (λ (x : Plain). OnDisc (renamedImage grown (sysOf grown) i t u m f (on grown)) x) unit-is
-        (rename-on o n m found (change-shut p n m size attributes f lent g found asked) (change-changes p n m size attributes f lent g found asked w rec) d (asked .legal)
-        (entry-grown p (changeLayers p n m size attributes f lent) m (moved-vacant p n m size attributes f lent d asked)) (moved-fits p n m size attributes f lent g d)
-        t in₀ was u in₁ key free))
 
   -- the open areas
   pub change-areas : {state : State} → SameAreas state p → SameAreas state unit

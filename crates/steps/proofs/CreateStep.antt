@@ -19,7 +19,7 @@ use Rattle.plain.specs.Unit.{Plain, File, sysOf, held, freeSectors, fileEntry, 
 use Rattle.plain.specs.Taking.{zeroSectors}
 use Rattle.plain.specs.Good.{Good}
 use Rattle.plain.proofs.TableLaws.{find-put, find-put-other}
-use Rattle.plain.proofs.UnitLaws.{legal-positive, ordinary-files, entry-beside, entry-of}
+use Rattle.plain.proofs.UnitLaws.{legal-positive, entry-beside, entry-of}
 use Rattle.plain.proofs.CreateUnit.{NewFile, ordinary, long-sectors, held-more, created-good}
 use Rattle.sound.specs.Places.{Unused}
 use Rattle.refine.specs.Represents.{FileOnImage, Layout}
@@ -29,7 +29,7 @@ use Rattle.refine.proofs.Sectors.{Same, same-trans, holds-kept, marked-outside-
 use Rattle.refine.proofs.CatalogLaws.{absent, name-zero}
 use Rattle.refine.proofs.Ground.{Ground, ground, entry-named, first-in, block-in, file-data, in-file, catalog-file, sys-ground, catalog-data, part-file, sys-ground}
 use Rattle.refine.proofs.Writers.{Off, place-same, long, write-used, write-file, write-entry}
-use Rattle.refine.proofs.PlaceCount.{unused-room}
+use Rattle.refine.proofs.PlaceCount.{sys-entries, unused-room}
 use Rattle.steps.proofs.WriteLaws.{counted-on, zeroed-size, zeroed-keep, zeroed-zero, words-zeroed, taken-size, taken-keep, taken-holds, words-taken, part-in-map, words-index-part, words-marks, words-file-entry, zero-holds}
 
 zero-block : (j : List ℕ) (q c b : ℕ) → b < c → ((w : ℕ) → w < 256 → word j q w ≡ 0) → Holds j q (getD (zeroSectors c) b [])
@@ -43,7 +43,7 @@ module _ {i : List ℕ} {p : Plain} (o : OnDisc i p) {n : ℕ} {f : File} (new :
   p′ = withFiles p (tablePut n f (p .files))
 
   good′ : Good p′
-  good′ = created-good (o .good) new (unused-room p (o .good .catalog .names) (ordinary-files (o .good)) (o .layout .sys .places) (keyOf (p .H) n) t in₀ key clear)
+  good′ = created-good (o .good) new (unused-room (sys-entries (o .good)) (o .layout .sys .places) (keyOf (p .H) n) t in₀ key clear)
 
   gr : Ground p
   gr = ground p (o .good)

@@ -3,7 +3,7 @@
 use mathlib.Core.Path.{_≡_, refl, sym, ap, _∙_}
 use mathlib.Core.List.{List, _++_}
 use mathlib.Core.Logic.{_≢_}
-use Prim.Native.Nat.{ℕ, zero, suc, _+_, _*_, _-_, _/_, _%_, _≤_, _<_}
+use Prim.Native.Nat.{ℕ, suc, _+_, _*_, _-_, _/_, _%_, _≤_, _<_}
 use native.Mathlib.Omega.{arith}
 use lib.ListN.{length}
 use Rattle.disc.specs.Numbers.{ceilDiv}
@@ -21,14 +21,13 @@ use Rattle.plain.specs.Unit.{Plain, sysOf, held, freeSlices, freeSectors, entry
 use Rattle.plain.specs.Good.{Good}
 use Rattle.plain.proofs.UnitLaws.{occurrences-held, entry-sys}
 use Rattle.plain.proofs.GrowUnit.{entry-but-sys, grown-good}
-use Rattle.sound.specs.Places.{Unused}
 use Rattle.refine.specs.Represents.{Layout}
 use Rattle.refine.specs.OnDisc.{OnDisc}
 use Rattle.refine.specs.Writes.{countedFree, storePlace, zeroedSectors, takenImage, grownImage, grownSys}
 use Rattle.refine.proofs.Sectors.{Same, marked-outside-map, same-trans, holds-kept}
 use Rattle.refine.proofs.CatalogLaws.{name-cong}
 use Rattle.refine.proofs.Ground.{Ground, ground, entry-named, joined-in, sys-ground, catalog-data, place-in}
-use Rattle.refine.proofs.Writers.{place-off, place-same, long, write-used, write-layer, layer-old, layer-new, grown-sector}
+use Rattle.refine.proofs.Writers.{place-off, place-same, long, write-used, NewLayer, write-layer, layer-old, grown-sector}
 use Rattle.steps.proofs.WriteLaws.{counted-on, counted-keep, zeroed-size, zeroed-keep, zeroed-zero, words-zeroed, taken-size, taken-keep, taken-index, words-taken, part-in-map, words-index-part, words-marks, words-sys-entry, write-own}
 use Rattle.steps.specs.Units.{layerSlices, grownUnit}
 
@@ -78,13 +77,13 @@ module _ {i : List ℕ} {p : Plain} (o : OnDisc i p) (room : ceilDiv (p .H * suc
   size₃ : length i₃ ≡ length i₁
   size₃ = zeroed-size i₂ (p .F) (p .s) all (p .H * p .layers + sysFrom) (p .H) ∙ size₂
 
-  data₃ : (x : ℕ) → x < p .H * suc (p .layers) → (10 ≤ sectorIn (p .F) (p .s) all x) × (sectorIn (p .F) (p .s) all x < p .N)
+  data₃ : (x : ℕ) → x < p .H * suc (p .layers) + sysFrom → (10 ≤ sectorIn (p .F) (p .s) all x) × (sectorIn (p .F) (p .s) all x < p .N)
   data₃ x hi = catalog-data (sys-ground gr′) x (joined-in (sys-ground gr′) x (omega (arith, hi)))
 
-  zeroed-off : (q : ℕ) → ((b : ℕ) → p .H * p .layers ≤ b → b < p .H * suc (p .layers) → q ≢ sectorIn (p .F) (p .s) all b) → Same i₂ i₃ q
+  zeroed-off : (q : ℕ) → ((b : ℕ) → p .H * p .layers + sysFrom ≤ b → b < p .H * suc (p .layers) + sysFrom → q ≢ sectorIn (p .F) (p .s) all b) → Same i₂ i₃ q
   zeroed-off q off = zeroed-keep i₂ (p .F) (p .s) all (p .H * p .layers + sysFrom) (p .H) q (λ x lo hi. off x (omega arith) (omega arith))
 
-  keep₃ : (q : ℕ) → q ≢ 6 → ((b : ℕ) → p .H * p .layers ≤ b → b < p .H * suc (p .layers) → q ≢ sectorIn (p .F) (p .s) all b) → Same i₁ i₃ q
+  keep₃ : (q : ℕ) → q ≢ 6 → ((b : ℕ) → p .H * p .layers + sysFrom ≤ b → b < p .H * suc (p .layers) + sysFrom → q ≢ sectorIn (p .F) (p .s) all b) → Same i₁ i₃ q
   keep₃ q d off = same-trans (taken-keep i sysIndexSector (p .F) (p .s) (p .sys) new few q (λ x. d)) (zeroed-off q off)
 
   six₃ : Holds i₃ 6 (indexWords (p .F) (p .s) all)
@@ -92,12 +91,15 @@ module _ {i : List ℕ} {p : Plain} (o : OnDisc i p) (room : ceilDiv (p .H * suc
       holds-kept (taken-index i sysIndexSector (p .F) (p .s) (p .sys) new few (omega (arith, long gr r₁)) (r₁ .sys .index))
       (zeroed-off 6 (λ b lo hi e. let d = data₃ b hi in omega (arith, d .0)))
 
-  zero₃ : (b w : ℕ) → p .H * p .layers ≤ b → b < p .H * suc (p .layers) → w < 256 → word i₃ (sectorIn (p .F) (p .s) all b) w ≡ 0
+  zero₃ : (b w : ℕ) → p .H * p .layers + sysFrom ≤ b → b < p .H * suc (p .layers) + sysFrom → w < 256 → word i₃ (sectorIn (p .F) (p .s) all b) w ≡ 0
   zero₃ b w lo hi x =
       zeroed-zero i₂ (p .F) (p .s) all (p .H * p .layers + sysFrom) (p .H) (λ y a c. let d = data₃ y (omega arith) in omega (arith, d .1, size₂, r₁ .size)) b w (omega arith) (omega arith) x
 
+  layer₃ : NewLayer p (sysOf p) new i₁ i₃
+  layer₃ = record { size = size₃; keep = keep₃; index = six₃; zeroed = zero₃ }
+
   r₃ : Layout i₃ grown (freeSectors p) (held grown) (entry p)
-  r₃ = write-layer gr r₁ new gr′ i₃ size₃ keep₃ six₃ zero₃
+  r₃ = write-layer gr r₁ new gr′ i₃ layer₃
 
   words₃ : Words i₃
   words₃ =
@@ -111,7 +113,7 @@ module _ {i : List ℕ} {p : Plain} (o : OnDisc i p) (room : ceilDiv (p .H * suc
       marked-outside-map 0 i new (omega arith) (part-in-map grown gr′ new part) (long gr (o .layout)) .same _ (let d = catalog-data (sys-ground gr) q x in omega (arith, d .0), tt))
 
   old₃ : (u w : ℕ) → u < placeCount (p .H) (p .layers) → w < 16 → placeWord i₃ (p .F) (p .s) all sysFrom u w ≡ placeWord i (p .F) (p .s) (p .sys) sysFrom u w
-  old₃ u w x y = layer-old gr r₁ new gr′ i₃ size₃ keep₃ six₃ zero₃ u w x y ∙ old₁ u w x y
+  old₃ u w x y = layer-old (sys-ground gr) (sys-ground gr′) layer₃ u w x y ∙ old₁ u w x y
 
   module _ (t : ℕ) (in₀ : t < placeCount (p .H) (p .layers)) (was : nameAt (placeWord i (p .F) (p .s) (p .sys) sysFrom) t ≡ SYS) where
     abbrev e : List ℕ
@@ -125,7 +127,7 @@ module _ {i : List ℕ} {p : Plain} (o : OnDisc i p) (room : ceilDiv (p .H * suc
 
     -- SYS's entry stands in an old place
     same-place : storePlace grown (sysOf grown) i₃ t e ≡ i₄
-    same-place = ap (λ (q : ℕ). store i₃ (q * 256 + t % 16 * 16) e) (grown-sector gr (o .layout) new (t / 16 + sysFrom) (place-in (sys-ground gr) t in₀))
+    same-place = ap (λ (q : ℕ). store i₃ (q * 256 + t % 16 * 16) e) (grown-sector (p .F) (p .s) (p .sys) new (t / 16 + sysFrom) (place-in (sys-ground gr) t in₀))
 
     r₄ : Layout i₄ grown (freeSectors p) (held grown) (entry grown)
     r₄ =
@@ -152,7 +154,3 @@ module _ {i : List ℕ} {p : Plain} (o : OnDisc i p) (room : ceilDiv (p .H * suc
     pub grow-old : (u w : ℕ) → u < placeCount (p .H) (p .layers) → u ≢ t → w < 16
         → placeWord (grownSys p i t (layerSlices p)) (p .F) (p .s) (p .sys ++ layerSlices p) sysFrom u w ≡ placeWord i (p .F) (p .s) (p .sys) sysFrom u w
     grow-old u w x d y = late u w (omega arith) d y ∙ old₃ u w x y
-
-    pub grow-unused : (u : ℕ) → placeCount (p .H) (p .layers) ≤ u → u < placeCount (p .H) (suc (p .layers))
-        → Unused (placeWord (grownSys p i t (layerSlices p)) (p .F) (p .s) (p .sys ++ layerSlices p) sysFrom) u
-    grow-unused u lo hi = record { zero = λ w y. late u w hi (omega arith) y ∙ layer-new gr r₁ new gr′ i₃ size₃ keep₃ six₃ zero₃ u lo hi .zero w y }

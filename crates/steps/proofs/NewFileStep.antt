@@ -14,11 +14,10 @@ use Rattle.plain.specs.Catalog.{newFile}
 use Rattle.plain.specs.Good.{WordsOf}
 use Rattle.plain.proofs.TakingLaws.{layers-stay, layers-grow}
 use Rattle.plain.proofs.CreateUnit.{unitAfter, Yes, newFile-done, sys-room, sys-few, unit-grown, new-grown, unit-stays, new-stays}
-use Rattle.plain.proofs.UnitLaws.{ordinary-files}
 use Rattle.sound.specs.Places.{Unused}
 use Rattle.refine.specs.OnDisc.{OnDisc}
 use Rattle.refine.specs.Writes.{createdImage, grownSys}
-use Rattle.refine.proofs.PlaceCount.{unused-room, used-full}
+use Rattle.refine.proofs.PlaceCount.{sys-entries, unused-room, used-full}
 use Rattle.steps.specs.Units.{layerSlices, grownUnit, newFileOf}
 use Rattle.steps.proofs.GrowStep.{grow-on}
 use Rattle.steps.proofs.CreateStep.{create-on}
@@ -36,7 +35,7 @@ module _ {i : List ℕ} {p : Plain} (o : OnDisc i p) (n size attributes : ℕ) (
   pub new-file-stays : (t : ℕ) → t < placeCount (p .H) (p .layers) → Unused (placeWord i (p .F) (p .s) (p .sys) sysFrom) t → t / 16 % p .H ≡ keyOf (p .H) n
       → OnDisc (createdImage p (sysOf p) i t n (newFileOf p size attributes optional tail)) (newFile p n size attributes optional tail lent .unit)
   new-file-stays t x clear key =
-      let e : layersFor (p .H) (sysOf p) n (p .files) ≡ p .layers = layers-stay (p .H) (sysOf p) n (p .files) (unused-room p (o .good .catalog .names) (ordinary-files (o .good)) (o .layout .sys .places) (keyOf (p .H) n) t x key clear) in
+      let e : layersFor (p .H) (sysOf p) n (p .files) ≡ p .layers = layers-stay (p .H) (sysOf p) n (p .files) (unused-room (sys-entries (o .good)) (o .layout .sys .places) (keyOf (p .H) n) t x key clear) in
       let f : File = newFileOf p size attributes optional tail in
       subst (λ (q : Plain). OnDisc (createdImage p (sysOf p) i t n f) q) (sym (at-layers (p .layers) e ∙ unit-stays (o .good) n size attributes optional tail))
       (create-on o (new-stays (o .good) n size attributes optional tail (yes-at (p .layers) e) three six) t x clear key)
@@ -44,7 +43,7 @@ module _ {i : List ℕ} {p : Plain} (o : OnDisc i p) (n size attributes : ℕ) (
   -- the key has none: SYS grows first, its entry in place ts
   module _ (full : (t : ℕ) → t < placeCount (p .H) (p .layers) → t / 16 % p .H ≡ keyOf (p .H) n → Unused (placeWord i (p .F) (p .s) (p .sys) sysFrom) t → ⊥) where
     grows : layersFor (p .H) (sysOf p) n (p .files) ≡ suc (p .layers)
-    grows = layers-grow (p .H) (sysOf p) n (p .files) (used-full p (o .good .catalog .names) (ordinary-files (o .good)) (o .layout .sys .places) (keyOf (p .H) n) (mod-lt _ (o .good .limits .keys-low)) full)
+    grows = layers-grow (p .H) (sysOf p) n (p .files) (used-full (sys-entries (o .good)) (o .layout .sys .places) (keyOf (p .H) n) (mod-lt _ (o .good .limits .keys-low)) full)
 
     pub new-file-grows : (ts : ℕ) → ts < placeCount (p .H) (p .layers) → nameAt (placeWord i (p .F) (p .s) (p .sys) sysFrom) ts ≡ SYS
         → let j : List ℕ = grownSys p i ts (layerSlices p) in

@@ -27,7 +27,7 @@ use Rattle.refine.proofs.Ground.{ground, block-in, file-data}
 use Rattle.steps.specs.Units.{appendSlices}
 use Rattle.steps.proofs.OutputStep.{replace-on, append-on}
 use Rattle.steps.proofs.OutputUnit.{Appends}
-use Rattle.steps.proofs.AreaMessages.{move-on, output-on}
+use Rattle.steps.proofs.AreaMessages.{output-on}
 
 -- ---- the block at a position
 
@@ -65,9 +65,6 @@ module _ {p : Plain} {f : File} (a : Appends p f) where
 
 module _ {i : List ℕ} {p : Plain} (o : OnDisc i p) (n sender : ℕ) {users : Table AreaUser} {u : AreaUser} {f : File} (live : tableFind n (p .areas) ≡ some users)
     (w : tableFind sender users ≡ some u) (found : tableFind n (p .files) ≡ some f) (k : ℕ) where
-  pub input-on : k < length (f .sectors) → OnDisc i (moved p n sender users u (suc k))
-  input-on below = move-on o n sender live w found (suc k) below
-
   module _ (lent : List ℕ) (long : 256 ≤ length lent) (words : Words lent) where
     pub replaced-on : k < length (f .sectors)
         → OnDisc (replacedImage p i f k (take 256 lent)) (withFile n (rewritten f (f .slices) (set (f .sectors) k (take 256 lent))) (moved p n sender users u (suc k)))

@@ -3,13 +3,12 @@ use mathlib.Core.Path.{_≡_, refl, sym, ap, _∙_}
 use mathlib.Core.List.{List, [], _∷_, _++_}
 use mathlib.Core.Logic.{_≢_, _⊎_}
 use mathlib.Core.Option.{Option, some}
-use Prim.Native.Nat.{ℕ, zero, suc, _+_, _*_, _/_, _%_, _≤_, _<_}
+use Prim.Native.Nat.{ℕ, zero, suc, _+_, _*_, _/_, _≤_, _<_}
 use native.Mathlib.Omega.{arith}
 use native.Mathlib.Nat.{mul-le-mul-left}
 use lib.Dec.{T}
 use lib.ListN.{length, getD, set, length-append, length-set, List·getD-append}
 use lib.Seq.{getD-append-seam, getD-set-same, getD-set-other}
-use Rattle.disc.specs.Numbers.{sliceStart}
 use Rattle.disc.specs.Words.{Words, Holds}
 use Rattle.disc.specs.Attributes.{extendable}
 use Rattle.disc.specs.Slices.{occurrences, lastOf}
@@ -37,7 +36,7 @@ use Rattle.refine.specs.OnDisc.{OnDisc}
 use Rattle.refine.specs.Writes.{takenImage, replacedImage, appendedImage, extendedImage}
 use Rattle.refine.proofs.Sectors.{Same, same-refl, same-trans, holds-kept, sector-outside}
 use Rattle.refine.proofs.Ground.{Ground, ground, top, first-in, block-in, file-data, in-file, part-file}
-use Rattle.refine.proofs.Writers.{relabel, long, write-used, write-file}
+use Rattle.refine.proofs.Writers.{relabel, long, write-used, write-file, grown-sector}
 use Rattle.steps.proofs.WriteLaws.{counted-on, taken-size, taken-keep, taken-holds, taken-index, words-taken, words-index-part, words-marks, counted-store}
 use Rattle.steps.specs.Units.{appendSlices}
 
@@ -149,10 +148,7 @@ counted-small {i} {p} g w r =
     let le : p .s * onesInMap i ≤ p .s * M p = mul-le-mul-left (p .s) (omega (arith, sum-law (M p) (held p) (g .once))) in
     omega (arith, top p (ground p g), g .limits .sectors)
 
--- a list lengthened keeps its sectors, and its first slice
-pub sector-append : (F s : ℕ) (l m : List ℕ) (b : ℕ) → b / s < length l → sectorIn F s (l ++ m) b ≡ sectorIn F s l b
-sector-append F s l m b x = ap (λ (k : ℕ). sliceStart F s k + b % s) (List·getD-append l m 0 (b / s) x)
-
+-- a list lengthened keeps its first slice
 index-append : (F s c : ℕ) (l m : List ℕ) → c ≤ length l → indexSector F s c (l ++ m) ≡ indexSector F s c l
 index-append F s zero l m h = refl
 index-append F s (suc c) [] m h = absurd (omega arith)
@@ -232,14 +228,14 @@ module _ {i : List ℕ} {p : Plain} (o : OnDisc i p) (n : ℕ) {f : File} (found
       (λ z.
       let some-there : 0 < length (f .slices) = omega (arith, has, slices-count) in
       taken-index i q₀ (p .F) (p .s) (f .slices) new few₂ index-in
-      (rw (sector-append (p .F) (p .s) (f .slices) new 0 (first-in p gr (f .slices) some-there)) (r₄ .files n f found .index some-there)))
+      (rw (grown-sector (p .F) (p .s) (f .slices) new 0 (first-in p gr (f .slices) some-there)) (r₄ .files n f found .index some-there)))
       (λ d. taken-holds i q₀ (p .F) (p .s) (f .slices) new few₂ index-in (omega (arith, new-count)))
 
   r₆ : Layout (store i₅ (blockSector (p .F) (p .s) slices fileFrom (length (f .sectors)) * 256) words) after (freeSectors p) (held after) (entry p)
   r₆ =
       write-block gr r₄ n found slices sectors₂ gr′ (length (f .sectors)) words len (omega (arith, one-more)) (getD-append-seam (f .sectors) words [] [])
       (λ c x d. let lt : c < length (f .sectors) = omega (arith, one-more) in (lt, List·getD-append (f .sectors) (words ∷ []) [] c lt))
-      (λ c x. sector-append (p .F) (p .s) (f .slices) new (c + 1) (block-in p gr n f found c x))
+      (λ c x. grown-sector (p .F) (p .s) (f .slices) new (c + 1) (block-in p gr n f found c x))
       i₅ (taken-size i q₀ (p .F) (p .s) (f .slices) new) (λ q d. taken-keep i q₀ (p .F) (p .s) (f .slices) new few₂ q (λ x. d)) indexed₅
 
   part : (k : ℕ) → occurrences k new ≤ occurrences k (held after)

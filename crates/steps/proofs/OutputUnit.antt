@@ -10,8 +10,8 @@ use Rattle.disc.specs.Attributes.{writeProtected, extendable}
 use Rattle.disc.specs.Stretches.{stretchCount}
 use Rattle.plain.specs.Table.{Table}
 use Rattle.plain.specs.Unit.{Plain, File, AreaUser, freeSlices}
-use Rattle.plain.specs.Questions.{Outcome, replies, done, either, fill}
-use Rattle.plain.specs.Areas.{isWriter, other, moved, positioned, stepPosition}
+use Rattle.plain.specs.Questions.{Outcome, either, fill}
+use Rattle.plain.specs.Areas.{isWriter, other, moved, positioned}
 use Rattle.plain.specs.Transput.{isOutput, isRandom, refusedAt, transferred, rewritten, withFile, endWord, input, output, append, slicesToTake, stepTransput}
 use Rattle.plain.proofs.QuestionLaws.{true-yes, false-no, asks-yes, asks-no, either-yes, either-no}
 use Rattle.steps.specs.Units.{appendSlices}
@@ -70,20 +70,6 @@ pub record Appends (p : Plain) (f : File) : Type 0 where
 module _ (p : Plain) (n sender : ℕ) (users : Table AreaUser) (u : AreaUser) (f : File) where
   abbrev move : ℕ → Plain
   move = moved p n sender users u
-
-  -- ---- Position
-
-  module _ (block : ℕ) (lent : List ℕ) where
-    pub position-negative : negative block ≡ true → stepPosition p n sender users u f block lent ≡ replies (moved p n sender users u 0) 0x0A00 lent
-    position-negative e = positioned-negative move block (length (f .sectors)) _ _ e
-
-    pub position-past : negative block ≡ false → leb block (length (f .sectors)) ≡ false
-        → stepPosition p n sender users u f block lent ≡ replies (moved p n sender users u (length (f .sectors))) 0x0810 lent
-    position-past e l = positioned-past move block (length (f .sectors)) _ _ e l
-
-    pub position-done : negative block ≡ false → leb block (length (f .sectors)) ≡ true
-        → stepPosition p n sender users u f block lent ≡ done (moved p n sender users u block) lent
-    position-done e l = positioned-done move block (length (f .sectors)) _ _ e l
 
   -- ---- transput at position k, where q is the unit once Position was done
 

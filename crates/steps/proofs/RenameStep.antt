@@ -20,7 +20,8 @@ use Rattle.plain.specs.Taking.{placesTaken}
 use Rattle.plain.specs.Good.{Good}
 use Rattle.plain.proofs.TableLaws.{find-put, find-put-other, find-remove-other, sorted-remove}
 use Rattle.plain.proofs.UnitLaws.{legal-positive, vacant-name, no-area, entry-removed, entry-beside, entry-of}
-use Rattle.plain.proofs.TakingLaws.{chains-put, places-remove}
+use Rattle.plain.proofs.TakingLaws.{chains-put}
+use Rattle.plain.proofs.CatalogLaws.{catalog-removed}
 use Rattle.plain.proofs.ChangeUnit.{Changes, changed-good}
 use Rattle.sound.specs.Places.{Unused}
 use Rattle.refine.specs.Represents.{Layout}
@@ -55,7 +56,7 @@ module _ {i : List ℕ} {p : Plain} {f f′ : File} {size count : ℕ} (o : OnDi
   pub rename-good : Good after
   rename-good =
       changed-good c (o .good) n m found shut (no-area p m (o .good) fresh) legal (vacant-name p m unused .1)
-      (chains-put (p .H) (sysOf p) (p .layers) m f′ others (λ j. omega (arith, places-remove (p .H) j (sysOf p) n (p .files), o .good .catalog .chains j)) fits)
+      (chains-put (p .H) (sysOf p) (p .layers) m f′ others (catalog-removed (o .good .catalog) n .chains) fits)
 
   gr : Ground p
   gr = ground p (o .good)

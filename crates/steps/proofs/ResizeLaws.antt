@@ -102,44 +102,6 @@ module _ (image : List ℕ) (q F s : ℕ) (slices : List ℕ) where
   cut-some zero z h = absurd (omega arith)
   cut-some (suc keep) z h = rw (lt-leb (length slices) (suc keep) h) refl
 
-  -- the image with the slices after the first `keep` marked free, and with the index block of the first ones where it is written
-  pub cut-cases : (keep : ℕ) (P : List ℕ → Type 0)
-      → ((0 < keep → length slices ≤ keep) → P (allFree image (drop keep slices)))
-      → (0 < keep → P (store (allFree image (drop keep slices)) (q * 256) (wholeIndex F s (take keep slices))))
-      → P (cutImage image q F s slices keep)
-  cut-cases keep P plain written = below-or keep (length slices)
-      (λ (x : keep < length slices). same-or keep 0
-      (λ z. rw (cut-all keep z x) (plain (λ y. absurd (omega arith))))
-      (λ d. let y : 0 < keep = omega arith in rw (cut-some keep y x) (written y)))
-      (λ (x : length slices ≤ keep).
-      let e : allFree image (drop keep slices) ≡ image = ap (allFree image) (drop-of-length-le slices x) ∙ marked-none 1 image in
-      rw (cut-none keep x) (rw e at (plain (λ y. x))))
-
-  pub cut-size : (keep : ℕ) → length (cutImage image q F s slices keep) ≡ length image
-  cut-size keep =
-      let free : length (allFree image (drop keep slices)) ≡ length image = length-all-marked 1 (drop keep slices) image in
-      cut-cases keep (λ i. length i ≡ length image) (λ _. free)
-      (λ _. length-store (allFree image (drop keep slices)) (q * 256) (wholeIndex F s (take keep slices)) ∙ free)
-
-  -- the index block's sector alone changes beside the map
-  pub cut-keep : (keep : ℕ) → stretchCount (take keep slices) ≤ 127 → (r : ℕ) → r ≢ q → Same (allFree image (drop keep slices)) (cutImage image q F s slices keep) r
-  cut-keep keep few r d =
-      let i : List ℕ = allFree image (drop keep slices) in
-      cut-cases keep (λ j. Same i j r) (λ _. same-refl i r)
-      (λ _. sector-outside i (wholeIndex F s (take keep slices)) q (omega (arith, length-wholeIndex F s (take keep slices) few)) .same r (d, tt))
-
-  -- the index of the shorter list, where that of the list stood
-  pub cut-index : (keep : ℕ) → 0 < keep → stretchCount (take keep slices) ≤ 127 → q * 256 + 256 ≤ length (allFree image (drop keep slices))
-      → Holds (allFree image (drop keep slices)) q (indexWords F s slices) → Holds (cutImage image q F s slices keep) q (indexWords F s (take keep slices))
-  cut-index keep has few inside h =
-      cut-cases keep (λ i. Holds i q (indexWords F s (take keep slices)))
-      (λ x. rw (take-all keep slices (x has)) h)
-      (λ _. holds-stored (allFree image (drop keep slices)) q F s (take keep slices) few inside)
-
-  pub words-cut : (keep : ℕ) → Words (allFree image (drop keep slices)) → Words (wholeIndex F s (take keep slices)) → Words (cutImage image q F s slices keep)
-  words-cut keep w x =
-      cut-cases keep Words (λ _. w) (λ _. words-store (allFree image (drop keep slices)) (q * 256) (wholeIndex F s (take keep slices)) w x)
-
 -- ---- given back or taken: at most one of the two writes
 
 pub taken-some : (image : List ℕ) (q F s : ℕ) (slices new : List ℕ) → 0 < length new

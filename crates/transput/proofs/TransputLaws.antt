@@ -14,7 +14,7 @@ use Rattle.types.specs.declared.Area.{Area}
 use Rattle.types.specs.declared.State.{State}
 use Rattle.types.specs.State.{areaAt, userAt}
 use Rattle.disc.specs.Numbers.{negative}
-use Rattle.disc.specs.Attributes.{writeProtected, extendable}
+use Rattle.disc.specs.Attributes.{writeProtected}
 use Rattle.catalog.specs.declared.Unit.{Unit}
 use Rattle.state.specs.declared.Kind.the-variants.{Writer}
 use Rattle.state.specs.Areas.{packed, anyOther}
@@ -71,17 +71,6 @@ module _ (area : Area) (attributes sender operation bytes count : ℕ) where
       pub word-output : anyOther Writer sender area ≡ false → writeProtected attributes ≡ false → 0 ≡ refusalWord area attributes sender operation bytes count
       unfolding refusalWord
       word-output w t = rw (eq-eqb bytes 512 e, le-leb 256 count x, out, w, t) refl
-
--- ---- the word of an input at the length
-
-module _ (attributes : ℕ) where
-  pub end-extendable : extendable attributes ≡ true → 0x0810 ≡ endWord attributes
-  unfolding endWord
-  end-extendable e = rw e refl
-
-  pub end-fixed : extendable attributes ≡ false → 0x0A00 ≡ endWord attributes
-  unfolding endWord
-  end-fixed e = rw e refl
 
 -- ---- image and state by the result word
 

@@ -31,7 +31,7 @@ use Rattle.plain.proofs.TableLaws.{some-inj}
 use Rattle.plain.proofs.UnitLaws.{entry-file, entry-of}
 use Rattle.plain.proofs.QuestionLaws.{not-some, false-no}
 use Rattle.refine.specs.Represents.{SameAreas}
-use Rattle.refine.specs.OnDisc.{OnDisc, SomeOnDisc}
+use Rattle.refine.specs.OnDisc.{OnDisc}
 use Rattle.refine.proofs.Ground.{ground, part-file, part-few}
 use Rattle.refine.proofs.StateLaws.{same-found, same-absent}
 use Rattle.unit.specs.Unit.{NumbersOf, UnitOn, Represented}
@@ -43,9 +43,6 @@ use Rattle.unit.specs.Files.{ownBlock, BlockOf, isFound, nameOpen}
 pub represented-on : {image : List ℕ} {state : State} {o : Unit} → Represented image state o → UnitOn image o
 represented-on h =
     record { unit = h .unit; on = record { good = h .good; words = h .represents .words; layout = h .represents .layout }; numbers = h .numbers }
-
-pub some-on : {image : List ℕ} {o : Unit} → UnitOn image o → SomeOnDisc image
-some-on h = record { unit = h .unit; on = h .on }
 
 -- ---- the index block
 

@@ -10,7 +10,7 @@ use lib.ListN.{length, getD}
 use Rattle.disc.specs.Names.{keyOf}
 use Rattle.disc.specs.Stretches.{blockSector, sysFrom}
 use Rattle.disc.specs.Entries.{placeCount, nameAt}
-use Rattle.disc.specs.Catalog.{Catalog, placeSector}
+use Rattle.disc.specs.Catalog.{Catalog}
 use Rattle.disc.proofs.Geometry.{quot}
 use Rattle.catalog.specs.declared.Catalog as catalog
 use Rattle.catalog.specs.declared.Place.{Place}
@@ -27,18 +27,13 @@ use Rattle.catalog.specs.declared.Unit.{Unit}
 use Rattle.refine.specs.Represents.{PlaceOf}
 use Rattle.refine.proofs.CatalogLaws.{at, name-zero}
 use Rattle.refine.proofs.Ground.{positive, catalog-data, sys-ground, catalog-slices, place-in}
-use Rattle.unit.specs.Unit.{NumbersOf, CatalogOn, Searchable, unitPlaces}
+use Rattle.unit.specs.Unit.{CatalogOn, Searchable, unitPlaces}
 use Rattle.unit.specs.Find.{PlaceIs, NameAt, enteredWord, NameFound, FindsName}
 use Rattle.unit.proofs.UnitLaws.{unit-ground, unit-named}
 
 -- a unit has a key
 pub some-key : {image : List ℕ} {o : Unit} → Searchable image o → 1 ≤ o .catalog .keys
 some-key h = omega (arith, h .on .good .limits .keys-low, h .numbers .catalog .keys)
-
--- where a place of a catalog begins
-pub place-start : {p : Plain} {c : Catalog} {t : ℕ} {place : Place} → PlaceIs p c t place
-    → placeStart place ≡ placeSector (p .F) (p .s) c t * 256 + t % 16 * 16
-place-start is = rw (is .sector, is .slot) refl
 
 -- SYS as a value of the code
 abbrev pub unitSys : Plain → catalog.Catalog

@@ -1,7 +1,7 @@
 -- What a search for an unused place of SYS finds, said of the plain unit.
-use mathlib.Core.Path.{_≡_, sym, ap, _∙_}
+use mathlib.Core.Path.{_≡_, sym, _∙_}
 use mathlib.Core.List.{List}
-use Prim.Native.Nat.{ℕ, _*_, _/_, _%_, _≤_, _<_}
+use Prim.Native.Nat.{ℕ, _*_, _≤_, _<_}
 use native.Mathlib.Omega.{arith}
 use Rattle.catalog.specs.declared.Place.{Place}
 use Rattle.catalog.specs.declared.Found.{Found}
@@ -10,8 +10,7 @@ use Rattle.catalog.specs.Catalog.{placeUnused}
 use Rattle.catalog.proofs.PlaceLaws.{unused-at, unused-nothing}
 use Rattle.plain.specs.Unit.{Plain, sysOf}
 use Rattle.plain.specs.Taking.{placesTaken}
-use Rattle.plain.proofs.UnitLaws.{ordinary-files}
-use Rattle.refine.proofs.PlaceCount.{unused-room, used-full}
+use Rattle.refine.proofs.PlaceCount.{unused-room, used-full, sys-entries}
 use Rattle.unit.specs.Unit.{CatalogOn}
 use Rattle.unit.specs.Find.{UnusedAt, UnusedFound}
 use Rattle.unit.proofs.FindLaws.{unitSys, sys-lies, found-is}
@@ -27,10 +26,10 @@ module _ {image : List ℕ} {p : Plain} (on : CatalogOn image p) where
             number = f .place;
             is = found-is on f;
             first = record { inside = f .inside; key = f .key; unused = f .has; earlier = f .earlier };
-            room = unused-room p (on .good .catalog .names) (ordinary-files (on .good)) (on .sys .places) k (f .place) (f .inside) (f .key) (f .has);
+            room = unused-room (sys-entries (on .good)) (on .sys .places) k (f .place) (f .inside) (f .key) (f .has);
           }
 
       none-there : r ≡ Nothing → 16 * p .layers ≤ placesTaken (p .H) k (sysOf p) (p .files)
       none-there q =
-          used-full p (on .good .catalog .names) (ordinary-files (on .good)) (on .sys .places) k low
+          used-full (sys-entries (on .good)) (on .sys .places) k low
           (unused-nothing image (unitSys p) (p .F) (p .s) (p .sys) (sys-lies on) k low (sym e ∙ q) .lacks)

@@ -25,10 +25,6 @@ pub record NumbersWith (o : Unit) (p : Plain) (c : Catalog) : Type 0 where
 abbrev pub NumbersOf : Unit → Plain → Type 0
 NumbersOf o p = NumbersWith o p (sysOf p)
 
--- They are the numbers of every unit on the image.
-pub record NumbersIn (image : List ℕ) (o : Unit) : Type 0 where
-  pub all : (p : Plain) → OnDisc image p → NumbersOf o p
-
 -- What every message starts from: a good unit on the image, and its numbers.
 pub record UnitOn (image : List ℕ) (o : Unit) : Type 0 where
   pub unit : Plain

@@ -1,44 +1,20 @@
-// What every catalog message begins with: the unit's numbers, a name's place in SYS, an unused place, a file's index block, whether
-// a name is open; and Look-up.
+// What every catalog message begins with: a name's place in SYS, an unused place, a file's index block, whether a name is open; and
+// Look-up.
 
 ghost use mathlib.Core.Path.{_≡_};
 ghost use Prim.Native.Nat.{_<_};
 ghost use Rattle.disc.specs.Names.{packed, unitIn};
 ghost use Rattle.catalog.specs.Catalog.{placeUnused};
-ghost use Rattle.refine.specs.OnDisc.{SomeOnDisc};
-ghost use Rattle.unit.specs.Unit.{NumbersIn, MeantOn, Searchable};
+ghost use Rattle.unit.specs.Unit.{MeantOn, Searchable};
 ghost use Rattle.unit.specs.Find.{FindsName, FindsUnused};
 ghost use Rattle.unit.specs.Files.{ownBlock, BlockOf, nameOpen};
 ghost use Rattle.unit.specs.LookUp.{LooksUp};
-use catalog::Catalog;
 use catalog::Found;
 use catalog::Unit;
 use index::IndexBlock;
 use types::Name;
 use types::Sector;
 use types::State;
-
-// The numbers of the unit on the image.
-pub fn open_unit(image: &[u16]) -> Unit
-    requires { ⌜ SomeOnDisc (now image) ⌝ }
-    ensures { λ r. ⌜ NumbersIn (now (image .entry)) r ⌝ }
-{
-    let g = kit::geometry_of(image);
-    let layers = entries::find_layers(image, g);
-    let first = g.first;
-    let sys = Catalog {
-        index: Sector(6),
-        from: 0,
-        keys: g.keys,
-        layers: layers,
-    };
-    Unit {
-        slice: g.slice,
-        first: first,
-        slices: g.slices,
-        catalog: sys,
-    }
-}
 
 // The place of a name as it is stored. Unused places have the name 0, and no entry has it.
 pub fn find_name(image: &[u16], unit: Unit, name: Name) -> Found

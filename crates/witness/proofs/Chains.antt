@@ -9,11 +9,10 @@ use Rattle.disc.proofs.Compare.{same-or}
 use Rattle.plain.specs.Unit.{Plain, entry, sysOf}
 use Rattle.plain.specs.Taking.{placesTaken}
 use Rattle.plain.proofs.TableLaws.{some≢none}
-use Rattle.plain.proofs.UnitLaws.{ordinary-files}
 use Rattle.sound.specs.Places.{Unused}
 use Rattle.refine.specs.Represents.{PlaceOf}
 use Rattle.refine.proofs.CatalogLaws.{name-zero}
-use Rattle.refine.proofs.PlaceCount.{used-full}
+use Rattle.refine.proofs.PlaceCount.{used-full, sys-entries}
 use Rattle.unit.specs.Unit.{CatalogOn, unitPlaces}
 use Rattle.unit.specs.Find.{FirstUnused}
 use Rattle.unit.proofs.UnitLaws.{unit-named}
@@ -57,4 +56,4 @@ module _ {image : List ℕ} {p : Plain} (on : CatalogOn image p) (k : ℕ) where
     where
       go : Search (placeCount (p .H) (p .layers)) → (u : ℕ) × FirstUnused image p (sysOf p) k u
       go (first u f) = (u, f)
-      go (full f) = absurd (omega (arith, used-full p (on .good .catalog .names) (ordinary-files (on .good)) (on .sys .places) k low f))
+      go (full f) = absurd (omega (arith, used-full (sys-entries (on .good)) (on .sys .places) k low f))

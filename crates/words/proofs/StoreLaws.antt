@@ -191,9 +191,6 @@ module _ (image : List ℕ) (q : ℕ) (vs : List ℕ) where
   pub word-sector-in : q * 256 + length vs ≤ length image → (b : ℕ) → b < length vs → word (store image (q * 256) vs) q b ≡ getD vs b 0
   word-sector-in inside b h = store-in image (q * 256) vs b h (omega arith)
 
-  pub word-sector-beside : (b : ℕ) → length vs ≤ b → word (store image (q * 256) vs) q b ≡ word image q b
-  word-sector-beside b h = store-above image (q * 256) vs (q * 256 + b) (omega arith)
-
 -- ---- what a sector holds
 
 -- two images with the same words in a sector
@@ -204,18 +201,6 @@ holds-same e k = record { at = λ b h l. e b l ∙ k .at b h l }
 pub holds-store : (image : List ℕ) (q : ℕ) (vs : List ℕ) → q * 256 + length vs ≤ length image → Holds (store image (q * 256) vs) q vs
 holds-store image q vs inside = record { at = λ b h l. word-sector-in image q vs inside b h }
 
--- words stored behind those that the sector holds
-pub holds-store-behind : (image : List ℕ) (q a : ℕ) (vs v : List ℕ) → length v ≤ a → Holds image q v → Holds (store image (q * 256 + a) vs) q v
-holds-store-behind image q a vs v h k =
-    record { at = λ b m l. store-below image (q * 256 + a) vs (q * 256 + b) (omega arith) ∙ k .at b m l }
-
--- words stored in another sector
-pub holds-store-other : (image : List ℕ) (q a : ℕ) (vs : List ℕ) (r : ℕ) (v : List ℕ) → a + length vs ≤ 256 → r ≢ q → Holds image r v → Holds (store image (q * 256 + a) vs) r v
-holds-store-other image q a vs r v fits d k = holds-same (λ b l. word-store-other image q a vs fits r b d l) k
-
-pub holds-sector-other : (image : List ℕ) (q : ℕ) (vs : List ℕ) (r : ℕ) (v : List ℕ) → length vs ≤ 256 → r ≢ q → Holds image r v → Holds (store image (q * 256) vs) r v
-holds-sector-other image q vs r v fits d k = holds-same (λ b l. word-sector-other image q vs fits r b d l) k
-
 pub holds-sectorWords : (image : List ℕ) (q : ℕ) → Holds image q (sectorWords image q)
 holds-sectorWords image q = record { at = λ b h l. sym (getD-sectorWords image q b l) }
 
@@ -225,12 +210,3 @@ sectorWords-holds image q v inside e k =
     let n : length (sectorWords image q) ≡ 256 = length-sectorWords image q inside in
     ext-getD 0 (sectorWords image q) v (n ∙ sym e)
     (λ b h. getD-sectorWords image q b (omega arith) ∙ k .at b (omega arith) (omega arith))
-
-pub sectorWords-store : (image : List ℕ) (q : ℕ) (v : List ℕ) → q * 256 + 256 ≤ length image → length v ≡ 256 → sectorWords (store image (q * 256) v) q ≡ v
-sectorWords-store image q v inside e =
-    sectorWords-holds (store image (q * 256) v) q v (rw length-store inside) e (holds-store image q v (omega arith))
-
-pub sectorWords-other : (image : List ℕ) (q a : ℕ) (vs : List ℕ) (r : ℕ) → a + length vs ≤ 256 → r ≢ q → r * 256 + 256 ≤ length image → sectorWords (store image (q * 256 + a) vs) r ≡ sectorWords image r
-sectorWords-other image q a vs r fits d inside =
-    sectorWords-holds (store image (q * 256 + a) vs) r (sectorWords image r) (rw length-store inside) (length-sectorWords image r inside)
-    (holds-store-other image q a vs r (sectorWords image r) fits d (holds-sectorWords image r))

@@ -23,7 +23,9 @@ sys-sectors-requires : tie.Need-sys-sectors-requires
 sys-sectors-requires c κs = let start = c .before .before .before .before in (start .pre .sys, own-index start)
 
 places-sound-requires : tie.Need-places-sound-requires
-places-sound-requires c κs = record { catalog = c .before .before .before .before .before .pre; whole = refl; room = omega arith }
+places-sound-requires c κs =
+    let start = c .before .before .before .before .before in
+    record { catalog = start .pre; whole = refl; room = omega arith }
 
 returns : tie.Need-returns
 returns c =

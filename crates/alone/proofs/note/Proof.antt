@@ -6,8 +6,9 @@ use Rattle.alone.proofs.note.Tie as tie
 
 returns : tie.Need-returns
 returns c =
-    let start = c .before .before .before in
-    noted (start .args .filter .now) (start .pre) (c .before .before .mix .result) _ (c .before .before .mix .ensures) (c .mask .ensures)
+    let mix = c .before .before in
+    let start = mix .before in
+    noted (start .args .filter .now) (start .pre) (mix .mix .result) _ (mix .mix .ensures) (c .mask .ensures)
 
 pub note-spec : {M : Type 1} → statement M
 note-spec =

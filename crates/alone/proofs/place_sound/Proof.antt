@@ -58,14 +58,16 @@ place-name-requires c κs = let start = c .before .before .before in (inside sta
 returns-2 : tie.Need-returns-2
 returns-2 c =
     let named = c .before .before in
+    let start = named .before .before .before .before in
     let l = legal (named .before) in
-    scanned (passed-unused (named .before .before .before .before .pre .5) l (zero-unused (name-of named) l (c .if2 .taken)))
+    scanned (passed-unused (start .pre .5) l (zero-unused (name-of named) l (c .if2 .taken)))
 
 returns-3 : tie.Need-returns-3
 returns-3 c =
     let k = c .before in
     let named = k .before .before .before .before in
-    scanned (passed-new (named .before .before .before .before .pre .5) (legal (named .before)) (sym (name-packed (name-of named))) (not-noted (c .if3 .taken) (k .note .ensures)))
+    let start = named .before .before .before .before in
+    scanned (passed-new (start .pre .5) (legal (named .before)) (sym (name-packed (name-of named))) (not-noted (c .if3 .taken) (k .note .ensures)))
 
 is-first-requires : tie.Need-is-first-requires
 is-first-requires c κs =

@@ -49,11 +49,12 @@ next-key-requires c κs =
 
 loop-again : tie.Need-loop-again Inv-loop μ-loop
 loop-again c =
-    let at = c .before .before .before .before .before in
+    let sector-sound = c .before .before in
+    let at = sector-sound .before .before .before in
     let a = at .before .before .args in (
       omega arith,
       key-next (a .b .0) (a .g .keys) (at .loop .c) (at .loop .inv .1) (c .next-key .ensures),
-      passed-at (omega arith) (granted (c .before .before .sector-sound .ensures) (c .before .if1 .left)),
+      passed-at (omega arith) (granted (sector-sound .sector-sound .ensures) (c .before .if1 .left)),
     )
 
 returns-2 : tie.Need-returns-2 Inv-loop μ-loop

@@ -26,18 +26,23 @@ abbrev μ-loop : tie.MeasureT-loop
 turn-of : (c : tie.After-pair-start Inv-loop μ-loop) → let at = c .before .before .before .before .before .before in let a = at .before .before .before .args in
     Turn (a .image .now) (a .g) (a .expected .size) (at .loop .j) (at .loop .b .0) (c .before .lesser .result) (c .pair-start .result .0)
 turn-of c =
-    let at = c .before .before .before .before .before .before in
+    let pair-length = c .before .before .before in
+    let at = pair-length .before .before .before in
     let l = at .before .before .before .pre .0 in
-    turn (l .catalog .sys) (ap (λ (x : Catalog). x .index .0) (l .catalog .is)) (at .loop .j) (in-slices l) (at .loop .inv .0) (at .loop .inv .2) (c .before .before .before .before .if1 .taken) (c .before .before .before .pair-length .ensures) (c .before .lesser .ensures) (c .pair-start .ensures)
+    turn (l .catalog .sys) (ap (λ (x : Catalog). x .index .0) (l .catalog .is)) (at .loop .j) (in-slices l) (at .loop .inv .0)
+    (at .loop .inv .2) (pair-length .before .if1 .taken) (pair-length .pair-length .ensures) (c .before .lesser .ensures)
+    (c .pair-start .ensures)
 
 loop-holds : tie.Need-loop-holds Inv-loop μ-loop
 loop-holds c = (omega arith, omega arith, λ h. refl, passed-none _ (c .before .before .pre .2))
 
 pair-length-requires : tie.Need-pair-length-requires Inv-loop μ-loop
-pair-length-requires c κs = omega (arith, c .before .before .before .before .before .pre .0 .catalog .sys .index .few)
+pair-length-requires c κs = let start = c .before .before .before .before .before in omega (arith, start .pre .0 .catalog .sys .index .few)
 
 pair-start-requires : tie.Need-pair-start-requires Inv-loop μ-loop
-pair-start-requires c κs = omega (arith, c .before .before .before .before .before .before .before .before .pre .0 .catalog .sys .index .few)
+pair-start-requires c κs =
+    let start = c .before .before .before .before .before .before .before .before in
+    omega (arith, start .pre .0 .catalog .sys .index .few)
 
 stretch-sound-requires : tie.Need-stretch-sound-requires Inv-loop μ-loop
 stretch-sound-requires c κs =
@@ -53,19 +58,22 @@ returns c =
 
 add-t14 : tie.Need-add-t14 Inv-loop μ-loop
 add-t14 c =
-    let l = c .before .before .before .before .before .before .before .before .before .before .before .before .before .pre .0 in
-    omega (arith, turn-of (c .before .before .before .before) .high, in-slices l, sys-small (l .catalog .sys), l .catalog .sys .unit .limits .sectors)
+    let pair-start = c .before .before .before .before in
+    let l = pair-start .before .before .before .before .before .before .before .before .before .pre .0 in
+    omega (arith, turn-of pair-start .high, in-slices l, sys-small (l .catalog .sys), l .catalog .sys .unit .limits .sectors)
 
 add-j : tie.Need-add-j Inv-loop μ-loop
 add-j c = omega (arith, turn-of (c .before .before .before .before) .more)
 
 loop-less : tie.Need-loop-less Inv-loop μ-loop
-loop-less c = omega (arith, turn-of (c .before .before .before .before) .more)
+loop-less c = let pair-start = c .before .before .before .before in omega (arith, turn-of pair-start .more)
 
 loop-again : tie.Need-loop-again Inv-loop μ-loop
 loop-again c =
-    let t = turn-of (c .before .before .before .before) in
-    (omega (arith, t .more), t .high, t .next, granted (c .before .before .stretch-sound .ensures) (c .before .if2 .left))
+    let stretch-sound = c .before .before in
+    let pair-start = stretch-sound .before .before in
+    let t = turn-of pair-start in
+    (omega (arith, t .more), t .high, t .next, granted (stretch-sound .stretch-sound .ensures) (c .before .if2 .left))
 
 returns-2 : tie.Need-returns-2 Inv-loop μ-loop
 returns-2 c = scanned (passed-at (omega arith) (c .before .before .loop .inv .3))

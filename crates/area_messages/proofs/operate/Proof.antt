@@ -6,8 +6,9 @@ use Rattle.area_messages.proofs.operate.Tie as tie
 
 reserve-requires : tie.Need-reserve-requires
 reserve-requires c κs =
-    let a = c .before .before .before .before .args in
-    operate-low (a .image .now) (a .state) (a .unit) (a .j) (a .sender) (a .operation) (c .before .before .before .before .pre)
+    let start = c .before .before .before .before in
+    let a = start .args in
+    operate-low (a .image .now) (a .state) (a .unit) (a .j) (a .sender) (a .operation) (start .pre)
 
 returns : tie.Need-returns
 returns c =
@@ -16,30 +17,39 @@ returns c =
 
 area-at-requires : tie.Need-area-at-requires
 area-at-requires c κs =
-    let a = c .before .before .before .before .args in
-    operate-low (a .image .now) (a .state) (a .unit) (a .j) (a .sender) (a .operation) (c .before .before .before .before .pre)
+    let start = c .before .before .before .before in
+    let a = start .args in
+    operate-low (a .image .now) (a .state) (a .unit) (a .j) (a .sender) (a .operation) (start .pre)
 
 returns-2 : tie.Need-returns-2
 returns-2 c =
     let found = c .before .before .before in
-    let a = found .before .before .before .before .before .before .args in
-    operate-stranger (a .image .now) (a .state) (a .unit) (a .j) (a .sender) (a .operation) (found .before .before .before .reserve-count .ensures) (found .before .before .if1 .left) (found .before .area-at .ensures) (found .find-user .ensures .first)
-    (c .before .enum-told .given .1) (c .reply .ensures)
+    let else1 = found .before .before in
+    let a = else1 .before .before .before .before .args in
+    operate-stranger (a .image .now) (a .state) (a .unit) (a .j) (a .sender) (a .operation) (else1 .before .reserve-count .ensures)
+    (else1 .if1 .left) (found .before .area-at .ensures) (found .find-user .ensures .first) (c .before .enum-told .given .1)
+    (c .reply .ensures)
 
 user-step-requires : tie.Need-user-step-requires
 user-step-requires c κs =
     let at = c .before .before .before in
     let found = at .before .before in
-    let a = found .before .before .before .before .before .before .args in
-    operate-seated (a .image .now) (a .state) (a .unit) (a .j) (a .sender) (a .operation) (found .before .before .before .reserve-count .ensures) (found .before .before .if1 .left) (found .before .area-at .ensures) (found .find-user .ensures .first) (at .u .given .1) (found .before .before .before .before .before .before .pre)
+    let else1 = found .before .before in
+    let start = else1 .before .before .before .before in
+    let a = start .args in
+    operate-seated (a .image .now) (a .state) (a .unit) (a .j) (a .sender) (a .operation) (else1 .before .reserve-count .ensures)
+    (else1 .if1 .left) (found .before .area-at .ensures) (found .find-user .ensures .first) (at .u .given .1) (start .pre)
 
 returns-3 : tie.Need-returns-3
 returns-3 c =
-    let at = c .before .before .before .before .before .before .before .before in
+    let user-step = c .before .before .before .before in
+    let at = user-step .before .before .before .before in
     let found = at .before .before in
-    let a = found .before .before .before .before .before .before .args in
-    operate-user (a .image .now) (a .state) (a .unit) (a .j) (a .sender) (a .operation) (found .before .before .before .reserve-count .ensures) (found .before .before .if1 .left) (found .before .area-at .ensures) (found .find-user .ensures .first) (at .u .given .1)
-    (c .before .before .before .before .user-step .ensures)
+    let else1 = found .before .before in
+    let a = else1 .before .before .before .before .args in
+    operate-user (a .image .now) (a .state) (a .unit) (a .j) (a .sender) (a .operation) (else1 .before .reserve-count .ensures)
+    (else1 .if1 .left) (found .before .area-at .ensures) (found .find-user .ensures .first) (at .u .given .1)
+    (user-step .user-step .ensures)
 
 pub operate-spec : {M : Type 1} → statement M
 operate-spec =

@@ -6,10 +6,10 @@ use Rattle.area_messages.proofs.user_step.Statement.{statement}
 use Rattle.area_messages.proofs.user_step.Tie as tie
 
 release-requires : tie.Need-release-requires
-release-requires c κs = seat-low (c .before .before .before .before .pre .seat)
+release-requires c κs = let start = c .before .before .before .before in seat-low (start .pre .seat)
 
 position-requires : tie.Need-position-requires
-position-requires c κs = seat-low (c .before .before .before .before .before .pre .seat)
+position-requires c κs = let start = c .before .before .before .before .before in seat-low (start .pre .seat)
 
 transput-requires : tie.Need-transput-requires
 transput-requires c κs = c .before .before .before .before .before .before .before .pre
@@ -24,7 +24,10 @@ returns-3 : tie.Need-returns-3
 returns-3 c = rw (c .before .enum-told2 .given .1) (step-sense (c .reply .ensures))
 
 returns-4 : tie.Need-returns-4
-returns-4 c = rw (c .before .before .before .before .before .before .before .before .operation2 .given .1) (step-transput (c .before .before .before .before .transput .ensures))
+returns-4 c =
+    let transput = c .before .before .before .before in
+    let operation2 = transput .before .before .before .before in
+    rw (operation2 .operation2 .given .1) (step-transput (transput .transput .ensures))
 
 returns-5 : tie.Need-returns-5
 returns-5 c = rw (c .before .enum-told3 .given .1) (step-other (c .reply2 .ensures))

@@ -9,13 +9,14 @@ slice-total-requires : tie.Need-slice-total-requires
 slice-total-requires c κs = slices-fit (c .before .before .before .pre .can) (c .file-block .ensures .1)
 
 read-entry-requires : tie.Need-read-entry-requires
-read-entry-requires c κs = (omega arith, book-room (c .before .before .before .before .before .before .pre .can))
+read-entry-requires c κs = let start = c .before .before .before .before .before .before in (omega arith, book-room (start .pre .can))
 
 mul-entry : tie.Need-mul-entry
 mul-entry c =
     let counted = c .before .before .before .before .before in
     let block = counted .before in
-    record { fits = reserved-fits (block .before .before .before .pre .can) (block .file-block .ensures .1) (counted .slice-total .ensures) }
+    let start = block .before .before .before in
+    record { fits = reserved-fits (start .pre .can) (block .file-block .ensures .1) (counted .slice-total .ensures) }
 
 write-entry-requires : tie.Need-write-entry-requires
 write-entry-requires c κs =

@@ -13,14 +13,17 @@ find-name-requires c κs = searchable (represented-on (c .before .before .pre .s
 returns : tie.Need-returns
 returns c =
     let f = c .before .before in
-    creates-none _ _ (f .before .before .before .pre) (f .before .stored .ensures .packed) (f .find-name .ensures) (c .enum-told .given .1)
+    let start = f .before .before .before in
+    creates-none _ _ (start .pre) (f .before .stored .ensures .packed) (f .find-name .ensures) (c .enum-told .given .1)
 
 returns-2 : tie.Need-returns-2
 returns-2 c =
     let test = c .before in
     let place = test .before .before in
     let f = place .before .before in
-    creates-system _ _ (f .before .before .before .pre) (f .before .stored .ensures .packed) (f .find-name .ensures) (place .place .given .1) (sym (test .is-system .ensures) ∙ c .if1 .taken)
+    let start = f .before .before .before in
+    creates-system _ _ (start .pre) (f .before .stored .ensures .packed) (f .find-name .ensures) (place .place .given .1)
+    (sym (test .is-system .ensures) ∙ c .if1 .taken)
 
 returns-3 : tie.Need-returns-3
 returns-3 c =
@@ -28,7 +31,8 @@ returns-3 c =
     let test = live .before .before in
     let place = test .before .before in
     let f = place .before .before in
-    creates-open _ _ (f .before .before .before .pre) (f .before .stored .ensures .packed) (f .find-name .ensures) (place .place .given .1)
+    let start = f .before .before .before in
+    creates-open _ _ (start .pre) (f .before .stored .ensures .packed) (f .find-name .ensures) (place .place .given .1)
     (sym (test .is-system .ensures) ∙ live .before .if1 .left) (sym (live .is-open .ensures) ∙ c .if2 .taken)
 
 returns-4 : tie.Need-returns-4
@@ -39,7 +43,8 @@ returns-4 c =
     let test = live .before .before in
     let place = test .before .before in
     let f = place .before .before in
-    creates-full _ _ (f .before .before .before .pre) (f .before .stored .ensures .packed) (f .find-name .ensures) (place .place .given .1)
+    let start = f .before .before .before in
+    creates-full _ _ (start .pre) (f .before .stored .ensures .packed) (f .find-name .ensures) (place .place .given .1)
     (sym (test .is-system .ensures) ∙ live .before .if1 .left) (sym (live .is-open .ensures) ∙ shut .if2 .left)
     (sym (room .vacant-area-of .ensures .first) ∙ c .enum-told2 .given .1)
 
@@ -54,9 +59,11 @@ returns-5 c =
     let test = live .before .before in
     let place = test .before .before in
     let f = place .before .before in
-    creates-done _ _ (f .before .before .before .pre) (f .before .stored .ensures .packed) (f .find-name .ensures) (place .place .given .1)
+    let start = f .before .before .before in
+    creates-done _ _ (start .pre) (f .before .stored .ensures .packed) (f .find-name .ensures) (place .place .given .1)
     (sym (test .is-system .ensures) ∙ live .before .if1 .left) (sym (live .is-open .ensures) ∙ shut .if2 .left)
-    (sym (room .vacant-area-of .ensures .first) ∙ told .j .given .1) (f .before .stored .ensures) (size .entry-word .ensures) (index .entry-word2 .ensures) (c .open-area .ensures)
+    (sym (room .vacant-area-of .ensures .first) ∙ told .j .given .1) (f .before .stored .ensures) (size .entry-word .ensures)
+    (index .entry-word2 .ensures) (c .open-area .ensures)
 
 pub create-area-spec : {M : Type 1} → statement M
 create-area-spec =

@@ -10,13 +10,15 @@ use Rattle.areas.proofs.remove_area.Tie as tie
 returns : tie.Need-returns
 returns c =
     let test = c .before in
-    removes-system _ _ (test .before .before .before .pre) (test .before .stored .ensures .packed) (sym (test .is-system .ensures) ∙ c .if1 .taken)
+    let start = test .before .before .before in
+    removes-system _ _ (start .pre) (test .before .stored .ensures .packed) (sym (test .is-system .ensures) ∙ c .if1 .taken)
 
 returns-2 : tie.Need-returns-2
 returns-2 c =
     let search = c .before .before in
     let test = search .before .before in
-    removes-none _ _ (test .before .before .before .pre) (test .before .stored .ensures .packed) (sym (test .is-system .ensures) ∙ search .before .if1 .left)
+    let start = test .before .before .before in
+    removes-none _ _ (start .pre) (test .before .stored .ensures .packed) (sym (test .is-system .ensures) ∙ search .before .if1 .left)
     (sym (search .find-area .ensures .first) ∙ c .enum-told .given .1)
 
 area-at-requires : tie.Need-area-at-requires
@@ -35,14 +37,17 @@ returns-3 c =
     let told = area .before .before in
     let search = told .before .before in
     let test = search .before .before in
-    removes-used _ _ (test .before .before .before .pre) (test .before .stored .ensures .packed) (sym (test .is-system .ensures) ∙ search .before .if1 .left)
-    (sym (search .find-area .ensures .first) ∙ told .j .given .1) (area .area-at .ensures) (λ z. c .if2 .taken (count .user-count .ensures ∙ z))
+    let start = test .before .before .before in
+    removes-used _ _ (start .pre) (test .before .stored .ensures .packed) (sym (test .is-system .ensures) ∙ search .before .if1 .left)
+    (sym (search .find-area .ensures .first) ∙ told .j .given .1) (area .area-at .ensures)
+    (λ z. c .if2 .taken (count .user-count .ensures ∙ z))
 
 find-name-requires : tie.Need-find-name-requires
 find-name-requires c κs =
     let area = c .before .before .before in
     let test = area .before .before .before .before .before .before in
-    searchable (represented-on (test .before .before .before .pre .standing))
+    let start = test .before .before .before in
+    searchable (represented-on (start .pre .standing))
 
 returns-4 : tie.Need-returns-4
 returns-4 c =
@@ -53,9 +58,10 @@ returns-4 c =
     let told = area .before .before in
     let search = told .before .before in
     let test = search .before .before in
-    removes-lost _ _ (test .before .before .before .pre) (test .before .stored .ensures .packed) (sym (test .is-system .ensures) ∙ search .before .if1 .left)
-    (sym (search .find-area .ensures .first) ∙ told .j .given .1) (area .area-at .ensures) (sym (count .user-count .ensures) ∙ alone .if2 .left) (f .find-name .ensures)
-    (c .enum-told2 .given .1)
+    let start = test .before .before .before in
+    removes-lost _ _ (start .pre) (test .before .stored .ensures .packed) (sym (test .is-system .ensures) ∙ search .before .if1 .left)
+    (sym (search .find-area .ensures .first) ∙ told .j .given .1) (area .area-at .ensures)
+    (sym (count .user-count .ensures) ∙ alone .if2 .left) (f .find-name .ensures) (c .enum-told2 .given .1)
 
 book-requires : tie.Need-book-requires
 book-requires c κs =
@@ -83,9 +89,11 @@ returns-5 c =
     let told = area .before .before in
     let search = told .before .before in
     let test = search .before .before in
-    removes-done _ _ (test .before .before .before .pre) (test .before .stored .ensures .packed) (sym (test .is-system .ensures) ∙ search .before .if1 .left)
-    (sym (search .find-area .ensures .first) ∙ told .j .given .1) (area .area-at .ensures) (sym (count .user-count .ensures) ∙ alone .if2 .left) (f .find-name .ensures)
-    (place .place .given .1) (booked .book .ensures) (c .close-area .ensures)
+    let start = test .before .before .before in
+    removes-done _ _ (start .pre) (test .before .stored .ensures .packed) (sym (test .is-system .ensures) ∙ search .before .if1 .left)
+    (sym (search .find-area .ensures .first) ∙ told .j .given .1) (area .area-at .ensures)
+    (sym (count .user-count .ensures) ∙ alone .if2 .left) (f .find-name .ensures) (place .place .given .1) (booked .book .ensures)
+    (c .close-area .ensures)
 
 pub remove-area-spec : {M : Type 1} → statement M
 remove-area-spec =

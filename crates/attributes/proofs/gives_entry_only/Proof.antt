@@ -11,7 +11,8 @@ returns c = gives-none (c .before .before .args .a) (sym (c .before .negative .e
 returns-2 : tie.Need-returns-2
 returns-2 c =
     let test = c .before in
-    c .entry-only .ensures ∙ gives-bit (test .before .before .args .a) (sym (test .before .negative .ensures) ∙ test .if1 .left)
+    let start = test .before .before in
+    c .entry-only .ensures ∙ gives-bit (start .args .a) (sym (test .before .negative .ensures) ∙ test .if1 .left)
 
 pub gives-entry-only-spec : {M : Type 1} → statement M
 gives-entry-only-spec = tie.close (tie.spec (λ c κs. search needs) returns (λ c κs. search needs) returns-2)

@@ -10,7 +10,8 @@ returns c = attributes-none (c .before .before .find-name .ensures) (c .enum-tol
 returns-2 : tie.Need-returns-2
 returns-2 c =
     let place = c .before .before in
-    attributes-some (place .before .before .find-name .ensures) (place .place .given .1) (c .entry-word .ensures)
+    let find-name = place .before .before in
+    attributes-some (find-name .find-name .ensures) (place .place .given .1) (c .entry-word .ensures)
 
 pub attributes-of-spec : {M : Type 1} → statement M
 attributes-of-spec =

@@ -10,7 +10,10 @@ copy-sector-requires c κs =
     (s .pre .1, sector-inside (c .before .sector-of .ensures) (s .pre .0))
 
 returns : tie.Need-returns
-returns c = block-read (c .before .before .before .before .sector-of .ensures) (c .before .before .copy-sector .ensures)
+returns c =
+    let copy-sector = c .before .before in
+    let sector-of = copy-sector .before .before in
+    block-read (sector-of .sector-of .ensures) (copy-sector .copy-sector .ensures)
 
 pub read-spec : {M : Type 1} → statement M
 read-spec = tie.close (tie.spec (λ c κs. search needs) copy-sector-requires (λ c. search needs) returns)

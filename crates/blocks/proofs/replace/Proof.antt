@@ -10,7 +10,10 @@ store-sector-requires c κs =
     (s .pre .1, sector-inside (c .before .sector-of .ensures) (s .pre .0))
 
 returns : tie.Need-returns
-returns c = block-replaced (c .before .before .before .before .sector-of .ensures) (c .before .before .store-sector .ensures)
+returns c =
+    let store-sector = c .before .before in
+    let sector-of = store-sector .before .before in
+    block-replaced (sector-of .sector-of .ensures) (store-sector .store-sector .ensures)
 
 pub replace-spec : {M : Type 1} → statement M
 replace-spec = tie.close (tie.spec (λ c κs. search needs) store-sector-requires (λ c. search needs) returns)

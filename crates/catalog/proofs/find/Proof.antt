@@ -29,24 +29,26 @@ loop-holds c =
 
 returns : tie.Need-returns Inv-loop μ-loop
 returns c =
-    let turn = c .before .before .before in
+    let key-sector = c .before .before in
+    let turn = key-sector .before in
     let l = turn .before .before in
     let a = l .before .before .before .args in
     let test = slotNamed (a .image .now) (pack (a .name .0) (a .name .1) (a .name .2)) in
     name-place
     (place-here test (keySector (a .image .now) (a .c) (l .before .key .result)) (a .c .layers) (l .loop .layer)
-    (c .before .before .key-sector .result .0) (c .before .slot-named .result)
-    (l .loop .inv) (turn .if1 .taken) (c .before .before .key-sector .ensures) (c .before .slot-named .ensures) (c .if2 .taken))
+    (key-sector .key-sector .result .0) (c .before .slot-named .result)
+    (l .loop .inv) (turn .if1 .taken) (key-sector .key-sector .ensures) (c .before .slot-named .ensures) (c .if2 .taken))
 
 loop-again : tie.Need-loop-again Inv-loop μ-loop
 loop-again c =
-    let turn = c .before .before .before in
+    let key-sector = c .before .before in
+    let turn = key-sector .before in
     let l = turn .before .before in
     let a = l .before .before .before .args in
     let test = slotNamed (a .image .now) (pack (a .name .0) (a .name .1) (a .name .2)) in
     place-next test (keySector (a .image .now) (a .c) (l .before .key .result)) (a .c .layers) (l .loop .layer)
-    (c .before .before .key-sector .result .0) (c .before .slot-named .result)
-    (l .loop .inv) (turn .if1 .taken) (c .before .before .key-sector .ensures) (c .before .slot-named .ensures) (c .if2 .left)
+    (key-sector .key-sector .result .0) (c .before .slot-named .result)
+    (l .loop .inv) (turn .if1 .taken) (key-sector .key-sector .ensures) (c .before .slot-named .ensures) (c .if2 .left)
 
 returns-2 : tie.Need-returns-2 Inv-loop μ-loop
 returns-2 c =

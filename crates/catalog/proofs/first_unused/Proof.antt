@@ -20,22 +20,24 @@ loop-holds c = rw sub-zero refl
 
 returns : tie.Need-returns Inv-loop μ-loop
 returns c =
-    let turn = c .before .before .before in
+    let key-sector = c .before .before in
+    let turn = key-sector .before in
     let l = turn .before .before in
     let a = l .before .before .args in
     unused-place
     (place-here (slotUnused (a .image .now)) (keySector (a .image .now) (a .c) (a .key)) (a .c .layers) (l .loop .layer)
-    (c .before .before .key-sector .result .0) (c .before .unused-slot .result)
-    (l .loop .inv) (turn .if1 .taken) (c .before .before .key-sector .ensures) (c .before .unused-slot .ensures) (c .if2 .taken))
+    (key-sector .key-sector .result .0) (c .before .unused-slot .result)
+    (l .loop .inv) (turn .if1 .taken) (key-sector .key-sector .ensures) (c .before .unused-slot .ensures) (c .if2 .taken))
 
 loop-again : tie.Need-loop-again Inv-loop μ-loop
 loop-again c =
-    let turn = c .before .before .before in
+    let key-sector = c .before .before in
+    let turn = key-sector .before in
     let l = turn .before .before in
     let a = l .before .before .args in
     place-next (slotUnused (a .image .now)) (keySector (a .image .now) (a .c) (a .key)) (a .c .layers) (l .loop .layer)
-    (c .before .before .key-sector .result .0) (c .before .unused-slot .result)
-    (l .loop .inv) (turn .if1 .taken) (c .before .before .key-sector .ensures) (c .before .unused-slot .ensures) (c .if2 .left)
+    (key-sector .key-sector .result .0) (c .before .unused-slot .result)
+    (l .loop .inv) (turn .if1 .taken) (key-sector .key-sector .ensures) (c .before .unused-slot .ensures) (c .if2 .left)
 
 returns-2 : tie.Need-returns-2 Inv-loop μ-loop
 returns-2 c =

@@ -19,15 +19,18 @@ loop-holds c =
 
 returns : tie.Need-returns Inv-loop μ-loop
 returns c =
-    let l = c .before .before .before in
+    let in-loop = c .before .before in
+    let l = in-loop .before in
     let a = l .before .before .args in
-    run-stop (a .image .now) (a .q .0) (a .slot) (l .loop .w) (l .loop .inv .2) (c .before .before .loop-test .taken) (c .before .word .ensures) (c .if1 .taken)
+    run-stop (a .image .now) (a .q .0) (a .slot) (l .loop .w) (l .loop .inv .2) (in-loop .loop-test .taken) (c .before .word .ensures)
+    (c .if1 .taken)
 
 loop-again : tie.Need-loop-again Inv-loop μ-loop
 loop-again c =
-    let l = c .before .before .before in
+    let in-loop = c .before .before in
+    let l = in-loop .before in
     let a = l .before .before .args in
-    (omega arith, omega arith, run-next (a .image .now) (a .q .0) (a .slot) (l .loop .w) (l .loop .inv .2) (c .before .before .loop-test .taken) (c .before .word .ensures) (c .if1 .left))
+    (omega arith, omega arith, run-next (a .image .now) (a .q .0) (a .slot) (l .loop .w) (l .loop .inv .2) (in-loop .loop-test .taken) (c .before .word .ensures) (c .if1 .left))
 
 returns-2 : tie.Need-returns-2 Inv-loop μ-loop
 returns-2 c =

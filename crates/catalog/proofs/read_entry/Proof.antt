@@ -6,8 +6,10 @@ use Rattle.catalog.proofs.read_entry.Tie as tie
 
 returns : tie.Need-returns
 returns c =
-    let start = c .before .before .before .before .before .before .before in
-    entry-front (start .args .image .now) (start .args .place) (start .args .lent .now) _ (start .pre .1) (start .pre .0) (c .before .before .read-words .ensures)
+    let read-words = c .before .before in
+    let start = read-words .before .before .before .before .before in
+    entry-front (start .args .image .now) (start .args .place) (start .args .lent .now) _ (start .pre .1) (start .pre .0)
+    (read-words .read-words .ensures)
 
 pub read-entry-spec : {M : Type 1} → statement M
 read-entry-spec =

@@ -20,17 +20,19 @@ loop-holds c = (search needs, refl)
 
 returns : tie.Need-returns Inv-loop μ-loop
 returns c =
-    let l = c .before .before .before in
+    let in-loop = c .before .before in
+    let l = in-loop .before in
     let a = l .before .before .args in
     let test = slotNamed (a .image .now) (pack (a .name .0) (a .name .1) (a .name .2)) (a .q .0) in
-    slot-here test (l .loop .i) (l .loop .inv .1) (c .before .before .loop-test .taken) (c .before .is-named-slot .ensures) (c .if1 .taken)
+    slot-here test (l .loop .i) (l .loop .inv .1) (in-loop .loop-test .taken) (c .before .is-named-slot .ensures) (c .if1 .taken)
 
 loop-again : tie.Need-loop-again Inv-loop μ-loop
 loop-again c =
-    let l = c .before .before .before in
+    let in-loop = c .before .before in
+    let l = in-loop .before in
     let a = l .before .before .args in
     let test = slotNamed (a .image .now) (pack (a .name .0) (a .name .1) (a .name .2)) (a .q .0) in
-    (omega arith, slot-next test (l .loop .i) (l .loop .inv .1) (c .before .before .loop-test .taken) (c .before .is-named-slot .ensures) (c .if1 .left))
+    (omega arith, slot-next test (l .loop .i) (l .loop .inv .1) (in-loop .loop-test .taken) (c .before .is-named-slot .ensures) (c .if1 .left))
 
 returns-2 : tie.Need-returns-2 Inv-loop μ-loop
 returns-2 c =

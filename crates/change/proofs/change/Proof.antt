@@ -9,20 +9,24 @@ use Rattle.change.proofs.change.Statement.{statement}
 use Rattle.change.proofs.change.Tie as tie
 
 find-name-requires : tie.Need-find-name-requires
-find-name-requires c κs = searchable (represented-on (c .before .before .before .before .pre .standing))
+find-name-requires c κs = let start = c .before .before .before .before in searchable (represented-on (start .pre .standing))
 
 returns : tie.Need-returns
 returns c =
     let f = c .before .before in
-    let a = f .before .before .before .before .before in
-    changes-none _ (a .args .name) (a .args .lent .now) (a .pre) (f .before .before .stored .ensures .packed) (f .find-name .ensures) (c .enum-told .given .1)
+    let stored = f .before .before in
+    let a = stored .before .before .before in
+    changes-none _ (a .args .name) (a .args .lent .now) (a .pre) (stored .stored .ensures .packed) (f .find-name .ensures)
+    (c .enum-told .given .1)
 
 returns-2 : tie.Need-returns-2
 returns-2 c =
     let place = c .before .before in
     let f = place .before .before in
-    let a = f .before .before .before .before .before in
-    changes-short _ (a .args .name) (a .args .lent .now) (a .pre) (f .before .before .stored .ensures .packed) (f .find-name .ensures) (place .place .given .1) (c .if1 .taken)
+    let stored = f .before .before in
+    let a = stored .before .before .before in
+    changes-short _ (a .args .name) (a .args .lent .now) (a .pre) (stored .stored .ensures .packed) (f .find-name .ensures)
+    (place .place .given .1) (c .if1 .taken)
 
 returns-3 : tie.Need-returns-3
 returns-3 c =
@@ -30,8 +34,10 @@ returns-3 c =
     let long = bit .before .before in
     let place = long .before .before in
     let f = place .before .before in
-    let a = f .before .before .before .before .before in
-    changes-entry-only _ (a .args .name) (a .args .lent .now) (a .pre) (f .before .before .stored .ensures .packed) (f .find-name .ensures) (place .place .given .1) (omega (arith, long .if1 .left)) (sym (bit .gives-entry-only .ensures) ∙ c .if2 .taken)
+    let stored = f .before .before in
+    let a = stored .before .before .before in
+    changes-entry-only _ (a .args .name) (a .args .lent .now) (a .pre) (stored .stored .ensures .packed) (f .find-name .ensures)
+    (place .place .given .1) (omega (arith, long .if1 .left)) (sym (bit .gives-entry-only .ensures) ∙ c .if2 .taken)
 
 returns-4 : tie.Need-returns-4
 returns-4 c =
@@ -39,8 +45,10 @@ returns-4 c =
     let long = test .before .before .before .before in
     let place = long .before .before in
     let f = place .before .before in
-    let a = f .before .before .before .before .before in
-    changes-system _ (a .args .name) (a .args .lent .now) (a .pre) (f .before .before .stored .ensures .packed) (f .find-name .ensures) (place .place .given .1) (omega (arith, long .if1 .left)) (sym (test .is-system .ensures) ∙ c .if3 .taken)
+    let stored = f .before .before in
+    let a = stored .before .before .before in
+    changes-system _ (a .args .name) (a .args .lent .now) (a .pre) (stored .stored .ensures .packed) (f .find-name .ensures)
+    (place .place .given .1) (omega (arith, long .if1 .left)) (sym (test .is-system .ensures) ∙ c .if3 .taken)
 
 returns-5 : tie.Need-returns-5
 returns-5 c =
@@ -51,8 +59,11 @@ returns-5 c =
     let long = no-bit .before .before .before in
     let place = long .before .before in
     let f = place .before .before in
-    let a = f .before .before .before .before .before in
-    changes-open _ (a .args .name) (a .args .lent .now) (a .pre) (f .before .before .stored .ensures .packed) (f .find-name .ensures) (place .place .given .1) (omega (arith, long .if1 .left)) (sym (no-bit .before .gives-entry-only .ensures) ∙ no-bit .if2 .left) (sym (test .is-system .ensures) ∙ own .if3 .left) (sym (live .is-open .ensures) ∙ c .if4 .taken)
+    let stored = f .before .before in
+    let a = stored .before .before .before in
+    changes-open _ (a .args .name) (a .args .lent .now) (a .pre) (stored .stored .ensures .packed) (f .find-name .ensures)
+    (place .place .given .1) (omega (arith, long .if1 .left)) (sym (no-bit .before .gives-entry-only .ensures) ∙ no-bit .if2 .left)
+    (sym (test .is-system .ensures) ∙ own .if3 .left) (sym (live .is-open .ensures) ∙ c .if4 .taken)
 
 change-file-requires : tie.Need-change-file-requires
 change-file-requires c κs =
@@ -64,9 +75,11 @@ change-file-requires c κs =
     let long = no-bit .before .before .before in
     let place = long .before .before in
     let f = place .before .before in
-    let a = f .before .before .before .before .before in
-    can-change-file _ (a .args .name) (a .args .lent .now) (a .pre) (f .before .before .stored .ensures .packed) (f .find-name .ensures) (place .place .given .1) (omega (arith, long .if1 .left)) (sym (no-bit .before .gives-entry-only .ensures) ∙ no-bit .if2 .left) (sym (test .is-system .ensures) ∙ own .if3 .left)
-    (sym (live .is-open .ensures) ∙ shut .if4 .left)
+    let stored = f .before .before in
+    let a = stored .before .before .before in
+    can-change-file _ (a .args .name) (a .args .lent .now) (a .pre) (stored .stored .ensures .packed) (f .find-name .ensures)
+    (place .place .given .1) (omega (arith, long .if1 .left)) (sym (no-bit .before .gives-entry-only .ensures) ∙ no-bit .if2 .left)
+    (sym (test .is-system .ensures) ∙ own .if3 .left) (sym (live .is-open .ensures) ∙ shut .if4 .left)
 
 returns-6 : tie.Need-returns-6
 returns-6 c =
@@ -79,9 +92,11 @@ returns-6 c =
     let long = no-bit .before .before .before in
     let place = long .before .before in
     let f = place .before .before in
-    let a = f .before .before .before .before .before in
-    changes-file _ (a .args .name) (a .args .lent .now) (a .pre) (f .before .before .stored .ensures .packed) (f .find-name .ensures) (place .place .given .1) (omega (arith, long .if1 .left)) (sym (no-bit .before .gives-entry-only .ensures) ∙ no-bit .if2 .left) (sym (test .is-system .ensures) ∙ own .if3 .left)
-    (sym (live .is-open .ensures) ∙ shut .if4 .left) (changed .change-file .ensures)
+    let stored = f .before .before in
+    let a = stored .before .before .before in
+    changes-file _ (a .args .name) (a .args .lent .now) (a .pre) (stored .stored .ensures .packed) (f .find-name .ensures)
+    (place .place .given .1) (omega (arith, long .if1 .left)) (sym (no-bit .before .gives-entry-only .ensures) ∙ no-bit .if2 .left)
+    (sym (test .is-system .ensures) ∙ own .if3 .left) (sym (live .is-open .ensures) ∙ shut .if4 .left) (changed .change-file .ensures)
 
 pub change-spec : {M : Type 1} → statement M
 change-spec =

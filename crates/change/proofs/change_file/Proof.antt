@@ -7,7 +7,7 @@ use Rattle.change.proofs.change_file.Statement.{statement}
 use Rattle.change.proofs.change_file.Tie as tie
 
 -- the lent words are words
-words : (c : tie.After-standing) → Words (c .before .before .before .before .args .lent .now)
+words : (c : tie.After-standing) → let start = c .before .before .before .before in Words (start .args .lent .now)
 words c = record { each = λ k. c .before .before .shared-slice-known .given k .fits }
 
 judged-requires : tie.Need-judged-requires
@@ -15,7 +15,8 @@ judged-requires c κs =
     let lay = c .before in
     let wan = lay .before .before in
     let sta = wan .before in
-    can-judge (sta .standing .ensures) (wan .wanted .ensures) (lay .layers-for .ensures) (sta .before .before .before .before .pre .can)
+    let start = sta .before .before .before .before in
+    can-judge (sta .standing .ensures) (wan .wanted .ensures) (lay .layers-for .ensures) (start .pre .can)
 
 returns : tie.Need-returns
 returns c =

@@ -20,7 +20,7 @@ returns-2 c =
     }
 
 room-requires : tie.Need-room-requires
-room-requires c κs = can-ask (c .before .before .before .before .before .before .pre .asked)
+room-requires c κs = let start = c .before .before .before .before .before .before in can-ask (start .pre .asked)
 
 returns-3 : tie.Need-returns-3
 returns-3 c =

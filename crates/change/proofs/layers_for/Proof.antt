@@ -16,7 +16,7 @@ key-requires : tie.Need-key-requires
 key-requires c κs = some-layers (c .before .before .before .pre) .0
 
 key-requires-2 : tie.Need-key-requires-2
-key-requires-2 c κs = some-layers (c .before .before .before .before .pre) .0
+key-requires-2 c κs = let start = c .before .before .before .before in some-layers (start .pre) .0
 
 returns-2 : tie.Need-returns-2
 returns-2 c =
@@ -28,9 +28,10 @@ returns-2 c =
 
 find-unused-requires : tie.Need-find-unused-requires
 find-unused-requires c κs =
-    let start = c .before .before .before .before .before .before in
+    let key = c .before .before in
+    let start = key .before .before .before .before in
     let low = some-layers (start .pre) .0 in
-    (searchable (start .pre), rw (c .before .before .key .ensures) (mod-lt _ (omega (arith, low))))
+    (searchable (start .pre), rw (key .key .ensures) (mod-lt _ (omega (arith, low))))
 
 add-result : tie.Need-add-result
 add-result c =

@@ -8,7 +8,8 @@ use Rattle.change.proofs.standing.Tie as tie
 slice-total-requires : tie.Need-slice-total-requires
 slice-total-requires c κs =
     let index = c .before in
-    slices-fit (index .before .before .before .before .pre .can) (index .entry-word3 .ensures) (c .file-block .ensures .1)
+    let start = index .before .before .before .before in
+    slices-fit (start .pre .can) (index .entry-word3 .ensures) (c .file-block .ensures .1)
 
 returns : tie.Need-returns
 returns c =

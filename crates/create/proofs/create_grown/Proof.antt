@@ -6,7 +6,7 @@ use Rattle.create.proofs.create_grown.Statement.{statement}
 use Rattle.create.proofs.create_grown.Tie as tie
 
 add-room : tie.Need-add-room
-add-room c = omega (arith, layers-fit (c .before .before .before .before .before .pre .can))
+add-room c = let start = c .before .before .before .before .before in omega (arith, layers-fit (start .pre .can))
 
 room-requires : tie.Need-room-requires
 room-requires c κs =
@@ -34,7 +34,8 @@ key-requires : tie.Need-key-requires
 key-requires c κs =
     let left = c .before .before .before .before .before in
     let empty = left .before .before .before .before .before in
-    some-key (empty .before .before .before .pre .can)
+    let start = empty .before .before .before in
+    some-key (start .pre .can)
 
 find-unused-requires : tie.Need-find-unused-requires
 find-unused-requires c κs =

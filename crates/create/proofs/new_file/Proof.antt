@@ -12,13 +12,17 @@ lent : (c : tie.After-shared-slice-known) → Words (c .before .before .args .wo
 lent c = record { each = λ k. omega (arith, c .shared-slice-known .given k) }
 
 returns : tie.Need-returns
-returns c = refused-legal _ _ _ _ _ (c .before .is-legal .ensures) (c .before .before .before .before .args .words .now) (c .if1 .taken)
+returns c =
+    let start = c .before .before .before .before in
+    refused-legal _ _ _ _ _ (c .before .is-legal .ensures) (start .args .words .now) (c .if1 .taken)
 
 returns-2 : tie.Need-returns-2
 returns-2 c =
     let f = c .before .before in
     let left = f .before .before in
-    refused-name _ _ _ _ _ (left .before .is-legal .ensures) (left .if1 .left) (f .find-name .ensures) (left .before .before .before .before .args .words .now) (c .enum-told2 .given .1)
+    let start = left .before .before .before .before in
+    refused-name _ _ _ _ _ (left .before .is-legal .ensures) (left .if1 .left) (f .find-name .ensures) (start .args .words .now)
+    (c .enum-told2 .given .1)
 
 find-unused-requires : tie.Need-find-unused-requires
 find-unused-requires c κs =

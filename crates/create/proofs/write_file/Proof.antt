@@ -9,19 +9,22 @@ take-more-requires : tie.Need-take-more-requires
 take-more-requires c κs =
     let empty = c .before in
     let need = empty .before in
-    can-take (need .before .before .before .pre .can) (empty .empty-block .ensures) (need .need .ensures)
+    let start = need .before .before .before in
+    can-take (start .pre .can) (empty .empty-block .ensures) (need .need .ensures)
 
 zero-sectors-requires : tie.Need-zero-sectors-requires
 zero-sectors-requires c κs =
     let took = c .before .before .before in
     let empty = took .before .before in
     let need = empty .before in
-    can-zero (need .before .before .before .pre .can) (empty .empty-block .ensures) (need .need .ensures) (took .take-more .ensures)
+    let start = need .before .before .before in
+    can-zero (start .pre .can) (empty .empty-block .ensures) (need .need .ensures) (took .take-more .ensures)
 
 mul-enter : tie.Need-mul-enter
 mul-enter c =
     let need = c .before .before .before .before .before .before .before .before .before .before .before .before in
-    omega (arith, reserved-small (need .before .before .before .pre .can) (need .need .ensures))
+    let start = need .before .before .before in
+    omega (arith, reserved-small (start .pre .can) (need .need .ensures))
 
 enter-requires : tie.Need-enter-requires
 enter-requires c κs =
@@ -29,7 +32,9 @@ enter-requires c κs =
     let took = zeroed .before .before .before .before in
     let empty = took .before .before in
     let need = empty .before in
-    can-enter (need .before .before .before .pre .can) (empty .empty-block .ensures) (need .need .ensures) (took .take-more .ensures) (zeroed .zero-sectors .ensures)
+    let start = need .before .before .before in
+    can-enter (start .pre .can) (empty .empty-block .ensures) (need .need .ensures) (took .take-more .ensures)
+    (zeroed .zero-sectors .ensures)
 
 count-free-requires : tie.Need-count-free-requires
 count-free-requires c κs =
@@ -39,8 +44,9 @@ count-free-requires c κs =
     let took = zeroed .before .before .before .before in
     let empty = took .before .before in
     let need = empty .before in
-    can-count (need .before .before .before .pre .can) (empty .empty-block .ensures) (need .need .ensures) (took .take-more .ensures) (zeroed .zero-sectors .ensures)
-    (told .block-sector .ensures) (entered .enter .ensures)
+    let start = need .before .before .before in
+    can-count (start .pre .can) (empty .empty-block .ensures) (need .need .ensures) (took .take-more .ensures)
+    (zeroed .zero-sectors .ensures) (told .block-sector .ensures) (entered .enter .ensures)
 
 returns : tie.Need-returns
 returns c =

@@ -21,16 +21,20 @@ full c =
 find-requires : tie.Need-find-requires
 find-requires c κs =
     let sys = c .before in
-    omega (arith, ap (λ (x : Catalog). x .keys) (sys .sys .ensures), sys .before .before .before .pre .unit .limits .keys-low)
+    let start = sys .before .before .before in
+    omega (arith, ap (λ (x : Catalog). x .keys) (sys .sys .ensures), start .pre .unit .limits .keys-low)
 
 returns : tie.Need-returns
 returns c =
     let f = c .before .before in
     let sys = f .before .before in
-    layers-none (sys .before .before .before .pre) (full sys) (f .before .sys-name .ensures .packed) (f .find .ensures) (c .enum-told .given .1)
+    let start = sys .before .before .before in
+    layers-none (start .pre) (full sys) (f .before .sys-name .ensures .packed) (f .find .ensures) (c .enum-told .given .1)
 
 mul-if1 : tie.Need-mul-if1
-mul-if1 c = omega (arith, div-mul-le-self (c .entry-word .result) (c .before .before .before .before .before .before .before .before .before .args .g .keys))
+mul-if1 c =
+    let start = c .before .before .before .before .before .before .before .before .before in
+    omega (arith, div-mul-le-self (c .entry-word .result) (start .args .g .keys))
 
 returns-2 : tie.Need-returns-2
 returns-2 c =
@@ -38,7 +42,9 @@ returns-2 c =
     let place = word .before .before in
     let f = place .before .before in
     let sys = f .before .before in
-    layers-part (sys .before .before .before .pre) (full sys) (f .before .sys-name .ensures .packed) (f .find .ensures) (place .place .given .1) (word .entry-word .ensures) refl (c .if1 .taken)
+    let start = sys .before .before .before in
+    layers-part (start .pre) (full sys) (f .before .sys-name .ensures .packed) (f .find .ensures) (place .place .given .1)
+    (word .entry-word .ensures) refl (c .if1 .taken)
 
 mul-if2 : tie.Need-mul-if2
 mul-if2 c =
@@ -53,8 +59,9 @@ returns-3 c =
     let place = word .before .before in
     let f = place .before .before in
     let sys = f .before .before in
-    layers-other (sys .before .before .before .pre) (full sys) (f .before .sys-name .ensures .packed) (f .find .ensures) (place .place .given .1) (word .entry-word .ensures) refl
-    (sys .before .sys-sectors .ensures) (d .ceil-div .ensures) (c .if2 .taken)
+    let start = sys .before .before .before in
+    layers-other (start .pre) (full sys) (f .before .sys-name .ensures .packed) (f .find .ensures) (place .place .given .1)
+    (word .entry-word .ensures) refl (sys .before .sys-sectors .ensures) (d .ceil-div .ensures) (c .if2 .taken)
 
 returns-4 : tie.Need-returns-4
 returns-4 c =
@@ -64,8 +71,9 @@ returns-4 c =
     let place = word .before .before in
     let f = place .before .before in
     let sys = f .before .before in
-    layers-found (sys .before .before .before .pre) (full sys) (f .before .sys-name .ensures .packed) (f .find .ensures) (place .place .given .1) (word .entry-word .ensures) refl
-    (sys .before .sys-sectors .ensures) (d .ceil-div .ensures) (else1 .if1 .left) (c .if2 .left)
+    let start = sys .before .before .before in
+    layers-found (start .pre) (full sys) (f .before .sys-name .ensures .packed) (f .find .ensures) (place .place .given .1)
+    (word .entry-word .ensures) refl (sys .before .sys-sectors .ensures) (d .ceil-div .ensures) (else1 .if1 .left) (c .if2 .left)
 
 pub find-layers-spec : {M : Type 1} → statement M
 find-layers-spec =

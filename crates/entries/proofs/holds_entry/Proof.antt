@@ -22,7 +22,7 @@ returns : tie.Need-returns Inv-loop μ-loop
 returns c = fails (λ h. c .if1 .taken (h .at (c .before .before .before .before .loop .w) (c .before .before .before .loop-test .taken)))
 
 loop-again : tie.Need-loop-again Inv-loop μ-loop
-loop-again c = (omega arith, below-more _ _ (c .before .before .before .before .loop .inv .1) (c .if1 .left))
+loop-again c = let at = c .before .before .before .before in (omega arith, below-more _ _ (at .loop .inv .1) (c .if1 .left))
 
 returns-2 : tie.Need-returns-2 Inv-loop μ-loop
 returns-2 c = holds (record { at = λ w h. c .before .loop .inv .1 w (omega arith) })

@@ -26,8 +26,9 @@ loop-holds c = (omega arith, λ e k h. absurd (omega arith), λ f. refl)
 
 loop-again : tie.Need-loop-again Inv-loop μ-loop
 loop-again c =
-    let inv = c .before .before .loop .inv in
-    (omega arith, λ e. let n = or-none _ _ e in below-more _ _ (inv .1 (n .0)) (n .1), λ f. ap₂ bitOr (inv .2 (λ k h. f k (omega arith))) (f (c .before .before .loop .w) (omega arith)))
+    let at = c .before .before in
+    let inv = at .loop .inv in
+    (omega arith, λ e. let n = or-none _ _ e in below-more _ _ (inv .1 (n .0)) (n .1), λ f. ap₂ bitOr (inv .2 (λ k h. f k (omega arith))) (f (at .loop .w) (omega arith)))
 
 returns : tie.Need-returns Inv-loop μ-loop
 returns c =

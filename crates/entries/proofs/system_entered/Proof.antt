@@ -24,7 +24,7 @@ returns c =
     fails (λ n. not-met (start .pre .0 .catalog) (all start) (f .before .sys-name .ensures .packed) (f .find .ensures) (lit< tt) (n .places) (c .enum-told2 .given .1) (n .sysMet))
 
 find-requires-2 : tie.Need-find-requires-2
-find-requires-2 c κs = some-key (c .before .before .before .before .before .before .before .pre .0 .catalog)
+find-requires-2 c κs = let start = c .before .before .before .before .before .before .before in some-key (start .pre .0 .catalog)
 
 returns-2 : tie.Need-returns-2
 returns-2 c =

@@ -8,8 +8,9 @@ use Rattle.entries.proofs.system_legal.Tie as tie
 
 returns-2 : tie.Need-returns-2
 returns-2 c =
-    let n = c .before .before .before .pre .2 in
-    let other = other-first (c .before .before .before .args .name .0) (c .before .begins-as-system .ensures) (c .if1 .left) in
+    let start = c .before .before .before in
+    let n = start .pre .2 in
+    let other = other-first (start .args .name .0) (c .before .begins-as-system .ensures) (c .if1 .left) in
     holds (ordinary (λ e. omega (arith, other .0, n .first, n .second-word, n .third-word)) (λ e. omega (arith, other .1, n .first, n .second-word, n .third-word)))
 
 pub system-legal-spec : {M : Type 1} → statement M

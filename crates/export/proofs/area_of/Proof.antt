@@ -5,10 +5,11 @@ use Rattle.export.proofs.area_of.Tie as tie
 
 returns : tie.Need-returns
 returns c =
-    let u2 = c .before .before .before .before in
+    let is-set = c .before .before .before in
+    let u2 = is-set .before in
     let u1 = u2 .before .before in
     let u0 = u1 .before .before in
-    simp (u0 .user-of .ensures, u1 .user-of2 .ensures, u2 .user-of3 .ensures, c .before .before .before .is-set .ensures)
+    simp (u0 .user-of .ensures, u1 .user-of2 .ensures, u2 .user-of3 .ensures, is-set .is-set .ensures)
 
 pub area-of-spec : {M : Type 1} → statement M
 area-of-spec =

@@ -18,8 +18,11 @@ returns-9 c =
 -- no call
 returns-12 : tie.Need-returns-12
 returns-12 c =
+    let start = c .before .before .before .before .before in
     let no = c .match .rest in
-    other-number (c .before .before .before .before .before .args .t1) _ (no .0 .0 .0 .0 .0 .0 .0 .0 .0 .0 .1) (no .0 .0 .0 .0 .0 .0 .0 .0 .0 .1) (no .0 .0 .0 .0 .0 .0 .0 .0 .1) (no .0 .0 .0 .0 .0 .0 .0 .1) (no .0 .0 .0 .0 .0 .0 .1) (no .0 .0 .0 .0 .0 .1) (no .0 .0 .0 .0 .1) (no .0 .0 .0 .1) (no .0 .0 .1) (no .0 .1) (no .1)
+    other-number (start .args .t1) _ (no .0 .0 .0 .0 .0 .0 .0 .0 .0 .0 .1) (no .0 .0 .0 .0 .0 .0 .0 .0 .0 .1)
+    (no .0 .0 .0 .0 .0 .0 .0 .0 .1) (no .0 .0 .0 .0 .0 .0 .0 .1) (no .0 .0 .0 .0 .0 .0 .1) (no .0 .0 .0 .0 .0 .1) (no .0 .0 .0 .0 .1)
+    (no .0 .0 .0 .1) (no .0 .0 .1) (no .0 .1) (no .1)
 
 pub asked-of-spec : {M : Type 1} → statement M
 asked-of-spec =

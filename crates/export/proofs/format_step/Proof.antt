@@ -11,10 +11,11 @@ use Rattle.export.proofs.format_step.Tie as tie
 
 returns : tie.Need-returns
 returns c =
+    let state-of = c .before .before .before .before .before .before in
+    let start = state-of .before .before .before in
     let f = c .before .before .before .before .format in
-    let start = c .before .before .before .before .before .before .before .before .before in
-    formats (arrays (start .args .state) _ (start .good .0)) (c .before .before .before .before .before .before .state-of .ensures) (shaped (f .result .state) _ (LL.owed F.the-type F′.the-laws (f .result) _ (f .ok) .1 .0))
-    (c .remirror .ensures) (f .ensures)
+    formats (arrays (start .args .state) _ (start .good .0)) (state-of .state-of .ensures)
+    (shaped (f .result .state) _ (LL.owed F.the-type F′.the-laws (f .result) _ (f .ok) .1 .0)) (c .remirror .ensures) (f .ensures)
 
 pub format-step-spec : {M : Type 1} → statement M
 format-step-spec = tie.close (tie.spec (λ c κs. search needs) (λ c κs. search needs) (λ c κs. search needs) (λ c. search needs) returns)

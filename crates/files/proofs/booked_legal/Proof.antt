@@ -14,36 +14,46 @@ mul-if1 : tie.Need-mul-if1
 mul-if1 c = let a = c .before .before .before .args in omega (arith, div-mul-le-self (a .entry .reserved) (a .s))
 
 returns : tie.Need-returns
-returns c = fails (λ b. c .if1 .taken (booked-whole (c .before .before .before .before .before .pre) b))
+returns c = let start = c .before .before .before .before .before in fails (λ b. c .if1 .taken (booked-whole (start .pre) b))
 
 returns-2 : tie.Need-returns-2
-returns-2 c = fails (λ b. omega (arith, booked-own (c .before .before .before .before .before .before .pre) b, b .slices-low))
+returns-2 c =
+    let start = c .before .before .before .before .before .before in
+    fails (λ b. omega (arith, booked-own (start .pre) b, b .slices-low))
 
 returns-3 : tie.Need-returns-3
 returns-3 c = fails (λ b. omega (arith, b .length-low))
 
 returns-4 : tie.Need-returns-4
-returns-4 c = fails (λ b. refutes _ (c .before .covered .ensures) (c .if4 .taken) (booked-covered (c .before .before .before .before .before .before .before .before .before .before .before .pre) b))
+returns-4 c =
+    let start = c .before .before .before .before .before .before .before .before .before .before .before in
+    fails (λ b. refutes _ (c .before .covered .ensures) (c .if4 .taken) (booked-covered (start .pre) b))
 
 returns-5 : tie.Need-returns-5
 returns-5 c =
-    let d = c .before .before .before in
+    let else4 = c .before .before in
+    let d = else4 .before in
     let e = d .before .before in
-    let a = e .before .before .before .before .before .before .before .before .args in
+    let else1 = e .before .before .before in
+    let start = else1 .before .before .before .before .before in
+    let a = start .args in
     let z : indexIf (a .entry .reserved / a .s) (a .live .index .0) ≡ 0 = ap (λ (n : ℕ). indexIf n (a .live .index .0)) (c .before .if5 .taken) in
     decides-eq (a .entry .index .0) 0
-    (λ i. booked-is (e .before .before .before .before .before .before .before .before .pre) (e .before .before .before .if1 .left) (omega arith) (omega arith) (grants _ (d .covered .ensures) (c .before .before .if4 .left)) (i ∙ sym z))
-    (λ b. booked-index (e .before .before .before .before .before .before .before .before .pre) b ∙ z)
+    (λ i. booked-is (start .pre) (else1 .if1 .left) (omega arith) (omega arith) (grants _ (d .covered .ensures) (else4 .if4 .left)) (i ∙ sym z))
+    (λ b. booked-index (start .pre) b ∙ z)
 
 returns-6 : tie.Need-returns-6
 returns-6 c =
-    let d = c .before .before .before .before in
+    let else5 = c .before .before in
+    let d = else5 .before .before in
     let e = d .before .before in
-    let a = e .before .before .before .before .before .before .before .before .args in
-    let z : indexIf (a .entry .reserved / a .s) (a .live .index .0) ≡ a .live .index .0 = index-some (a .entry .reserved / a .s) (a .live .index .0) (c .before .before .if5 .left) in
+    let else1 = e .before .before .before in
+    let start = else1 .before .before .before .before .before in
+    let a = start .args in
+    let z : indexIf (a .entry .reserved / a .s) (a .live .index .0) ≡ a .live .index .0 = index-some (a .entry .reserved / a .s) (a .live .index .0) (else5 .if5 .left) in
     decides-eq (a .entry .index .0) (a .live .index .0)
-    (λ i. booked-is (e .before .before .before .before .before .before .before .before .pre) (e .before .before .before .if1 .left) (omega arith) (omega arith) (grants _ (d .covered .ensures) (c .before .before .before .if4 .left)) (i ∙ sym z))
-    (λ b. booked-index (e .before .before .before .before .before .before .before .before .pre) b ∙ z)
+    (λ i. booked-is (start .pre) (else1 .if1 .left) (omega arith) (omega arith) (grants _ (d .covered .ensures) (else5 .before .if4 .left)) (i ∙ sym z))
+    (λ b. booked-index (start .pre) b ∙ z)
 
 pub booked-legal-spec : {M : Type 1} → statement M
 booked-legal-spec =

@@ -18,13 +18,14 @@ stretches-sound-requires c κs =
 
 returns : tie.Need-returns
 returns c =
-    let stretches = c .before .before .before in
+    let then1 = c .before .before in
+    let stretches = then1 .before in
     let upto = stretches .before .before .before .before .before .before .before .before .before in
     let flat = upto .before .before in
     let start = flat .before .before .before .before .before in
     let a = start .args in
     let judged = files-marked (a .image .now) (a .state) (a .g) _ _ _ (areas-length (a .state) _ (start .good .1 .0)) (flat .flatten .ensures) (upto .open-upto .ensures) (a .sys .layers) (start .pre .1) (stretches .stretches-sound .ensures) (start .pre .0 .known .marked) in
-    (λ _. c .unmark-all .ensures, refuses (judged .not (not-true _ (c .before .before .if1 .taken))))
+    (λ _. c .unmark-all .ensures, refuses (judged .not (not-true _ (then1 .if1 .taken))))
 
 returns-2 : tie.Need-returns-2
 returns-2 c =

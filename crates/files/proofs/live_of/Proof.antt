@@ -22,10 +22,11 @@ loop-holds c = (omega arith, live-start _ _ _ _ _)
 
 returns : tie.Need-returns Inv-loop μ-loop
 returns c =
-    let l = c .before .before .before .before .before .before in
+    let then1 = c .before .before in
+    let test = then1 .before in
+    let l = test .before .before .before in
     let a = l .before .args in
-    let test = c .before .before .before in
-    let same = eqb-true (getD (a .names .now) (l .loop .j) 0) (a .name) (sym (test .same-number .ensures) ∙ c .before .before .if1 .taken) in
+    let same = eqb-true (getD (a .names .now) (l .loop .j) 0) (a .name) (sym (test .same-number .ensures) ∙ then1 .if1 .taken) in
     sym (l .loop .inv .1 ∙ live-hit _ _ _ _ _ (l .loop .j) (omega arith) same)
 
 loop-again : tie.Need-loop-again Inv-loop μ-loop

@@ -29,14 +29,17 @@ returns-4 c =
 
 returns-5 : tie.Need-returns-5
 returns-5 c =
-    let covered = c .before .before .before in
+    let else4 = c .before .before in
+    let covered = else4 .before in
     let size = covered .before .before in
     let with = size .before .before in
     let first = with .before .before in
     let a = first .before .args in
     let e = size .live-length .ensures in
-    numbers-open (T-of (sym (first .legal .ensures) ∙ not-false _ (with .before .if1 .left))) (T-of (sym (with .legal-with .ensures) ∙ not-false _ (size .before .if2 .left)))
-    (omega (arith, e)) (subst (λ (n : ℕ). need (a .s) n ≤ a .slices) e (grants _ (covered .covered .ensures) (c .before .before .if4 .left))) (c .before .if5 .taken) (c .booked-legal .ensures)
+    numbers-open (T-of (sym (first .legal .ensures) ∙ not-false _ (with .before .if1 .left)))
+    (T-of (sym (with .legal-with .ensures) ∙ not-false _ (size .before .if2 .left))) (omega (arith, e))
+    (subst (λ (n : ℕ). need (a .s) n ≤ a .slices) e (grants _ (covered .covered .ensures) (else4 .if4 .left))) (c .before .if5 .taken)
+    (c .booked-legal .ensures)
 
 mul-result : tie.Need-mul-result
 mul-result c =
@@ -47,14 +50,16 @@ mul-result c =
 
 returns-6 : tie.Need-returns-6
 returns-6 c =
-    let covered = c .before .before .before in
+    let else4 = c .before .before in
+    let covered = else4 .before in
     let size = covered .before .before in
     let with = size .before .before in
     let first = with .before .before in
     let a = first .before .args in
     let e = size .live-length .ensures in
-    numbers-closed (T-of (sym (first .legal .ensures) ∙ not-false _ (with .before .if1 .left))) (T-of (sym (with .legal-with .ensures) ∙ not-false _ (size .before .if2 .left)))
-    (omega (arith, e)) (subst (λ (n : ℕ). need (a .s) n ≤ a .slices) e (grants _ (covered .covered .ensures) (c .before .before .if4 .left))) (c .before .if5 .left)
+    numbers-closed (T-of (sym (first .legal .ensures) ∙ not-false _ (with .before .if1 .left)))
+    (T-of (sym (with .legal-with .ensures) ∙ not-false _ (size .before .if2 .left))) (omega (arith, e))
+    (subst (λ (n : ℕ). need (a .s) n ≤ a .slices) e (grants _ (covered .covered .ensures) (else4 .if4 .left))) (c .before .if5 .left)
 
 pub numbers-legal-spec : {M : Type 1} → statement M
 numbers-legal-spec =

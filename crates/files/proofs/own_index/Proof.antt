@@ -12,8 +12,10 @@ returns c = own-none _ (c .if1 .taken) refl refl
 
 returns-2 : tie.Need-returns-2
 returns-2 c =
-    let s = c .before .before .before .before .before in
-    own-outside (s .args .q .0) _ (s .pre .0) (c .before .before .if1 .left) (λ d. refutes _ (c .before .is-data-sector .ensures) (c .if2 .taken) d) refl
+    let else1 = c .before .before in
+    let s = else1 .before .before .before in
+    own-outside (s .args .q .0) _ (s .pre .0) (else1 .if1 .left)
+    (λ d. refutes _ (c .before .is-data-sector .ensures) (c .if2 .taken) d) refl
 
 mark-index-requires : tie.Need-mark-index-requires
 mark-index-requires c κs =
@@ -22,7 +24,11 @@ mark-index-requires c κs =
     (pre .0, pre .1, ofFile (d .low) (d .high))
 
 returns-3 : tie.Need-returns-3
-returns-3 c = own-some (c .before .before .before .before .before .before .before .before .before .before .args .q .0) _ (c .before .before .before .before .before .before .before .if1 .left) (c .before .before .before .mark-index .ensures) refl refl
+returns-3 c =
+    let mark-index = c .before .before .before in
+    let else1 = mark-index .before .before .before .before in
+    let start = else1 .before .before .before in
+    own-some (start .args .q .0) _ (else1 .if1 .left) (mark-index .mark-index .ensures) refl refl
 
 pub own-index-spec : {M : Type 1} → statement M
 own-index-spec =

@@ -10,11 +10,12 @@ returns c = closed-left _
 
 returns-2 : tie.Need-returns-2
 returns-2 c =
-    let numbers = c .before .before .before in
+    let else1 = c .before .before in
+    let numbers = else1 .before in
     let entry = numbers .before in
     let pre = entry .before .before .pre in
     closed-moved (entry .entry-at .ensures)
-    (closed-marked (entry .entry-at .result) (pre .0) (grants _ (numbers .plain-numbers .ensures) (c .before .before .if1 .left)) (pre .1) (c .mark-single .ensures))
+    (closed-marked (entry .entry-at .result) (pre .0) (grants _ (numbers .plain-numbers .ensures) (else1 .if1 .left)) (pre .1) (c .mark-single .ensures))
 
 pub plain-file-spec : {M : Type 1} → statement M
 plain-file-spec =

@@ -15,12 +15,13 @@ returns-2 c = fails (λ p. true≢false (sym (c .if2 .taken) ∙ c .before .entr
 returns-3 : tie.Need-returns-3
 returns-3 c =
     let else2 = c .before in
+    let else1 = else2 .before .before in
     record {
       yes = λ e.
           record {
             allowed = sym (c .legal .ensures) ∙ e;
             slices = sym (else2 .before .entry-only .ensures) ∙ else2 .if2 .left;
-            short = omega (arith, else2 .before .before .if1 .left);
+            short = omega (arith, else1 .if1 .left);
           };
       not = λ e p. true≢false (sym (p .allowed) ∙ sym (c .legal .ensures) ∙ e);
     }

@@ -40,10 +40,12 @@ returns-2 c =
 loop-again : tie.Need-loop-again Inv-loop μ-loop
 loop-again c =
     let l = c .before .before .before .before in
-    let s = l .before .before .before .before in (
+    let else1 = l .before .before in
+    let s = else1 .before .before in (
       omega arith,
-      closed-more (s .args .image .now) (s .args .g) (placesFrom (s .args .image .now) (s .args .at)) (s .args .upto) (s .args .cells .now) (l .loop .i) (s .pre .1) (l .loop .inv .1) (c .before .plain-place .ensures) (not-false _ (c .if2 .left))
-          (λ d. absurd (d (l .before .before .if1 .left))),
+      closed-more (s .args .image .now) (s .args .g) (placesFrom (s .args .image .now) (s .args .at)) (s .args .upto) (s .args .cells .now)
+          (l .loop .i) (s .pre .1) (l .loop .inv .1) (c .before .plain-place .ensures) (not-false _ (c .if2 .left))
+          (λ d. absurd (d (else1 .if1 .left))),
     )
 
 returns-3 : tie.Need-returns-3 Inv-loop μ-loop

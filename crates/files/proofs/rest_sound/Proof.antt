@@ -74,8 +74,10 @@ loop-again c =
 returns-2 : tie.Need-returns-2 Inv-loop μ-loop
 returns-2 c =
     let l = c .before in
-    let a = l .before .before .args in
-    places-all (a .image .now) (a .g) (lives l) (placesFrom (a .image .now) (a .at)) (l .loop .i) (l .loop .inv .1) (a .count) (omega arith) (l .before .before .pre .1)
+    let start = l .before .before in
+    let a = start .args in
+    places-all (a .image .now) (a .g) (lives l) (placesFrom (a .image .now) (a .at)) (l .loop .i) (l .loop .inv .1) (a .count)
+    (omega arith) (start .pre .1)
 
 pub rest-sound-spec : {M : Type 1} → statement M
 rest-sound-spec =

@@ -35,10 +35,12 @@ lives at = let a = at .before .before .before .before .args in liveIn (a .names 
 turn-of : (c : tie.After-pair-start Inv-loop μ-loop) → let at = c .before .before .before .before in let a = at .before .before .before .before .args in
     Turn (a .image .now) (a .g) (a .g .keys * a .sys .layers) (at .loop .j) (at .loop .b) (c .before .lesser .result) (c .pair-start .result .0)
 turn-of c =
-    let at = c .before .before .before .before in
+    let pair-length = c .before .before in
+    let at = pair-length .before .before in
     let sys = at .before .before .before .before .pre .0 in
     let known = sys .known in
-    turn (known-sys known) (ap (λ (x : Catalog). x .index .0) (sys .is)) (at .loop .j) (known .room) (at .loop .inv .0) (at .loop .inv .2) (c .before .before .before .loop-test .taken) (c .before .before .pair-length .ensures) (c .before .lesser .ensures) (c .pair-start .ensures)
+    turn (known-sys known) (ap (λ (x : Catalog). x .index .0) (sys .is)) (at .loop .j) (known .room) (at .loop .inv .0) (at .loop .inv .2)
+    (pair-length .before .loop-test .taken) (pair-length .pair-length .ensures) (c .before .lesser .ensures) (c .pair-start .ensures)
 
 -- SYS's blocks are few
 few : {image : List ℕ} {g : Geometry} {marks : List ℕ} {size : ℕ} → SysKnown image g marks size → size < 65536
@@ -54,10 +56,11 @@ run-sound-requires : tie.Need-run-sound-requires Inv-loop μ-loop
 run-sound-requires c κs =
     let read = c .before .before in
     let at = read .before .before .before .before in
-    let pre = at .before .before .before .before .pre in
+    let start = at .before .before .before .before in
+    let pre = start .pre in
     let known = pre .0 .known in
     let t = turn-of read in
-    let ordinary : OrdinaryPlaces (placesFrom (at .before .before .before .before .args .image .now) (read .pair-start .result .0 * 256)) (16 * read .before .lesser .result) = λ i h.
+    let ordinary : OrdinaryPlaces (placesFrom (start .args .image .now) (read .pair-start .result .0 * 256)) (16 * read .before .lesser .result) = λ i h.
     subst OrdinaryPlace (sym (turn-places t i h)) (pre .3 (16 * at .loop .b + i) (omega (arith, t .high))) in
     (known .unit, places-some _ _ _ _ _ (at .loop .inv .3) (some-sys known), omega (arith, t .fits), pre .1, pre .2, ordinary)
 
@@ -74,23 +77,26 @@ add-b : tie.Need-add-b Inv-loop μ-loop
 add-b c =
     let read = c .before .before .before .before in
     let at = read .before .before .before .before in
-    record { fits = omega (arith, turn-of read .high, few (at .before .before .before .before .pre .0 .known)) }
+    let start = at .before .before .before .before in
+    record { fits = omega (arith, turn-of read .high, few (start .pre .0 .known)) }
 
 add-j : tie.Need-add-j Inv-loop μ-loop
 add-j c =
     let read = c .before .before .before .before in
     let at = read .before .before .before .before in
-    omega (arith, turn-of read .more, at .before .before .before .before .pre .0 .known .index .few)
+    let start = at .before .before .before .before in
+    omega (arith, turn-of read .more, start .pre .0 .known .index .few)
 
 loop-less : tie.Need-loop-less Inv-loop μ-loop
-loop-less c = omega (arith, turn-of (c .before .before .before .before) .more)
+loop-less c = let pair-start = c .before .before .before .before in omega (arith, turn-of pair-start .more)
 
 loop-again : tie.Need-loop-again Inv-loop μ-loop
 loop-again c =
     let read = c .before .before .before .before in
-    let t = turn-of read in
     let at = read .before .before .before .before in
-    let a = at .before .before .before .before .args in
+    let start = at .before .before .before .before in
+    let t = turn-of read in
+    let a = start .args in
     let n = read .before .lesser .result in
     let e : 16 * at .loop .b + 16 * n ≡ 16 * (at .loop .b + n) = omega arith in (
       omega (arith, t .more),
@@ -98,14 +104,16 @@ loop-again c =
       t .next,
       subst (PlacesPassed (a .image .now) (a .g) (lives at) (placesIn (a .image .now) (a .g)) _ _) e
           (places-more (a .image .now) (a .g) (lives at) (placesIn (a .image .now) (a .g)) (16 * at .loop .b) (at .loop .inv .3) _ _ (turn-places t) (c .before .run-sound .ensures)
-          (some-sys (at .before .before .before .before .pre .0 .known)) (not-false _ (c .if1 .left))),
+          (some-sys (start .pre .0 .known)) (not-false _ (c .if1 .left))),
     )
 
 returns-2 : tie.Need-returns-2 Inv-loop μ-loop
 returns-2 c =
     let at = c .before in
-    let a = at .before .before .before .before .args in
-    places-all (a .image .now) (a .g) (lives at) (placesIn (a .image .now) (a .g)) (16 * at .loop .b) (at .loop .inv .3) (16 * (a .g .keys * a .sys .layers)) (omega arith) (some-sys (at .before .before .before .before .pre .0 .known))
+    let start = at .before .before .before .before in
+    let a = start .args in
+    places-all (a .image .now) (a .g) (lives at) (placesIn (a .image .now) (a .g)) (16 * at .loop .b) (at .loop .inv .3)
+    (16 * (a .g .keys * a .sys .layers)) (omega arith) (some-sys (start .pre .0 .known))
 
 pub stretches-sound-spec : {M : Type 1} → statement M
 stretches-sound-spec =

@@ -11,7 +11,8 @@ use Rattle.format.proofs.accepts.Statement.{statement}
 use Rattle.format.proofs.accepts.Tie as tie
 
 -- the limits, once they are tested
-limits : (c : tie.Else2) → LentLimits (c .before .before .before .before .before .before .before .before .before .before .before .args .lent .now)
+limits : (c : tie.Else2) → let start = c .before .before .before .before .before .before .before .before .before .before .before in
+    LentLimits (start .args .lent .now)
 limits c = grants _ (c .before .within-limits .ensures) (c .if2 .left)
 
 pub accepts-spec : {M : Type 1} → statement M

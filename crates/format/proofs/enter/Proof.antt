@@ -6,7 +6,8 @@ use Rattle.format.proofs.enter.Tie as tie
 returns : tie.Need-returns
 returns c =
     let wrote = c .before .before in
-    rw (wrote .before .before .before .system-entry .ensures) at (wrote .store-words .ensures)
+    let system-entry = wrote .before .before .before in
+    rw (system-entry .system-entry .ensures) at (wrote .store-words .ensures)
 
 pub enter-spec : {M : Type 1} → statement M
 enter-spec =

@@ -10,10 +10,11 @@ use Rattle.format.proofs.format.Statement.{statement}
 use Rattle.format.proofs.format.Tie as tie
 
 -- the record is lent, and no question has the answer no
-lent : (c : tie.Else2) → RecordLent (c .before .before .before .before .args .bytes) (c .before .before .before .before .args .lent .now)
+lent : (c : tie.Else2) → let start = c .before .before .before .before in RecordLent (start .args .bytes) (start .args .lent .now)
 lent c = record { count = c .before .if1 .left; words = omega arith }
 
-fine : (c : tie.Else3) → Formattable (c .before .before .before .before .before .before .before .args .image .now) (c .before .before .before .before .before .before .before .args .state) (c .before .before .before .before .before .before .before .args .lent .now)
+fine : (c : tie.Else3) → let start = c .before .before .before .before .before .before .before in
+    Formattable (start .args .image .now) (start .args .state) (start .args .lent .now)
 fine c = grants _ (c .before .accepts .ensures) (c .if3 .left)
 
 returns : tie.Need-returns
@@ -28,23 +29,32 @@ returns-3 c =
 
 write-system-requires : tie.Need-write-system-requires
 write-system-requires c κs =
-    let f = fine (c .before) in (lent (c .before .before .before .before) .words, f .limits, f .size)
+    let else2 = c .before .before .before .before in
+    let f = fine (c .before) in
+    (lent else2 .words, f .limits, f .size)
 
 write-catalog-requires : tie.Need-write-catalog-requires
 write-catalog-requires c κs =
-    let f = fine (c .before .before .before .before .before) in
-    let a = c .before .before .before .before .before .before .before .before .before .before .before .before .args in
+    let write-system = c .before .before .before in
+    let else3 = write-system .before .before in
+    let else2 = else3 .before .before .before in
+    let f = fine else3 in
+    let a = else2 .before .before .before .before .args in
     let l = a .lent .now in
-    (lent (c .before .before .before .before .before .before .before .before) .words, f .limits, length-written (a .image .now) _ (lentKeys l) (lentSlice l) (lentFirst l) (lentSectors l) (getD l 7 0) (getD l 8 0) (c .before .before .before .write-system .ensures) ∙ f .size)
+    (lent else2 .words, f .limits, length-written (a .image .now) _ (lentKeys l) (lentSlice l) (lentFirst l) (lentSectors l) (getD l 7 0) (getD l 8 0) (write-system .write-system .ensures) ∙ f .size)
 
 returns-4 : tie.Need-returns-4
 returns-4 c =
-    let system = c .before .before .before .before .before .before .before in
-    let a = system .before .before .before .before .before .before .before .before .before .args in
+    let write-catalog = c .before .before .before in
+    let system = write-catalog .before .before .before .before in
+    let else3 = system .before .before in
+    let else2 = else3 .before .before .before in
+    let a = else2 .before .before .before .before .args in
     let l = a .lent .now in
-    written (lent (system .before .before .before .before .before)) (fine (system .before .before)) (record {
+    written (lent else2) (fine else3) (record {
       word = refl;
-      whole = format-written (a .image .now) _ _ (lentKeys l) (lentSlice l) (lentFirst l) (lentSectors l) (getD l 7 0) (getD l 8 0) (system .write-system .ensures) (c .before .before .before .write-catalog .ensures);
+      whole = format-written (a .image .now) _ _ (lentKeys l) (lentSlice l) (lentFirst l) (lentSectors l) (getD l 7 0) (getD l 8 0)
+          (system .write-system .ensures) (write-catalog .write-catalog .ensures);
       left = c .with-initialized .ensures;
     })
 

@@ -28,7 +28,8 @@ mul-word c =
     )
 
 -- one bit more
-turn : (c : tie.After-map-bit Inv-loop μ-loop) → BitsDone (c .before .before .before .before .args .slices) (span 1 (c .before .before .before .before .args .used)) (c .before .before .before .before .args .w) (c .before .before .before .loop .b + 1) (c .before .before .before .loop .word * 2 + c .map-bit .result)
+turn : (c : tie.After-map-bit Inv-loop μ-loop) → let at = c .before .before .before in
+    BitsDone (at .before .args .slices) (span 1 (at .before .args .used)) (at .before .args .w) (at .loop .b + 1) (at .loop .word * 2 + c .map-bit .result)
 turn c =
     let a = c .before .before .before .before .args in
     let l = c .before .before .before .loop in

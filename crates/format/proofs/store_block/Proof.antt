@@ -6,8 +6,10 @@ use Rattle.format.proofs.store_block.Tie as tie
 
 returns : tie.Need-returns
 returns c =
-    let a = c .before .before .before .before .before .before .before .before .before .before .args in
-    block-stores (a .image .now) (a .q .0) (a .block .now) _ _ (c .before .before .before .before .before .before .store-words .ensures) (c .before .before .clear-words .ensures)
+    let clear-words = c .before .before in
+    let store-words = clear-words .before .before .before .before in
+    let a = store-words .before .before .before .before .args in
+    block-stores (a .image .now) (a .q .0) (a .block .now) _ _ (store-words .store-words .ensures) (clear-words .clear-words .ensures)
 
 pub store-block-spec : {M : Type 1} → statement M
 store-block-spec =

@@ -24,7 +24,10 @@ clear-words-requires c κs =
     omega (arith, sys-end (lentKeys l) (lentSlice l) (lentFirst l) (lentSectors l) (start .pre .1))
 
 -- the sectors of SYS's and of MAP's key
-sys-sector : (c : tie.After-sector-after) → (c .sector-after .result .0 ≡ lentFirst (c .before .before .before .before .before .before .before .before .before .before .before .before .before .before .before .before .args .lent .now) + c .before .before .before .before .before .before .before .before .key .result) × (lentFirst (c .before .before .before .before .before .before .before .before .before .before .before .before .before .before .before .before .args .lent .now) + c .before .before .before .before .before .before .before .before .key .result < lentSectors (c .before .before .before .before .before .before .before .before .before .before .before .before .before .before .before .before .args .lent .now))
+sys-sector : (c : tie.After-sector-after) →
+    let key = c .before .before .before .before .before .before .before .before in
+    let start = key .before .before .before .before .before .before .before .before in
+    (c .sector-after .result .0 ≡ lentFirst (start .args .lent .now) + key .key .result) × (lentFirst (start .args .lent .now) + key .key .result < lentSectors (start .args .lent .now))
 sys-sector c =
     let key = c .before .before .before .before .before .before .before .before in
     let start = key .before .before .before .before .before .before .before .before in
@@ -34,7 +37,10 @@ sys-sector c =
       key-inside (lentKeys l) (lentSlice l) (lentFirst l) (lentSectors l) lim _ (key .key .result) (key .key .ensures),
     )
 
-map-sector : (c : tie.After-sector-after2) → (c .sector-after2 .result .0 ≡ lentFirst (c .before .before .before .before .before .before .before .before .before .before .before .before .before .before .before .before .before .before .before .before .before .args .lent .now) + c .before .before .before .before .before .before .before .before .before .before .before .before .key2 .result) × (lentFirst (c .before .before .before .before .before .before .before .before .before .before .before .before .before .before .before .before .before .before .before .before .before .args .lent .now) + c .before .before .before .before .before .before .before .before .before .before .before .before .key2 .result < lentSectors (c .before .before .before .before .before .before .before .before .before .before .before .before .before .before .before .before .before .before .before .before .before .args .lent .now))
+map-sector : (c : tie.After-sector-after2) →
+    let key2 = c .before .before .before .before .before .before .before .before .before .before .before .before in
+    let start = key2 .before .before .before .before .before .before .before .before .before in
+    (c .sector-after2 .result .0 ≡ lentFirst (start .args .lent .now) + key2 .key2 .result) × (lentFirst (start .args .lent .now) + key2 .key2 .result < lentSectors (start .args .lent .now))
 map-sector c =
     let key = c .before .before .before .before .before .before .before .before .before .before .before .before in
     let start = key .before .before .before .before .before .before .before .before .before in
@@ -55,7 +61,8 @@ enter-requires-2 c κs =
 
 returns : tie.Need-returns
 returns c =
-    let place = c .before .before .before in
+    let enter2 = c .before .before in
+    let place = enter2 .before in
     let one = place .before .before .before .before .before in
     let cleared = one .before .before .before .before .before in
     let used = cleared .before .before in
@@ -63,9 +70,11 @@ returns c =
     let names = keys .before .before in
     let start = names .before .before .before .before .before .before .before in
     let l = start .args .lent .now in
-    catalog-written (lentKeys l) (lentSlice l) (lentFirst l) (lentSectors l) (start .pre .1) (used .sys-slices .result) (used .sys-slices .ensures)
-    _ _ _ _ _ (names .before .sys-name .ensures .packed) (names .map-name .ensures .packed) (keys .before .key .ensures) (keys .key2 .ensures) (place .map-place .ensures)
-    (start .args .image .now) _ _ _ (cleared .clear-words .ensures) (sys-sector (one .before) .0) (one .enter .ensures) (map-sector (place .before) .0) (c .before .before .enter2 .ensures)
+    catalog-written (lentKeys l) (lentSlice l) (lentFirst l) (lentSectors l) (start .pre .1) (used .sys-slices .result)
+    (used .sys-slices .ensures) _ _ _ _ _ (names .before .sys-name .ensures .packed) (names .map-name .ensures .packed)
+    (keys .before .key .ensures) (keys .key2 .ensures) (place .map-place .ensures) (start .args .image .now) _ _ _
+    (cleared .clear-words .ensures) (sys-sector (one .before) .0) (one .enter .ensures) (map-sector (place .before) .0)
+    (enter2 .enter2 .ensures)
 
 pub write-catalog-spec : {M : Type 1} → statement M
 write-catalog-spec =

@@ -24,10 +24,12 @@ loop-holds c = let a = c .before .args in (omega arith, map-none (a .image .now)
 
 loop-again : tie.Need-loop-again Inv-loop μ-loop
 loop-again c =
-    let turn = c .before .before .before .before .before .before in
+    let set-word = c .before .before in
+    let turn = set-word .before .before .before .before in
     let a = turn .before .before .args in (
       omega arith,
-      map-more (a .image .now) (a .slices) (span 1 (a .used)) (turn .loop .w) _ _ _ (c .before .before .before .map-word .ensures) (turn .loop .inv .1) (c .before .before .set-word .ensures),
+      map-more (a .image .now) (a .slices) (span 1 (a .used)) (turn .loop .w) _ _ _ (set-word .before .map-word .ensures)
+          (turn .loop .inv .1) (set-word .set-word .ensures),
       search needs,
     )
 

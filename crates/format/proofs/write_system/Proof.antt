@@ -23,14 +23,16 @@ mul-t14 c =
 
 returns : tie.Need-returns
 returns c =
-    let three = c .before .before .before .before .before .before in
+    let write-map = c .before .before in
+    let three = write-map .before .before .before .before in
     let two = three .before .before .before .before .before in
     let one = two .before .before .before .before .before in
     let used = one .before .before .before .before .before .before in
     let start = used .before .before .before .before .before .before .before in
     let l = start .args .lent .now in
-    system-written (lentKeys l) (lentSlice l) (lentFirst l) (lentSectors l) (start .pre .1) (used .sys-slices .result) (used .sys-slices .ensures)
-    (getD l 7 0) (getD l 8 0) (start .args .image .now) _ _ _ _ (one .store-block .ensures) (two .store-block2 .ensures) (three .store-block3 .ensures) (c .before .before .write-map .ensures)
+    system-written (lentKeys l) (lentSlice l) (lentFirst l) (lentSectors l) (start .pre .1) (used .sys-slices .result)
+    (used .sys-slices .ensures) (getD l 7 0) (getD l 8 0) (start .args .image .now) _ _ _ _ (one .store-block .ensures)
+    (two .store-block2 .ensures) (three .store-block3 .ensures) (write-map .write-map .ensures)
 
 pub write-system-spec : {M : Type 1} → statement M
 write-system-spec =

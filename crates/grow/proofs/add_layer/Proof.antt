@@ -6,7 +6,7 @@ use Rattle.grow.proofs.add_layer.Statement.{statement}
 use Rattle.grow.proofs.add_layer.Tie as tie
 
 add-slices-more : tie.Need-add-slices-more
-add-slices-more c = omega (arith, layers-small (c .before .before .before .before .pre .can))
+add-slices-more c = let start = c .before .before .before .before in omega (arith, layers-small (start .pre .can))
 
 slices-more-requires : tie.Need-slices-more-requires
 slices-more-requires c κs =
@@ -26,10 +26,14 @@ take-at-requires c κs =
     (index-inside can, can-lengthen can (read .read-block .ensures) (more-is can (read .read-block .ensures) (more .slices-more .ensures)))
 
 mul-zero-sectors : tie.Need-mul-zero-sectors
-mul-zero-sectors c = omega (arith, from-small (c .before .before .before .before .before .before .before .before .before .before .before .pre .can))
+mul-zero-sectors c =
+    let start = c .before .before .before .before .before .before .before .before .before .before .before in
+    omega (arith, from-small (start .pre .can))
 
 add-zero-sectors : tie.Need-add-zero-sectors
-add-zero-sectors c = omega (arith, from-small (c .before .before .before .before .before .before .before .before .before .before .before .before .pre .can))
+add-zero-sectors c =
+    let start = c .before .before .before .before .before .before .before .before .before .before .before .before in
+    omega (arith, from-small (start .pre .can))
 
 zero-sectors-requires : tie.Need-zero-sectors-requires
 zero-sectors-requires c κs =

@@ -11,10 +11,13 @@ use Rattle.grow.proofs.grow.Tie as tie
 returns : tie.Need-returns
 returns c =
     let f = c .before .before in
-    absurd (never-nothing (f .before .before .before .before .pre .can) (f .before .sys-name .ensures .packed) (f .find-name .ensures) (c .enum-told .given .1))
+    let start = f .before .before .before .before in
+    absurd (never-nothing (start .pre .can) (f .before .sys-name .ensures .packed) (f .find-name .ensures) (c .enum-told .given .1))
 
 add-layers : tie.Need-add-layers
-add-layers c = omega (arith, layers-small (c .before .before .before .before .before .before .before .before .pre .can))
+add-layers c =
+    let start = c .before .before .before .before .before .before .before .before in
+    omega (arith, layers-small (start .pre .can))
 
 cast-reserved : tie.Need-cast-reserved
 cast-reserved c =
@@ -36,7 +39,9 @@ enter-sys-requires c κs =
     let added = c .before .before .before .before .before .before in
     let place = added .before .before .before .before in
     let f = place .before .before in
-    place-inside (f .before .before .before .before .pre .can) (f .before .sys-name .ensures .packed) (f .find-name .ensures) (place .place .given .1) (added .add-layer .ensures)
+    let start = f .before .before .before .before in
+    place-inside (start .pre .can) (f .before .sys-name .ensures .packed) (f .find-name .ensures) (place .place .given .1)
+    (added .add-layer .ensures)
 
 count-free-requires : tie.Need-count-free-requires
 count-free-requires c κs =

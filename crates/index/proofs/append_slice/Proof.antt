@@ -25,19 +25,22 @@ lengthen-requires c κs =
 
 returns : tie.Need-returns
 returns c =
-    let joins = c .before .before .before .before .before in
+    let lengthen = c .before .before in
+    let then1 = lengthen .before .before in
+    let joins = then1 .before in
     let n = joins .before .before .pair-count in
     let a = joins .before .before .before .before .before .args in
     appended-joined (a .first .0) (a .s) (a .k .0) (a .words .now) (n .result) (n .ensures) _ (joins .joins-at .ensures) _
-    (c .before .before .before .before .if1 .taken) (c .before .before .lengthen .ensures)
+    (then1 .if1 .taken) (lengthen .lengthen .ensures)
 
 set-pair-requires : tie.Need-set-pair-requires
 set-pair-requires c κs =
-    let joins = c .before .before .before in
-    let n = joins .before .before .pair-count in
+    let else1 = c .before .before in
+    let joins = else1 .before in
     let s = joins .before .before .before .before .before in
+    let n = joins .before .before .pair-count in
     let a = s .args in (
-      omega (arith, s .pre .1 .room, with-apart (a .first .0) (a .s) (a .words .now) 0 (n .result) (n .ensures) (a .k .0) _ (joins .joins-at .ensures) (c .before .before .if1 .left)),
+      omega (arith, s .pre .1 .room, with-apart (a .first .0) (a .s) (a .words .now) 0 (n .result) (n .ensures) (a .k .0) _ (joins .joins-at .ensures) (else1 .if1 .left)),
       simp length-set (omega arith),
     )
 

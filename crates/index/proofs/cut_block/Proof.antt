@@ -37,14 +37,15 @@ loop-again : tie.Need-loop-again Inv-loop μ-loop
 loop-again c =
     let start = c .before .before .before in
     let kept = start .before .before .before .before in
-    let k = kept .before .before .before in
+    let in-loop = kept .before .before in
+    let k = in-loop .before in
     let counted = k .before .before .before in
     let w = counted .before .before .before .before .args .t1 .words in
     let n = counted .pair-count .result in
     let j = k .loop .j in
     let rest = k .loop .rest in
     let less : rest - kept .kept-sectors .result ≡ rest - pairLength w 0 j = omega (arith, kept .kept-sectors .ensures) in
-    let f = rw (cut-more w n j rest (kept .before .before .loop-test .taken) (omega (arith, kept .before .if1 .left))) at (k .loop .inv .1) in
+    let f = rw (cut-more w n j rest (in-loop .loop-test .taken) (omega (arith, kept .before .if1 .left))) at (k .loop .inv .1) in
     (omega (arith, k .loop .inv .0), rw (less, c .before .set-pair .ensures, kept .kept-sectors .ensures, start .pair-start .ensures) (fill-more 0 _ (k .loop .words) j _ _ _ (omega arith) f))
 
 -- nothing is left: all pairs are passed, or all sectors

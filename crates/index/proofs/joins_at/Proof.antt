@@ -16,10 +16,14 @@ returns c =
 
 returns-2 : tie.Need-returns-2
 returns-2 c =
-    let a = c .before .before .before .before .before .before .args in
+    let pair-length = c .before .before in
+    let pair-count = pair-length .before .before in
+    let a = pair-count .before .before .args in
     c .follows .ensures
-    ∙ ap₂ (λ (x y : ℕ). eqb (x + y) (sliceStart (a .first .0) (a .s) (a .k .0))) (c .before .pair-start .ensures) (c .before .before .pair-length .ensures)
-    ∙ joins-some (a .first .0) (a .s) (a .image .now) (a .q .0) _ (c .before .before .before .before .pair-count .ensures) (a .k .0) (omega (arith, c .before .before .before .if1 .left))
+    ∙ ap₂ (λ (x y : ℕ). eqb (x + y) (sliceStart (a .first .0) (a .s) (a .k .0))) (c .before .pair-start .ensures)
+    (pair-length .pair-length .ensures)
+    ∙ joins-some (a .first .0) (a .s) (a .image .now) (a .q .0) _ (pair-count .pair-count .ensures) (a .k .0)
+    (omega (arith, pair-length .before .if1 .left))
 
 pub joins-at-spec : {M : Type 1} → statement M
 joins-at-spec =

@@ -14,9 +14,13 @@ returns c =
 
 returns-2 : tie.Need-returns-2
 returns-2 c =
-    let a = c .before .before .before .before .before .before .args in
-    c .last-slice-of .ensures ∙ ap₂ (λ (x y : ℕ). (x - a .first .0) / a .s + y / a .s) (c .before .pair-start .ensures) (c .before .before .pair-length .ensures)
-    ∙ last-some (a .first .0) (a .s) (a .image .now) (a .q .0) _ (c .before .before .before .before .pair-count .ensures) (omega (arith, c .before .before .before .if1 .left))
+    let pair-length = c .before .before in
+    let pair-count = pair-length .before .before in
+    let a = pair-count .before .before .args in
+    c .last-slice-of .ensures ∙ ap₂ (λ (x y : ℕ). (x - a .first .0) / a .s + y / a .s) (c .before .pair-start .ensures)
+    (pair-length .pair-length .ensures)
+    ∙ last-some (a .first .0) (a .s) (a .image .now) (a .q .0) _ (pair-count .pair-count .ensures)
+    (omega (arith, pair-length .before .if1 .left))
 
 pub last-slice-at-spec : {M : Type 1} → statement M
 last-slice-at-spec =

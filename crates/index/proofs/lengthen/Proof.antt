@@ -9,10 +9,11 @@ use Rattle.index.proofs.lengthen.Tie as tie
 returns : tie.Need-returns
 unfolding lengthened
 returns c =
-    let start = c .before .before .before .before in
+    let set-pair = c .before .before in
+    let start = set-pair .before .before in
     let size = start .before .before in
     let a = size .before .before .before .args in
-    c .before .before .set-pair .ensures
+    set-pair .set-pair .ensures
     ∙ ap₂ (λ (x y : ℕ). withPair (a .words .now) (a .n - 1) (x + a .s) y) (size .pair-length .ensures) (start .pair-start .ensures)
 
 pub lengthen-spec : {M : Type 1} → statement M

@@ -27,12 +27,14 @@ loop-holds c =
 loop-again : tie.Need-loop-again Inv-loop μ-loop
 loop-again c =
     let start = c .before .before in
-    let k = start .before .before .before .before in
+    let in-loop = start .before .before .before in
+    let k = in-loop .before in
     let counted = k .before .before .before in
     let a = counted .before .before .args in
     let n = counted .pair-count .result in
-    let f = rw (pairs-more (a .image .now) (a .q .0) n (k .loop .j) (start .before .before .before .loop-test .taken)) at (k .loop .inv) in
-    rw (c .before .set-pair .ensures, start .before .pair-length .ensures, start .pair-start .ensures) (fill-more n _ (k .loop .words) (k .loop .j) _ _ _ (omega arith) f)
+    let f = rw (pairs-more (a .image .now) (a .q .0) n (k .loop .j) (in-loop .loop-test .taken)) at (k .loop .inv) in
+    rw (c .before .set-pair .ensures, start .before .pair-length .ensures, start .pair-start .ensures)
+    (fill-more n _ (k .loop .words) (k .loop .j) _ _ _ (omega arith) f)
 
 returns : tie.Need-returns Inv-loop μ-loop
 unfolding blockAt

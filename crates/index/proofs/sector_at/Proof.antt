@@ -22,21 +22,23 @@ loop-holds c =
 
 returns : tie.Need-returns Inv-loop μ-loop
 returns c =
-    let l = c .before .before .before .before .before in
+    let pair-length = c .before .before .before in
+    let l = pair-length .before .before in
     let n = l .before .pair-count .result in
     let a = l .before .before .before .args in
     c .sector-after .ensures
     ∙ ap (λ (w : ℕ). (w + l .loop .rest) % 65536) (c .before .pair-start .ensures)
-    ∙ sym (sector-here (a .image .now) (a .q .0) n (l .loop .j) (l .loop .rest) (c .before .before .before .before .loop-test .taken) (omega (arith, c .before .before .before .pair-length .ensures)))
+    ∙ sym (sector-here (a .image .now) (a .q .0) n (l .loop .j) (l .loop .rest) (pair-length .before .loop-test .taken) (omega (arith, pair-length .pair-length .ensures)))
     ∙ l .loop .inv .1
 
 loop-again : tie.Need-loop-again Inv-loop μ-loop
 loop-again c =
-    let l = c .before .before .before in
+    let in-loop = c .before .before in
+    let l = in-loop .before in
     let n = l .before .pair-count .result in
     let a = l .before .before .before .args in
     let e = c .before .pair-length .ensures in
-    let s = sector-next (a .image .now) (a .q .0) n (l .loop .j) (l .loop .rest) (c .before .before .loop-test .taken) (omega (arith, e)) in
+    let s = sector-next (a .image .now) (a .q .0) n (l .loop .j) (l .loop .rest) (in-loop .loop-test .taken) (omega (arith, e)) in
     (omega (arith, l .loop .inv .0), rw e (sym s ∙ l .loop .inv .1))
 
 returns-2 : tie.Need-returns-2 Inv-loop μ-loop

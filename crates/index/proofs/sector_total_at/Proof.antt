@@ -22,9 +22,10 @@ loop-holds c =
 
 loop-again : tie.Need-loop-again Inv-loop μ-loop
 loop-again c =
-    let a = c .before .before .before .before .before .args in
-    let n = c .before .before .before .pair-count .result in
-    (omega arith, omega (arith, c .pair-length .ensures, sectors-more (a .image .now) (a .q .0) n (c .before .before .loop .j) (c .before .loop-test .taken), c .before .before .loop .inv .1))
+    let at = c .before .before in
+    let a = at .before .before .before .args in
+    let n = at .before .pair-count .result in
+    (omega arith, omega (arith, c .pair-length .ensures, sectors-more (a .image .now) (a .q .0) n (at .loop .j) (c .before .loop-test .taken), at .loop .inv .1))
 
 returns : tie.Need-returns Inv-loop μ-loop
 returns c =

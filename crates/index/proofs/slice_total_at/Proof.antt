@@ -8,8 +8,9 @@ use Rattle.index.proofs.slice_total_at.Tie as tie
 
 cast-result : tie.Need-cast-result
 cast-result c =
-    let s = c .before .before .args .s in
-    omega (arith, ap (λ (n : ℕ). n / s) (c .sector-total-at .ensures), c .before .before .pre .1)
+    let start = c .before .before in
+    let s = start .args .s in
+    omega (arith, ap (λ (n : ℕ). n / s) (c .sector-total-at .ensures), start .pre .1)
 
 returns : tie.Need-returns
 returns c = ap (λ (n : ℕ). n / c .before .before .args .s) (c .sector-total-at .ensures)

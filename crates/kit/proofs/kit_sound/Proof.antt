@@ -14,12 +14,16 @@ use Rattle.kit.proofs.kit_sound.Statement.{statement}
 use Rattle.kit.proofs.kit_sound.Tie as tie
 
 -- once the limits and the length are tested
-unit : (c : tie.Else2) → UnitOf (c .before .before .before .before .before .before .args .image .now) (c .before .before .before .before .geometry-of .result)
-unit c = record {
-  size = c .if2 .left ∙ mul-comm (c .before .before .before .before .geometry-of .result .sectors) 256;
-  limits = grants _ (c .before .before .before .within-limits .ensures) (c .before .before .if1 .left);
-  slices = c .before .before .before .before .geometry-of .ensures .slices;
-}
+unit : (c : tie.Else2) → let geometry-of = c .before .before .before .before in let start = geometry-of .before .before in
+    UnitOf (start .args .image .now) (geometry-of .geometry-of .result)
+unit c =
+    let else1 = c .before .before in
+    let geometry-of = else1 .before .before in
+    record {
+      size = c .if2 .left ∙ mul-comm (geometry-of .geometry-of .result .sectors) 256;
+      limits = grants _ (else1 .before .within-limits .ensures) (else1 .if1 .left);
+      slices = geometry-of .geometry-of .ensures .slices;
+    }
 
 returns : tie.Need-returns
 returns c = fails (λ k. refutes _ (c .before .within-limits .ensures) (c .if1 .taken) (sound-unit (c .before .before .geometry-of .ensures) k .limits))
@@ -33,7 +37,9 @@ shared-slice-read-if3 : tie.Need-shared-slice-read-if3
 shared-slice-read-if3 c = omega (arith, unit-long (unit (c .before)))
 
 returns-3 : tie.Need-returns-3
-returns-3 c = fails (λ k. c .if3 .taken (kit-top (c .before .before .before .before .before .before .before .geometry-of .ensures) k))
+returns-3 c =
+    let geometry-of = c .before .before .before .before .before .before .before in
+    fails (λ k. c .if3 .taken (kit-top (geometry-of .geometry-of .ensures) k))
 
 map-index-requires : tie.Need-map-index-requires
 map-index-requires c κs = omega (arith, unit-long (unit (c .before .before .before)))
@@ -42,26 +48,30 @@ returns-4 : tie.Need-returns-4
 returns-4 c = fails (λ k. refutes _ (c .before .map-index .ensures) (c .if4 .taken) (k .mapIndex))
 
 shared-slice-read-result : tie.Need-shared-slice-read-result
-shared-slice-read-result c = omega (arith, unit-long (unit (c .before .before .before .before .before .before)))
+shared-slice-read-result c = let else2 = c .before .before .before .before .before .before in omega (arith, unit-long (unit else2))
 
 cast-result : tie.Need-cast-result
 cast-result c = fits-widen tt (c .shared-slice-known3 .given _)
 
 count-free-requires : tie.Need-count-free-requires
-count-free-requires c κs = unit-long (unit (c .before .before .before .before .before .before .before))
+count-free-requires c κs = let else2 = c .before .before .before .before .before .before .before in unit-long (unit else2)
 
 mul-result-2 : tie.Need-mul-result-2
 mul-result-2 c =
-    let u = unit (c .before .before .before .before .before .before .before .before) in
+    let else2 = c .before .before .before .before .before .before .before .before in
+    let u = unit else2 in
     let few : c .count-free .result ≤ 65535 = omega arith in
     omega (arith, mul-le-mul (u .limits .slice-high) few)
 
 returns-5 : tie.Need-returns-5
 returns-5 c =
-    let e = c .before .before .before .before .before .before .before .before in
+    let else4 = c .before .before .before in
+    let else3 = else4 .before .before in
+    let e = else3 .before .before .before in
+    let start = e .before .before .before .before .before .before in
     let g = e .before .before .before .before .geometry-of in
-    decides-eq (word (e .before .before .before .before .before .before .args .image .now) kitSector 3) (g .result .slice * c .count-free .result)
-    (sound-kit (g .ensures) (c .count-free .result) (c .count-free .ensures) (unit e) (c .before .before .before .before .before .if3 .left) (grants _ (c .before .before .before .before .map-index .ensures) (c .before .before .before .if4 .left)))
+    decides-eq (word (start .args .image .now) kitSector 3) (g .result .slice * c .count-free .result)
+    (sound-kit (g .ensures) (c .count-free .result) (c .count-free .ensures) (unit e) (else3 .if3 .left) (grants _ (else4 .before .map-index .ensures) (else4 .if4 .left)))
     (kit-free (g .ensures) (c .count-free .result) (c .count-free .ensures))
 
 pub kit-sound-spec : {M : Type 1} → statement M

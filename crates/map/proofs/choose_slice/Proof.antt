@@ -10,9 +10,10 @@ use Rattle.map.proofs.choose_slice.Tie as tie
 
 returns : tie.Need-returns
 returns c =
-    let start = c .before .before .before .before .before .before in
+    let then1 = c .before .before .before in
+    let start = then1 .before .before .before in
     chosen-answers (start .args .image .now) (start .args .slices) (start .args .last .0) (start .pre .0)
-    (answer-next _ _ _ (c .before .before .before .if1 .taken) (free-test _ _ (sym (c .before .is-free .ensures) ∙ c .if2 .taken)))
+    (answer-next _ _ _ (then1 .if1 .taken) (free-test _ _ (sym (c .before .is-free .ensures) ∙ c .if2 .taken)))
 
 returns-2 : tie.Need-returns-2
 returns-2 c =

@@ -32,14 +32,17 @@ scan-holds c = (search needs, none-first _)
 
 cast-first : tie.Need-cast-first Inv-loop μ-loop Inv-scan μ-scan
 cast-first c =
-    let h = leading-le 16 (getD (c .before .before .before .before .args .image .now) (2304 + c .before .before .scan .w) 0) in
+    let scan = c .before .before in
+    let start = scan .before .before in
+    let h = leading-le 16 (getD (start .args .image .now) (2304 + scan .scan .w) 0) in
     omega arith
 
 loop-holds : tie.Need-loop-holds Inv-loop μ-loop Inv-scan μ-scan
-loop-holds c = (
-  leading-le 16 _,
-  none-leading _ (c .before .before .scan .w) (c .shared-slice-known2 .given _ .fits) (c .before .before .scan .inv .1),
-)
+loop-holds c =
+    let scan = c .before .before in (
+      leading-le 16 _,
+      none-leading _ (scan .scan .w) (c .shared-slice-known2 .given _ .fits) (scan .scan .inv .1),
+    )
 
 div-if2 : tie.Need-div-if2 Inv-loop μ-loop Inv-scan μ-scan
 div-if2 c = rw (c .bit-word .ensures) (pow-pos _)
@@ -62,11 +65,12 @@ returns c = lowest-answers _ (scan-none _ (16 * c .before .scan .w + 1) (omega a
 
 returns-2 : tie.Need-returns-2 Inv-loop μ-loop Inv-scan μ-scan
 returns-2 c =
-    let at = c .before .before .before .before in
+    let bit-word = c .before .before in
+    let at = bit-word .before .before in
     let w = at .before .before .before .scan .w in
     let b = at .loop .b in
     let image = at .before .before .before .before .before .args .image .now in
-    let test = scan-bit image w b _ (c .before .before .before .loop-test .taken) (c .before .before .bit-word .ensures) in
+    let test = scan-bit image w b _ (bit-word .before .loop-test .taken) (bit-word .bit-word .ensures) in
     let found = scan-found _ (16 * w + b + 1) (omega arith) (omega arith) (λ z. omega arith) (at .loop .inv .1) in
     lowest-answers image (ap (λ (k : ℕ). Free (record { 0 = k })) (c .slice-at .ensures) ∙ found)
 

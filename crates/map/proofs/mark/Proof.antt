@@ -20,7 +20,8 @@ sub-image c = rw (c .bit-word .ensures) (digit-share _ _)
 
 mul-image-2 : tie.Need-mul-image-2
 mul-image-2 c =
-    let small : c .before .before .before .before .before .args .v ≤ 1 = omega arith in
+    let start = c .before .before .before .before .before in
+    let small : start .args .v ≤ 1 = omega arith in
     omega (arith, mul-le-mul-right (c .bit-word .result) small, c .bit-word .ok)
 
 add-image : tie.Need-add-image

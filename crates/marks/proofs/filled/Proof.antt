@@ -27,8 +27,9 @@ add-if1-2 c = omega (arith, c .before .shared-slice-known2 .given (2304 + c .bef
 
 returns : tie.Need-returns Inv-loop μ-loop
 returns c =
-    let l = c .before .before .before .before in
-    fails (filled-fails (l .loop .w) _ _ _ (c .before .before .before .loop-test .taken) refl (c .before .packed .ensures .0) (c .if1 .taken))
+    let in-loop = c .before .before .before in
+    let l = in-loop .before in
+    fails (filled-fails (l .loop .w) _ _ _ (in-loop .loop-test .taken) refl (c .before .packed .ensures .0) (c .if1 .taken))
 
 loop-again : tie.Need-loop-again Inv-loop μ-loop
 loop-again c =

@@ -51,22 +51,25 @@ add-if3-3 c = omega (arith, edge c)
 
 returns-3 : tie.Need-returns-3
 returns-3 c =
-    let e = c .before .before .before .before .before in
+    let bit-word = c .before .before .before in
+    let e = bit-word .before .before in
     let f = e .before .before in
     let a = f .before .before .before .args in
     λ all is once. fails (λ sound.
     c .if3 .taken
     (agree-edge (a .image .now) (a .marks .now) (a .g .slices) all (words f) (few f) is once
-    _ _ _ refl (c .before .packed .ensures .0) (c .before .before .before .bit-word .ensures) (omega (arith, few f, e .if2 .left)) sound))
+    _ _ _ refl (c .before .packed .ensures .0) (bit-word .bit-word .ensures) (omega (arith, few f, e .if2 .left)) sound))
 
 returns-4 : tie.Need-returns-4
 returns-4 c =
-    let e = c .before .before .before .before .before .before in
+    let packed = c .before .before in
+    let bit-word = packed .before .before in
+    let e = bit-word .before .before in
     let f = e .before .before in
     let a = f .before .before .before .args in
     λ all is once.
     agree-past (a .image .now) (a .marks .now) (a .g .slices) all (words f) (few f) is once
-    _ _ _ refl (c .before .before .packed .ensures .0) (c .before .before .before .before .bit-word .ensures)
+    _ _ _ refl (packed .packed .ensures .0) (bit-word .bit-word .ensures)
     (grants _ (f .filled .ensures) (e .before .if1 .left)) (c .before .if3 .left) (c .cleared .ensures)
 
 pub map-agrees-spec : {M : Type 1} → statement M

@@ -36,7 +36,7 @@ next c =
     (c .before .before .before .if3 .left) (c .before .mark-pair .ensures)
 
 shared-slice-read-pairs : tie.Need-shared-slice-read-pairs Inv-loop μ-loop
-shared-slice-read-pairs c = omega (arith, c .before .before .pre .0 .size, inside (c .before .before))
+shared-slice-read-pairs c = let start = c .before .before in omega (arith, start .pre .0 .size, inside start)
 
 cast-pairs : tie.Need-cast-pairs Inv-loop μ-loop
 cast-pairs c = fits-widen tt (c .shared-slice-known2 .given _)
@@ -57,18 +57,23 @@ loop-holds : tie.Need-loop-holds Inv-loop μ-loop
 loop-holds c = (omega arith, passed-none _ _ _ _)
 
 shared-slice-read-sectors : tie.Need-shared-slice-read-sectors Inv-loop μ-loop
-shared-slice-read-sectors c = omega (arith, c .before .before .before .before .before .before .before .pre .0 .size, inside (c .before .before .before .before .before .before .before))
+shared-slice-read-sectors c =
+    let start = c .before .before .before .before .before .before .before in
+    omega (arith, start .pre .0 .size, inside start)
 
 shared-slice-read-t26 : tie.Need-shared-slice-read-t26 Inv-loop μ-loop
-shared-slice-read-t26 c = omega (arith, c .before .before .before .before .before .before .before .before .pre .0 .size, inside (c .before .before .before .before .before .before .before .before))
+shared-slice-read-t26 c =
+    let start = c .before .before .before .before .before .before .before .before in
+    omega (arith, start .pre .0 .size, inside start)
 
 returns-3 : tie.Need-returns-3 Inv-loop μ-loop
 returns-3 c =
-    let l = c .before .before .before .before .before .before .before .before .loop in
-    let s = c .before .before .before .before .before .before .before .before .before .before .before .before .before in
+    let then3 = c .before .before in
+    let s = then3 .before .before .before .before .before .before .before .before .before .before .before in
+    let l = then3 .before .before .before .before .before .before .loop in
     let a = s .args in
     refuse-index (a .image .now) (a .g) (a .q .0) (c .refused3 .ensures) (λ held marked block once.
-    same-start (a .image .now) (a .g) (a .q .0) (s .pre .0) (l .inv .1) (omega (arith, count-is (a .image .now) (a .g) (a .q .0))) (c .before .before .if3 .taken) block)
+    same-start (a .image .now) (a .g) (a .q .0) (s .pre .0) (l .inv .1) (omega (arith, count-is (a .image .now) (a .g) (a .q .0))) (then3 .if3 .taken) block)
 
 returns-4 : tie.Need-returns-4 Inv-loop μ-loop
 returns-4 c =
@@ -94,7 +99,9 @@ loop-again : tie.Need-loop-again Inv-loop μ-loop
 loop-again c = (omega arith, next (c .before))
 
 shared-slice-read-t16 : tie.Need-shared-slice-read-t16 Inv-loop μ-loop
-shared-slice-read-t16 c = omega (arith, c .before .before .before .before .before .before .before .pre .0 .size, inside (c .before .before .before .before .before .before .before))
+shared-slice-read-t16 c =
+    let start = c .before .before .before .before .before .before .before in
+    omega (arith, start .pre .0 .size, inside start)
 
 returns-5 : tie.Need-returns-5 Inv-loop μ-loop
 returns-5 c =

@@ -46,12 +46,14 @@ mul-if3 c = let a = entry (c .before .before .before) .args in omega (arith, div
 
 returns-3 : tie.Need-returns-3
 returns-3 c =
-    let a = entry (c .before .before .before .before) .args in
+    let slice-of = c .before .before .before .before in
+    let a = entry slice-of .args in
     refuse-pair _ _ _ (λ held marked whole once. c .if3 .taken (whole-product (a .sectors) (a .g .slice) (whole .whole)))
 
 add-if4 : tie.Need-add-if4
 add-if4 c =
-    let a = entry (c .before .before .before .before .before .before) .args in
+    let slice-of = c .before .before .before .before .before .before in
+    let a = entry slice-of .args in
     omega (arith, div-le-self (a .sectors) (a .g .slice))
 
 returns-4 : tie.Need-returns-4
@@ -62,7 +64,8 @@ returns-4 c =
 
 returns-5 : tie.Need-returns-5
 returns-5 c =
-    let a = entry (c .before .before .before .before .before .before .before .before) .args in
+    let slice-of = c .before .before .before .before .before .before .before .before in
+    let a = entry slice-of .args in
     refuse-pair _ _ _ (λ held marked whole once. omega (arith, some-count (a .g) (a .sectors) (a .start .0) whole, c .if5 .taken))
 
 returns-6 : tie.Need-returns-6
@@ -77,14 +80,16 @@ returns-6 c =
 returns-7 : tie.Need-returns-7
 returns-7 c =
     let m = c .before in
+    let else4 = m .before .before .before in
+    let else3 = else4 .before .before .before in
+    let else2 = else3 .before .before in
     let k = found m in
     let s = entry k in
     let a = s .args in
-    let fits : (a .start .0 - a .g .first .0) / a .g .slice + a .sectors / a .g .slice ≤ a .g .slices = omega (arith, from-is k, m .before .before .before .if4 .left) in
-    let at : a .start .0 ≡ sliceStart (a .g .first .0) (a .g .slice) (k .slice-of .result .0) =
-    grants _ (m .before .before .before .before .before .before .before .before .before .starts-at .ensures) (m .before .before .before .before .before .before .before .before .if2 .left) in
+    let fits : (a .start .0 - a .g .first .0) / a .g .slice + a .sectors / a .g .slice ≤ a .g .slices = omega (arith, from-is k, else4 .if4 .left) in
+    let at : a .start .0 ≡ sliceStart (a .g .first .0) (a .g .slice) (k .slice-of .result .0) = grants _ (else2 .before .starts-at .ensures) (else2 .if2 .left) in
     let back : (a .start .0 - a .g .first .0) / a .g .slice * a .g .slice ≡ a .start .0 - a .g .first .0 = ap (λ (n : ℕ). n * a .g .slice) (sym (from-is k)) ∙ (let e : (k .slice-of .result .0 - 1) * a .g .slice ≡ a .start .0 - a .g .first .0 = omega arith in e) in
-    mark-pair (a .g) (a .sectors) (a .start .0) (s .pre .0) (s .pre .1) (k .before .if1 .left) back (m .before .before .before .before .before .before .if3 .left) fits
+    mark-pair (a .g) (a .sectors) (a .start .0) (s .pre .0) (s .pre .1) (k .before .if1 .left) back (else3 .if3 .left) fits
     (not-false _ (c .if6 .left)) (run-marking _ _ (omega (arith, fits, s .pre .1, s .pre .0 .slices-high)) (run m))
 
 pub mark-pair-spec : {M : Type 1} → statement M

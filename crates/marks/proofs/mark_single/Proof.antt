@@ -63,7 +63,7 @@ returns : tie.Need-returns
 returns c = single-left _ _ _ _ (λ file. omega (arith, file .slices .low))
 
 slice-by-requires : tie.Need-slice-by-requires
-slice-by-requires c κs = (c .if1 .left, few (c .before .before .before .before .before))
+slice-by-requires c κs = let start = c .before .before .before .before .before in (c .if1 .left, few start)
 
 returns-2 : tie.Need-returns-2
 returns-2 c =
@@ -115,12 +115,14 @@ returns-6 c = single-left _ _ _ _ (λ file. refutes _ (c .before .one-pair .ensu
 
 returns-7 : tie.Need-returns-7
 returns-7 c =
-    let e = c .before .before .before .before in
+    let else6 = c .before .before in
+    let e = else6 .before .before in
     let n = counted e in
     let s = entry (slice n) in
     let a = s .args in
-    single-marked (a .image .now) (a .g) (a .q .0) (a .sectors) (s .pre .0) (slice n .slice-by .result .0) (n .slices-by .result) (omega (arith, slice n .slice-by .ensures .0 .0)) (starts e)
-    (whole e) (omega arith) (e .if5 .left) (grants _ (c .before .before .before .one-pair .ensures) (c .before .before .if6 .left)) (c .mark-slices .ensures)
+    single-marked (a .image .now) (a .g) (a .q .0) (a .sectors) (s .pre .0) (slice n .slice-by .result .0) (n .slices-by .result)
+    (omega (arith, slice n .slice-by .ensures .0 .0)) (starts e) (whole e) (omega arith) (e .if5 .left)
+    (grants _ (else6 .before .one-pair .ensures) (else6 .if6 .left)) (c .mark-slices .ensures)
 
 pub mark-single-spec : {M : Type 1} → statement M
 mark-single-spec =

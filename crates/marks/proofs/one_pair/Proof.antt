@@ -19,11 +19,13 @@ returns-2 c = fails (λ pair. c .if2 .taken (pair .length))
 
 returns-3 : tie.Need-returns-3
 returns-3 c =
-    let a = c .before .before .before .before .before .before .before .args in
+    let else2 = c .before .before in
+    let else1 = else2 .before .before in
+    let a = else1 .before .before .before .args in
     decides-eq (pairStart (a .image .now) (a .q .0) 0) (a .q .0)
     (λ e. record {
-      count = ap (λ (i : ℕ). getD (a .image .now) i 0) (add-zero (a .q .0 * 256)) ∙ c .before .before .before .before .if1 .left;
-      length = c .before .before .if2 .left;
+      count = ap (λ (i : ℕ). getD (a .image .now) i 0) (add-zero (a .q .0 * 256)) ∙ else1 .if1 .left;
+      length = else2 .if2 .left;
       start = e;
     })
     (λ pair. pair .start)

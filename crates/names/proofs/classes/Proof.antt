@@ -13,7 +13,9 @@ class-range-requires-3 c κs = (omega arith, omega arith, c .before .class-range
 
 returns : tie.Need-returns
 returns c =
-    classed (c .before .before .before .before .class-range .ensures) (c .before .before .class-range2 .ensures) (c .class-range3 .ensures)
+    let class-range2 = c .before .before in
+    let class-range = class-range2 .before .before in
+    classed (class-range .class-range .ensures) (class-range2 .class-range2 .ensures) (c .class-range3 .ensures)
 
 pub classes-spec : {M : Type 1} → statement M
 classes-spec = tie.close (tie.spec (λ c. search needs) (λ c κs. search needs) class-range-requires-2 class-range-requires-3 returns)

@@ -55,20 +55,23 @@ returns-4 c = sym (falls-2 (read (c .before .before)) (c .before .if3 .left) (c 
 returns-5 : tie.Need-returns-5
 returns-5 c =
     let third = c .before in
-    sym (falls-3 (read (third .before .before)) (third .before .if3 .left) (third .if4 .left) (c .if5 .taken))
+    let else2 = third .before .before in
+    sym (falls-3 (read else2) (third .before .if3 .left) (third .if4 .left) (c .if5 .taken))
 
 returns-6 : tie.Need-returns-6
 returns-6 c =
     let fourth = c .before in
     let third = fourth .before in
-    sym (falls-4 (read (third .before .before)) (third .before .if3 .left) (third .if4 .left) (fourth .if5 .left) (c .if6 .taken))
+    let else2 = third .before .before in
+    sym (falls-4 (read else2) (third .before .if3 .left) (third .if4 .left) (fourth .if5 .left) (c .if6 .taken))
 
 returns-7 : tie.Need-returns-7
 returns-7 c =
     let fifth = c .before in
     let fourth = fifth .before in
     let third = fourth .before in
-    sym (falls-all (read (third .before .before)) (third .before .if3 .left) (third .if4 .left) (fourth .if5 .left) (fifth .if6 .left))
+    let else2 = third .before .before in
+    sym (falls-all (read else2) (third .before .if3 .left) (third .if4 .left) (fourth .if5 .left) (fifth .if6 .left))
 
 pub legal-by-spec : {M : Type 1} → statement M
 legal-by-spec =

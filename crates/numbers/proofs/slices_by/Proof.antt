@@ -1,5 +1,5 @@
 -- `numbers::slices_by` meets its contract. Assumes nothing.
-use mathlib.Core.Path.{_≡_, refl, ap, ap₂, _∙_}
+use mathlib.Core.Path.{refl, ap₂, _∙_}
 use Prim.Native.Nat.{ℕ, _*_, _/_}
 use native.Mathlib.Omega.{arith}
 use Rattle.numbers.proofs.ReciprocalLaws.{by-reciprocal, product-high}

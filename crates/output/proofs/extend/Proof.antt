@@ -10,7 +10,8 @@ take-more-requires c κs = can-lengthen (c .before .before .pre .can)
 count-free-requires : tie.Need-count-free-requires
 count-free-requires c κs =
     let took = c .before .before .before in
-    can-count (took .before .before .before .pre .can) (took .take-more .ensures)
+    let start = took .before .before .before in
+    can-count (start .pre .can) (took .take-more .ensures)
 
 returns : tie.Need-returns
 returns c =

@@ -16,10 +16,11 @@ returns : tie.Need-returns
 returns c =
     let prepared = c .before .before .before .before in
     let lent = prepared .before .before in
-    outputs-refused (prepared .prepare .ensures) (lent .before .before .pre .1) (words lent) (c .if1 .taken)
+    let start = lent .before .before in
+    outputs-refused (prepared .prepare .ensures) (start .pre .1) (words lent) (c .if1 .taken)
 
 area-at-requires : tie.Need-area-at-requires
-area-at-requires c κs = position-asks (c .before .before .before .before .before .before .before .before .pre .0) .0
+area-at-requires c κs = let start = c .before .before .before .before .before .before .before .before in position-asks (start .pre .0) .0
 
 replace-requires : tie.Need-replace-requires
 replace-requires c κs =
@@ -34,7 +35,9 @@ returns-2 c =
     let a = stored .before .before in
     let prepared = a .before .before .before .before .before in
     let lent = prepared .before .before in
-    outputs-stored (prepared .prepare .ensures) (a .before .if1 .left) (a .area-at .ensures) (lent .before .before .pre .1) (words lent) (stored .replace .ensures)
+    let start = lent .before .before in
+    outputs-stored (prepared .prepare .ensures) (a .before .if1 .left) (a .area-at .ensures) (start .pre .1) (words lent)
+    (stored .replace .ensures)
 
 pub output-spec : {M : Type 1} → statement M
 output-spec =

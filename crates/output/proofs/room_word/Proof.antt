@@ -12,17 +12,20 @@ returns c = room-by-none (c .if1 .taken)
 returns-2 : tie.Need-returns-2
 returns-2 c =
     let next = c .before .before in
-    room-by (next .before .before .before .before .if1 .left) (next .next-slice .ensures) (sym (ap nextWord (c .enum-told .given .1)))
+    let else1 = next .before .before .before .before in
+    room-by (else1 .if1 .left) (next .next-slice .ensures) (sym (ap nextWord (c .enum-told .given .1)))
 
 returns-3 : tie.Need-returns-3
 returns-3 c =
     let next = c .before .before in
-    room-by (next .before .before .before .before .if1 .left) (next .next-slice .ensures) (sym (ap nextWord (c .enum-told2 .given .1)))
+    let else1 = next .before .before .before .before in
+    room-by (else1 .if1 .left) (next .next-slice .ensures) (sym (ap nextWord (c .enum-told2 .given .1)))
 
 returns-4 : tie.Need-returns-4
 returns-4 c =
     let next = c .before .before in
-    room-by (next .before .before .before .before .if1 .left) (next .next-slice .ensures) (sym (ap nextWord (c .enum-told3 .given .1)))
+    let else1 = next .before .before .before .before in
+    room-by (else1 .if1 .left) (next .next-slice .ensures) (sym (ap nextWord (c .enum-told3 .given .1)))
 
 pub room-word-spec : {M : Type 1} → statement M
 room-word-spec =

@@ -7,10 +7,11 @@ use Rattle.remove.proofs.drop_file.Tie as tie
 slice-total-requires : tie.Need-slice-total-requires
 slice-total-requires c κs =
     let read = c .before .before in
-    slices-fit (read .before .before .before .pre .can) (read .entry-word .ensures) (c .file-block .ensures .1)
+    let start = read .before .before .before in
+    slices-fit (start .pre .can) (read .entry-word .ensures) (c .file-block .ensures .1)
 
 clear-place-requires : tie.Need-clear-place-requires
-clear-place-requires c κs = drop-room (c .before .before .before .before .before .before .before .pre .can)
+clear-place-requires c κs = let start = c .before .before .before .before .before .before .before in drop-room (start .pre .can)
 
 free-slices-requires : tie.Need-free-slices-requires
 free-slices-requires c κs =
@@ -18,7 +19,9 @@ free-slices-requires c κs =
     let counted = cleared .before .before in
     let block = counted .before in
     let read = block .before .before in
-    can-give-all (read .before .before .before .pre .can) (read .entry-word .ensures) (block .file-block .ensures .1) (cleared .clear-place .ensures) (counted .slice-total .ensures)
+    let start = read .before .before .before in
+    can-give-all (start .pre .can) (read .entry-word .ensures) (block .file-block .ensures .1) (cleared .clear-place .ensures)
+    (counted .slice-total .ensures)
 
 count-free-requires : tie.Need-count-free-requires
 count-free-requires c κs =
@@ -27,7 +30,9 @@ count-free-requires c κs =
     let counted = cleared .before .before in
     let block = counted .before in
     let read = block .before .before in
-    can-count (read .before .before .before .pre .can) (read .entry-word .ensures) (block .file-block .ensures .1) (cleared .clear-place .ensures) (counted .slice-total .ensures) (given .free-slices .ensures)
+    let start = read .before .before .before in
+    can-count (start .pre .can) (read .entry-word .ensures) (block .file-block .ensures .1) (cleared .clear-place .ensures)
+    (counted .slice-total .ensures) (given .free-slices .ensures)
 
 returns : tie.Need-returns
 returns c =

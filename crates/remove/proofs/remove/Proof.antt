@@ -14,14 +14,19 @@ find-name-requires c κs = searchable (represented-on (c .before .before .before
 returns : tie.Need-returns
 returns c =
     let f = c .before .before in
-    removes-none _ _ (f .before .before .before .before .pre) (f .before .before .stored .ensures .packed) (f .find-name .ensures) (c .enum-told .given .1)
+    let stored = f .before .before in
+    let start = stored .before .before in
+    removes-none _ _ (start .pre) (stored .stored .ensures .packed) (f .find-name .ensures) (c .enum-told .given .1)
 
 returns-2 : tie.Need-returns-2
 returns-2 c =
     let test = c .before in
     let place = test .before .before in
     let f = place .before .before in
-    removes-system _ _ (f .before .before .before .before .pre) (f .before .before .stored .ensures .packed) (f .find-name .ensures) (place .place .given .1) (sym (test .is-system .ensures) ∙ c .if1 .taken)
+    let stored = f .before .before in
+    let start = stored .before .before in
+    removes-system _ _ (start .pre) (stored .stored .ensures .packed) (f .find-name .ensures) (place .place .given .1)
+    (sym (test .is-system .ensures) ∙ c .if1 .taken)
 
 returns-3 : tie.Need-returns-3
 returns-3 c =
@@ -29,7 +34,9 @@ returns-3 c =
     let test = live .before .before in
     let place = test .before .before in
     let f = place .before .before in
-    removes-open _ _ (f .before .before .before .before .pre) (f .before .before .stored .ensures .packed) (f .find-name .ensures) (place .place .given .1)
+    let stored = f .before .before in
+    let start = stored .before .before in
+    removes-open _ _ (start .pre) (stored .stored .ensures .packed) (f .find-name .ensures) (place .place .given .1)
     (sym (test .is-system .ensures) ∙ live .before .if1 .left) (sym (live .is-open .ensures) ∙ c .if2 .taken)
 
 returns-4 : tie.Need-returns-4
@@ -41,7 +48,9 @@ returns-4 c =
     let test = live .before .before in
     let place = test .before .before in
     let f = place .before .before in
-    removes-permanent _ _ (f .before .before .before .before .pre) (f .before .before .stored .ensures .packed) (f .find-name .ensures) (place .place .given .1)
+    let stored = f .before .before in
+    let start = stored .before .before in
+    removes-permanent _ _ (start .pre) (stored .stored .ensures .packed) (f .find-name .ensures) (place .place .given .1)
     (sym (test .is-system .ensures) ∙ live .before .if1 .left) (sym (live .is-open .ensures) ∙ shut .if2 .left)
     (ap (bit 11) (sym (word .entry-word .ensures)) ∙ sym (bits .bit .ensures) ∙ c .if3 .taken)
 
@@ -54,8 +63,9 @@ drop-file-requires c κs =
     let test = live .before .before in
     let place = test .before .before in
     let f = place .before .before in
-    let start = f .before .before .before .before in
-    can-drop _ (start .args .name) (start .pre) (f .before .before .stored .ensures .packed) (f .find-name .ensures) (place .place .given .1)
+    let stored = f .before .before in
+    let start = stored .before .before in
+    can-drop _ (start .args .name) (start .pre) (stored .stored .ensures .packed) (f .find-name .ensures) (place .place .given .1)
     (sym (test .is-system .ensures) ∙ live .before .if1 .left) (sym (live .is-open .ensures) ∙ shut .if2 .left)
 
 returns-5 : tie.Need-returns-5
@@ -69,7 +79,9 @@ returns-5 c =
     let test = live .before .before in
     let place = test .before .before in
     let f = place .before .before in
-    removes-done _ _ (f .before .before .before .before .pre) (f .before .before .stored .ensures .packed) (f .find-name .ensures) (place .place .given .1)
+    let stored = f .before .before in
+    let start = stored .before .before in
+    removes-done _ _ (start .pre) (stored .stored .ensures .packed) (f .find-name .ensures) (place .place .given .1)
     (sym (test .is-system .ensures) ∙ live .before .if1 .left) (sym (live .is-open .ensures) ∙ shut .if2 .left)
     (ap (bit 11) (sym (word .entry-word .ensures)) ∙ sym (bits .bit .ensures) ∙ left .if3 .left) (dropped .drop-file .ensures)
 

@@ -6,10 +6,15 @@ use Rattle.reports.proofs.describe.Statement.{statement}
 use Rattle.reports.proofs.describe.Tie as tie
 
 returns : tie.Need-returns
-returns c = rw (c .refused .ensures) (describes-bytes _ _ _ _ (c .before .before .before .before .pre) (c .before .if1 .taken))
+returns c =
+    let start = c .before .before .before .before in
+    rw (c .refused .ensures) (describes-bytes _ _ _ _ (start .pre) (c .before .if1 .taken))
 
 returns-2 : tie.Need-returns-2
-returns-2 c = rw (c .refused2 .ensures) (describes-short _ _ _ _ (c .before .before .before .before .before .pre) (c .before .before .if1 .left) (c .before .if2 .taken))
+returns-2 c =
+    let else1 = c .before .before in
+    let start = else1 .before .before .before in
+    rw (c .refused2 .ensures) (describes-short _ _ _ _ (start .pre) (else1 .if1 .left) (c .before .if2 .taken))
 
 store-description-requires : tie.Need-store-description-requires
 store-description-requires c κs =
@@ -20,7 +25,8 @@ returns-3 : tie.Need-returns-3
 returns-3 c =
     let stored = c .before .before in
     let left = stored .before .before in
-    describes-done _ _ _ _ (left .before .before .before .before .pre) (left .before .if1 .left) (left .if2 .left) (stored .store-description .ensures)
+    let start = left .before .before .before .before in
+    describes-done _ _ _ _ (start .pre) (left .before .if1 .left) (left .if2 .left) (stored .store-description .ensures)
 
 pub describe-spec : {M : Type 1} → statement M
 describe-spec =

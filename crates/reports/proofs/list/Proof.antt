@@ -6,10 +6,10 @@ use Rattle.reports.proofs.list.Statement.{statement}
 use Rattle.reports.proofs.list.Tie as tie
 
 mul-blocks : tie.Need-mul-blocks
-mul-blocks c = omega (arith, can-read (c .before .before .before .before .pre .meant .standing) .few)
+mul-blocks c = let start = c .before .before .before .before in omega (arith, can-read (start .pre .meant .standing) .few)
 
 count-entries-requires : tie.Need-count-entries-requires
-count-entries-requires c κs = can-read (c .before .before .before .before .pre .meant .standing)
+count-entries-requires c κs = let start = c .before .before .before .before in can-read (start .pre .meant .standing)
 
 returns : tie.Need-returns
 returns c =
@@ -19,7 +19,8 @@ returns c =
 note-entries-requires : tie.Need-note-entries-requires
 note-entries-requires c κs =
     let count = c .before .before in
-    (can-read (count .before .before .before .before .before .pre .meant .standing), omega (arith, c .before .if1 .left, count .count-entries .ensures .words))
+    let start = count .before .before .before .before .before in
+    (can-read (start .pre .meant .standing), omega (arith, c .before .if1 .left, count .count-entries .ensures .words))
 
 by-name-requires : tie.Need-by-name-requires
 by-name-requires c κs =

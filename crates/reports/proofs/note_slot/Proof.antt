@@ -37,10 +37,10 @@ add-lent-4 c =
     omega (arith, c .shared-slice-known4 .given (slotStart (a .q .0) (a .slot) + 2))
 
 slice-write-lent-3 : tie.Need-slice-write-lent-3
-slice-write-lent-3 c = simp length-set (omega (arith, room (c .before .before .before .before)))
+slice-write-lent-3 c = let else1 = c .before .before .before .before in simp length-set (omega (arith, room else1))
 
 slice-write-lent-4 : tie.Need-slice-write-lent-4
-slice-write-lent-4 c = simp length-set (omega (arith, room (c .before .before .before .before)))
+slice-write-lent-4 c = let else1 = c .before .before .before .before in simp length-set (omega (arith, room else1))
 
 returns-2 : tie.Need-returns-2
 returns-2 c =

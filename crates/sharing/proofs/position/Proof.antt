@@ -4,7 +4,10 @@ use Rattle.sharing.proofs.position.Statement.{statement}
 use Rattle.sharing.proofs.position.Tie as tie
 
 returns : tie.Need-returns
-returns c = simp (c .reply .ensures, c .before .at-position .ensures, c .before .before .position-reached .ensures, c .before .before .before .position-word .ensures, c .before .before .before .before .area-at .ensures)
+returns c =
+    let position-reached = c .before .before in
+    let area-at = position-reached .before .before in
+    simp (c .reply .ensures, c .before .at-position .ensures, position-reached .position-reached .ensures, position-reached .before .position-word .ensures, area-at .area-at .ensures)
 
 pub position-spec : {M : Type 1} → statement M
 position-spec =

@@ -11,14 +11,17 @@ use Rattle.slices.proofs.count_free.Tie as tie
 
 mul-set-word : tie.Need-mul-set-word
 mul-set-word c =
-    let s = c .before .before .before .before .args .slice in
-    record { fits = omega (arith, c .before .before .before .before .pre .1, ap (λ (n : ℕ). s * n) (c .before .count-free .ensures)) }
+    let start = c .before .before .before .before in
+    let s = start .args .slice in
+    record { fits = omega (arith, start .pre .1, ap (λ (n : ℕ). s * n) (c .before .count-free .ensures)) }
 
 returns : tie.Need-returns
 unfolding countedFree
 returns c =
-    let a = c .before .before .before .before .before .before .before .args in
-    c .before .before .set-word .ensures ∙ ap (λ (n : ℕ). store (a .image .now) 2051 (a .slice * n ∷ [])) (c .before .before .before .before .count-free .ensures)
+    let set-word = c .before .before in
+    let count-free = set-word .before .before in
+    let a = count-free .before .before .before .args in
+    set-word .set-word .ensures ∙ ap (λ (n : ℕ). store (a .image .now) 2051 (a .slice * n ∷ [])) (count-free .count-free .ensures)
 
 pub count-free-spec : {M : Type 1} → statement M
 count-free-spec =

@@ -10,7 +10,10 @@ copied : (c : tie.After-copy-words) → let s = c .before .before .before in Cop
 copied c = let s = c .before .before .before in map-copied (s .args .image .now) _ (s .pre .can .first .long) (omega arith) (c .copy-words .ensures)
 
 take-slices-requires : tie.Need-take-slices-requires
-take-slices-requires c κs = let copy = c .before .before .before .before in can-first (copied copy) (copy .before .before .before .pre)
+take-slices-requires c κs =
+    let copy = c .before .before .before .before in
+    let start = copy .before .before .before in
+    can-first (copied copy) (start .pre)
 
 returns : tie.Need-returns
 returns c =
@@ -23,7 +26,8 @@ take-slices-requires-2 c κs =
     let left = c .before .before .before in
     let took = left .before .before .before in
     let copy = took .before .before .before .before .before in
-    can-second (copied copy) (took .take-slices .ensures) (not-false _ (left .if1 .left)) (copy .before .before .before .pre)
+    let start = copy .before .before .before in
+    can-second (copied copy) (took .take-slices .ensures) (not-false _ (left .if1 .left)) (start .pre)
 
 returns-2 : tie.Need-returns-2
 returns-2 c =

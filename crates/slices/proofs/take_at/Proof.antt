@@ -9,7 +9,7 @@ returns : tie.Need-returns
 returns c = record { all = λ held slices can. took-none can (c .before .before .args .q .0) (c .if1 .taken) }
 
 take-slices-requires : tie.Need-take-slices-requires
-take-slices-requires c κs = can-take-more (c .before .before .before .before .before .pre .1 .can)
+take-slices-requires c κs = let start = c .before .before .before .before .before in can-take-more (start .pre .1 .can)
 
 returns-2 : tie.Need-returns-2
 returns-2 c =

@@ -12,13 +12,14 @@ returns : tie.Need-returns
 returns c = record { all = λ held slices can. took-none can _ (c .if1 .taken) }
 
 take-slices-requires : tie.Need-take-slices-requires
-take-slices-requires c κs = can-take-more (c .before .before .before .before .before .pre .can)
+take-slices-requires c κs = let start = c .before .before .before .before .before in can-take-more (start .pre .can)
 
 store-block-requires : tie.Need-store-block-requires
 store-block-requires c κs =
     let told = c .before in
     let took = told .before .before .before .before in
-    took-room (took .before .before .before .before .before .before .pre .can) (took .take-slices .ensures) (omega arith) _ (told .block-sector .ensures)
+    let start = took .before .before .before .before .before .before in
+    took-room (start .pre .can) (took .take-slices .ensures) (omega arith) _ (told .block-sector .ensures)
 
 returns-2 : tie.Need-returns-2
 returns-2 c =

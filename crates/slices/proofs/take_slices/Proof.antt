@@ -43,10 +43,11 @@ take-one-requires c κs = let l = c .before .before in let can = l .before .loop
 returns : tie.Need-returns Inv-loop μ-loop
 returns c =
     let took = c .before .before .before .before .before in
+    let in-loop = took .before .before .before in
     let e = not-true _ (c .if1 .taken) in
     record {
       all = λ held own can. record {
-        fits = fails (left-full (turn (took .before .before .before) held own can) (took .take-one .ensures) e);
+        fits = fails (left-full (turn in-loop held own can) (took .take-one .ensures) e);
         marked = λ x. absurd (true≢false (sym x));
         words = λ x. absurd (true≢false (sym x));
       };

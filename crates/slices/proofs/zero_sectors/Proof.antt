@@ -33,12 +33,14 @@ loop-again c =
     let cleared = c .before .before in
     let told = cleared .before .before in
     let at-loop = told .before .before .before .before .before in
-    let lt : at-loop .loop .j < at-loop .before .before .args .n = omega arith in (
+    let start = at-loop .before .before in
+    let lt : at-loop .loop .j < start .args .n = omega arith in (
       omega arith,
       omega arith,
       at-loop .loop .inv .2,
       λ F s m slices can.
-          zero-next can (at-loop .loop .image) (at-loop .loop .j) (told .sector-at .result .0) lt (told .sector-at .ensures) (at-loop .loop .inv .3 F s m slices can) (cleared .clear-sector .ensures),
+          zero-next can (at-loop .loop .image) (at-loop .loop .j) (told .sector-at .result .0) lt (told .sector-at .ensures)
+          (at-loop .loop .inv .3 F s m slices can) (cleared .clear-sector .ensures),
     )
 
 returns : tie.Need-returns Inv-loop μ-loop

@@ -20,7 +20,8 @@ returns c = fails (λ s. refutes _ (c .before .names-sound .ensures) (c .if1 .ta
 areas-entered-requires : tie.Need-areas-entered-requires
 areas-entered-requires c κs =
     let names = c .before in
-    record { catalog = sys (names .before .before); legal = grants _ (names .names-sound .ensures) (c .if1 .left) .legal }
+    let start = names .before .before in
+    record { catalog = sys start; legal = grants _ (names .names-sound .ensures) (c .if1 .left) .legal }
 
 returns-2 : tie.Need-returns-2
 returns-2 c = fails (λ s. refutes _ (c .before .areas-entered .ensures) (c .if2 .taken) (s .areas))
@@ -39,8 +40,9 @@ returns-3 c = files-refused (c .before .files-sound .ensures .1) (c .if3 .taken)
 map-agrees-requires : tie.Need-map-agrees-requires
 map-agrees-requires c κs =
     let files = c .before .before in
+    let start = files .before .before .before .before .before .before .before in
     let y = files .files-sound .ensures .1 .yes (not-false _ (c .before .if3 .left)) in
-    (files .before .before .before .before .before .before .before .pre .0 .unit, record { slices = _; marked = record { is = y .2; once = y .1 } })
+    (start .pre .0 .unit, record { slices = _; marked = record { is = y .2; once = y .1 } })
 
 returns-4 : tie.Need-returns-4
 returns-4 c =

@@ -19,7 +19,7 @@ returns-2 : tie.Need-returns-2
 returns-2 c = fails (λ e. e .ordinary (T-of (sym (c .before .is-system .ensures) ∙ c .if2 .taken)))
 
 find-requires : tie.Need-find-requires
-find-requires c κs = some-key (c .before .before .before .before .before .pre .catalog)
+find-requires c κs = let start = c .before .before .before .before .before in some-key (start .pre .catalog)
 
 returns-3 : tie.Need-returns-3
 returns-3 c =
@@ -31,8 +31,9 @@ returns-4 : tie.Need-returns-4
 returns-4 c =
     let f = c .before .before in
     let tests = f .before in
-    let start = tests .before .before .before .before .before in
-    holds (found-entered (start .pre) (f .find .ensures) (omega (arith, tests .before .before .if1 .left)) (T-not (sym (tests .before .is-system .ensures) ∙ tests .if2 .left)) (c .enum-told .given .1))
+    let else1 = tests .before .before in
+    let start = else1 .before .before .before in
+    holds (found-entered (start .pre) (f .find .ensures) (omega (arith, else1 .if1 .left)) (T-not (sym (tests .before .is-system .ensures) ∙ tests .if2 .left)) (c .enum-told .given .1))
 
 pub name-entered-spec : {M : Type 1} → statement M
 name-entered-spec =

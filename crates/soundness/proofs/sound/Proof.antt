@@ -1,68 +1,16 @@
--- `soundness::sound` meets its contract: the answers of the steps are joined. Assumes nothing.
-use mathlib.Core.Path.{refl}
-use native.Mathlib.Omega.{arith}
+-- `soundness::sound` meets its contract. Assumes nothing.
 use borrow.Author.Needs.{needs}
-use Rattle.disc.proofs.DecideLaws.{fails, refutes, grants}
-use Rattle.kit.specs.Geometry.{SoundByKit}
-use Rattle.kit.proofs.KitLaws.{sound-unit}
-use Rattle.marks.proofs.MarkLaws.{mark-none}
-use Rattle.soundness.proofs.TopLaws.{unit-users, unit-kit, sys-known, unit-layers, decides-unit}
+use Rattle.disc.proofs.DecideLaws.{holds, fails}
+use Rattle.soundness.proofs.TopLaws.{judged-sound, judged-unsound}
 use Rattle.soundness.proofs.sound.Statement.{statement}
 use Rattle.soundness.proofs.sound.Tie as tie
 
-kit : (c : tie.After-geometry-of) → SoundByKit (c .before .before .before .before .before .before .args .image .now)
-kit c = grants _ (c .before .before .kit-sound .ensures) (c .before .if2 .left)
-
 returns : tie.Need-returns
-returns c = fails (λ u. refutes _ (c .before .users-sound .ensures .0) (c .if1 .taken) (unit-users u))
+returns c = holds (judged-sound (c .before .before .judge .ensures) (c .enum-told .given .1))
 
 returns-2 : tie.Need-returns-2
-returns-2 c = fails (λ u. refutes _ (c .before .kit-sound .ensures) (c .if2 .taken) (unit-kit u))
-
-mark-sys-requires : tie.Need-mark-sys-requires
-mark-sys-requires c κs = (sound-unit (c .before .geometry-of .ensures) (kit (c .before)), mark-none _ 4096 refl)
-
-returns-3 : tie.Need-returns-3
-returns-3 c =
-    let found = c .before in
-    fails (λ u. omega (arith, c .if3 .taken, unit-layers (found .before .before .geometry-of .ensures) (found .mark-sys .ensures) u .0 .some))
-
-layers-sound-requires : tie.Need-layers-sound-requires
-layers-sound-requires c κs =
-    let sys = c .before in
-    let found = sys .before .before in
-    let geometry = found .before .before in
-    let known = found .mark-sys .ensures .known (sys .before .if3 .left) in
-    rw (sys .sys .ensures) (sys-known (geometry .geometry-of .ensures) (kit geometry) (known .0) (known .1), refl)
-
-returns-4 : tie.Need-returns-4
-returns-4 c =
-    let sys = c .before .before in
-    let found = sys .before .before in
-    let geometry = found .before .before in
-    let users = geometry .before .before .before in
-    decides-unit
-    (geometry .geometry-of .ensures)
-    _
-    (record { each = λ k. users .before .before .shared-slice-known .given k .fits })
-    (users .before .users-sound .ensures .1)
-    (grants _ (users .before .users-sound .ensures .0) (users .if1 .left))
-    (kit geometry)
-    (found .mark-sys .ensures)
-    (found .mark-sys .ensures .known (sys .before .if3 .left) .0)
-    (rw (sys .sys .ensures) at (c .layers-sound .ensures))
+returns-2 c = fails (judged-unsound (c .before .before .judge .ensures) (c .enum-told2 .given .1))
 
 pub sound-spec : {M : Type 1} → statement M
 sound-spec =
-    tie.close
-    (tie.spec
-    (λ c κs. search needs)
-    returns
-    (λ c κs. search needs)
-    returns-2
-    (λ c κs. search needs)
-    mark-sys-requires
-    returns-3
-    (λ c κs. search needs)
-    layers-sound-requires
-    returns-4)
+    tie.close (tie.spec (λ c κs. search needs) (λ c. search needs) (λ c. search needs) returns returns-2)

@@ -22,10 +22,11 @@ returns c = fails (λ none. none _ (c .before .before .before .loop-test .taken)
 
 loop-again : tie.Need-loop-again Inv-loop μ-loop
 loop-again c =
-    let turn = c .before .before .before in (
+    let turn = c .before .before .before in
+    let start = turn .before .before in (
       omega arith,
       below-more
-          (λ k. IsOpen (turn .before .before .args .t1) k → ⊥)
+          (λ k. IsOpen (start .args .t1) k → ⊥)
           (turn .before .loop .j)
           (turn .before .loop .inv .1)
           (λ o. true≢false (sym o ∙ sym (c .before .is-open .ensures) ∙ c .if1 .left)),

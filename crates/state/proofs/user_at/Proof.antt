@@ -10,8 +10,9 @@ use Rattle.state.proofs.user_at.Tie as tie
 
 returns-2 : tie.Need-returns-2
 returns-2 c =
-    let area = c .before .before .args .t1 in
-    c .vacant-user .ensures ∙ sym (List·getD-eq-default (area .users) vacantUser (omega (arith, users-length area _ (c .before .before .good .0))))
+    let start = c .before .before in
+    let area = start .args .t1 in
+    c .vacant-user .ensures ∙ sym (List·getD-eq-default (area .users) vacantUser (omega (arith, users-length area _ (start .good .0))))
 
 pub user-at-spec : {M : Type 1} → statement M
 user-at-spec =

@@ -9,15 +9,18 @@ area-at-requires : tie.Need-area-at-requires
 area-at-requires c κs = position-asks (c .before .before .pre .0) .0
 
 attributes-of-requires : tie.Need-attributes-of-requires
-attributes-of-requires c κs = searches (c .before .before .before .before .before .before .pre .0)
+attributes-of-requires c κs = let start = c .before .before .before .before .before .before in searches (start .pre .0)
 
 refused-at-requires : tie.Need-refused-at-requires
-refused-at-requires c κs = position-asks (c .before .before .before .before .before .before .before .before .pre .0) .0
+refused-at-requires c κs = let start = c .before .before .before .before .before .before .before .before in position-asks (start .pre .0) .0
 
 returns : tie.Need-returns
 returns c =
-    let end = c .before .before .before in
-    inputs-refused (end .before .before .before .area-at .ensures) (end .if1 .taken) (c .before .before .attributes-of .ensures) (c .before .end-word .ensures) (c .refused-at .ensures)
+    let attributes-of = c .before .before in
+    let end = attributes-of .before in
+    let area-at = end .before .before .before in
+    inputs-refused (area-at .area-at .ensures) (end .if1 .taken) (attributes-of .attributes-of .ensures) (c .before .end-word .ensures)
+    (c .refused-at .ensures)
 
 read-requires : tie.Need-read-requires
 read-requires c κs =
@@ -26,13 +29,16 @@ read-requires c κs =
     (block-there (a .area-at .ensures) (s .pre .0) (c .before .if1 .left), s .pre .1)
 
 transferred-requires : tie.Need-transferred-requires
-transferred-requires c κs = position-asks (c .before .before .before .before .before .before .before .before .before .before .pre .0)
+transferred-requires c κs =
+    let start = c .before .before .before .before .before .before .before .before .before .before in
+    position-asks (start .pre .0)
 
 returns-2 : tie.Need-returns-2
 returns-2 c =
     let got = c .before .before .before in
     let below = got .before .before in
-    inputs-handed (below .before .before .before .area-at .ensures) (below .if1 .left) (got .read .ensures) (c .transferred .ensures)
+    let area-at = below .before .before .before in
+    inputs-handed (area-at .area-at .ensures) (below .if1 .left) (got .read .ensures) (c .transferred .ensures)
 
 pub input-spec : {M : Type 1} → statement M
 input-spec =

@@ -19,9 +19,12 @@ returns-3 c = record { all = λ p on num f file. word-input _ _ _ _ _ _ (c .befo
 
 returns-4 : tie.Need-returns-4
 returns-4 c =
+    let else3 = c .before .before in
+    let else2 = else3 .before .before in
     record {
       all = λ p on num f file.
-          word-writer _ _ _ _ _ _ (c .before .before .before .before .before .if1 .left) (c .before .before .before .before .if2 .left) (sym (c .before .before .before .is-output .ensures) ∙ not-false _ (c .before .before .if3 .left)) (sym (c .before .any-other .ensures) ∙ c .if4 .taken);
+          word-writer _ _ _ _ _ _ (else2 .before .if1 .left) (else2 .if2 .left)
+          (sym (else3 .before .is-output .ensures) ∙ not-false _ (else3 .if3 .left)) (sym (c .before .any-other .ensures) ∙ c .if4 .taken);
     }
 
 attributes-of-requires : tie.Need-attributes-of-requires
@@ -29,18 +32,30 @@ attributes-of-requires c κs = c .before .before .before .before .before .before
 
 returns-5 : tie.Need-returns-5
 returns-5 c =
+    let attributes-of = c .before .before in
+    let any-other = attributes-of .before .before in
+    let is-output = any-other .before .before in
+    let else1 = is-output .before .before in
     record {
       all = λ p on num f file.
-          word-protected _ _ _ _ _ _ (c .before .before .before .before .before .before .before .before .if1 .left) (c .before .before .before .before .before .before .before .if2 .left) (sym (c .before .before .before .before .before .before .is-output .ensures) ∙ not-false _ (c .before .before .before .before .before .if3 .left)) (sym (c .before .before .before .before .any-other .ensures) ∙ c .before .before .before .if4 .left)
-          (ap writeProtected (sym (file-attributes (c .before .before .attributes-of .ensures) on num file)) ∙ sym (c .before .bit .ensures) ∙ c .if5 .taken);
+          word-protected _ _ _ _ _ _ (else1 .if1 .left) (is-output .before .if2 .left)
+          (sym (is-output .is-output .ensures) ∙ not-false _ (any-other .before .if3 .left))
+          (sym (any-other .any-other .ensures) ∙ attributes-of .before .if4 .left)
+          (ap writeProtected (sym (file-attributes (attributes-of .attributes-of .ensures) on num file)) ∙ sym (c .before .bit .ensures) ∙ c .if5 .taken);
     }
 
 returns-6 : tie.Need-returns-6
 returns-6 c =
+    let attributes-of = c .before .before in
+    let any-other = attributes-of .before .before in
+    let is-output = any-other .before .before in
+    let else1 = is-output .before .before in
     record {
       all = λ p on num f file.
-          word-output _ _ _ _ _ _ (c .before .before .before .before .before .before .before .before .if1 .left) (c .before .before .before .before .before .before .before .if2 .left) (sym (c .before .before .before .before .before .before .is-output .ensures) ∙ not-false _ (c .before .before .before .before .before .if3 .left)) (sym (c .before .before .before .before .any-other .ensures) ∙ c .before .before .before .if4 .left)
-          (ap writeProtected (sym (file-attributes (c .before .before .attributes-of .ensures) on num file)) ∙ sym (c .before .bit .ensures) ∙ c .if5 .left);
+          word-output _ _ _ _ _ _ (else1 .if1 .left) (is-output .before .if2 .left)
+          (sym (is-output .is-output .ensures) ∙ not-false _ (any-other .before .if3 .left))
+          (sym (any-other .any-other .ensures) ∙ attributes-of .before .if4 .left)
+          (ap writeProtected (sym (file-attributes (attributes-of .attributes-of .ensures) on num file)) ∙ sym (c .before .bit .ensures) ∙ c .if5 .left);
     }
 
 pub refusal-spec : {M : Type 1} → statement M

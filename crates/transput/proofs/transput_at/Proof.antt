@@ -9,13 +9,19 @@ output-requires : tie.Need-output-requires
 output-requires c κs = c .before .before .before .before .before .before .pre
 
 returns : tie.Need-returns
-returns c = at-output (sym (c .before .before .before .before .before .before .is-output .ensures) ∙ c .before .before .before .before .before .if1 .taken) (c .before .before .output .ensures)
+returns c =
+    let output = c .before .before in
+    let then1 = output .before .before .before in
+    at-output (sym (then1 .before .is-output .ensures) ∙ then1 .if1 .taken) (output .output .ensures)
 
 input-requires : tie.Need-input-requires
 input-requires c κs = c .before .before .before .before .before .before .pre
 
 returns-2 : tie.Need-returns-2
-returns-2 c = at-input (sym (c .before .before .before .before .before .before .is-output .ensures) ∙ c .before .before .before .before .before .if1 .left) (c .before .before .input .ensures)
+returns-2 c =
+    let input = c .before .before in
+    let else1 = input .before .before .before in
+    at-input (sym (else1 .before .is-output .ensures) ∙ else1 .if1 .left) (input .input .ensures)
 
 pub transput-at-spec : {M : Type 1} → statement M
 transput-at-spec =

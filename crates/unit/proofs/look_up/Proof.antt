@@ -13,26 +13,32 @@ find-name-requires c κs = searchable (c .before .before .before .pre .standing)
 returns : tie.Need-returns
 returns c =
     let f = c .before .before in
-    looks-none _ _ (f .before .before .before .before .pre) (f .before .stored .ensures .packed) (f .find-name .ensures) (c .enum-told .given .1)
+    let start = f .before .before .before .before in
+    looks-none _ _ (start .pre) (f .before .stored .ensures .packed) (f .find-name .ensures) (c .enum-told .given .1)
 
 returns-2 : tie.Need-returns-2
 returns-2 c =
     let place = c .before .before in
     let f = place .before .before in
-    looks-short _ _ (f .before .before .before .before .pre) (f .before .stored .ensures .packed) (f .find-name .ensures) (place .place .given .1) (c .if1 .taken)
+    let start = f .before .before .before .before in
+    looks-short _ _ (start .pre) (f .before .stored .ensures .packed) (f .find-name .ensures) (place .place .given .1) (c .if1 .taken)
 
 read-entry-requires : tie.Need-read-entry-requires
 read-entry-requires c κs =
     let place = c .before .before .before in
     let f = place .before .before in
-    (omega (arith, c .before .if1 .left), name-room (searchable (f .before .before .before .before .pre .standing)) (f .find-name .ensures) (place .place .given .1))
+    let start = f .before .before .before .before in
+    (omega (arith, c .before .if1 .left), name-room (searchable (start .pre .standing)) (f .find-name .ensures) (place .place .given .1))
 
 returns-3 : tie.Need-returns-3
 returns-3 c =
     let e = c .before .before in
-    let place = e .before .before .before .before in
+    let else1 = e .before .before in
+    let place = else1 .before .before in
     let f = place .before .before in
-    looks-done _ _ (f .before .before .before .before .pre) (f .before .stored .ensures .packed) (f .find-name .ensures) (place .place .given .1) (e .before .before .if1 .left) (e .read-entry .ensures)
+    let start = f .before .before .before .before in
+    looks-done _ _ (start .pre) (f .before .stored .ensures .packed) (f .find-name .ensures) (place .place .given .1) (else1 .if1 .left)
+    (e .read-entry .ensures)
 
 pub look-up-spec : {M : Type 1} → statement M
 look-up-spec =

@@ -20,10 +20,12 @@ loop-holds c = (search needs, sym (store-none _ _), refl)
 
 loop-again : tie.Need-loop-again Inv-loop μ-loop
 loop-again c =
-    let a = c .before .before .before .args in
-    let i = c .before .before .loop .i in (
+    let at = c .before .before in
+    let a = at .before .args in
+    let i = at .loop .i in (
       search needs,
-      store-more _ _ i _ _ _ _ (length-part (a .src .now) (a .from) i (omega arith)) (part-snoc (a .src .now) (a .from) i (omega arith)) (c .before .before .loop .inv .1),
+      store-more _ _ i _ _ _ _ (length-part (a .src .now) (a .from) i (omega arith)) (part-snoc (a .src .now) (a .from) i (omega arith))
+          (at .loop .inv .1),
       search needs,
     )
 

@@ -1,5 +1,5 @@
 -- `bad_input::cases::digits` ends and no sum wraps: the value stays a word. Assumes nothing.
-use Prim.Native.Nat.{_<_, _≤_, _-_, _*_}
+use Prim.Native.Nat.{_≤_, _-_}
 use native.Mathlib.Nat.{mul-le-mul}
 use native.Mathlib.Omega.{arith}
 use Rattle.bad_input.proofs.cases.digits.Statement.{statement}
@@ -16,7 +16,9 @@ mul-value c = omega (arith, mul-le-mul (c .before .loop .inv) (c .before .before
 
 add-value : tie.Need-add-value Inv-loop μ-loop
 add-value c =
-    omega (arith, mul-le-mul (c .before .before .before .loop .inv) (c .before .before .before .before .before .pre .1))
+    let at = c .before .before .before in
+    let start = at .before .before in
+    omega (arith, mul-le-mul (at .loop .inv) (start .pre .1))
 
 pub digits-spec : {M : Type 1} → statement M
 digits-spec =

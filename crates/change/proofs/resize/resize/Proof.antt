@@ -23,7 +23,8 @@ zero-sectors-requires : tie.Need-zero-sectors-requires
 zero-sectors-requires c κs =
     let longer = c .before .before .before .before in
     let sliced = longer .before .before .before .before .before in
-    can-zero (sliced .before .before .before .pre .can) (sliced .reslice .ensures) (omega (arith, longer .if1 .left))
+    let start = sliced .before .before .before in
+    can-zero (start .pre .can) (sliced .reslice .ensures) (omega (arith, longer .if1 .left))
 
 returns-2 : tie.Need-returns-2
 returns-2 c =

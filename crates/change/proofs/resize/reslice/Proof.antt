@@ -11,7 +11,8 @@ give-back-requires c κs = can-cut (c .before .before .before .pre .can) (c .bef
 returns : tie.Need-returns
 returns c =
     let given = c .before .before in
-    record { all = λ p n f can. cut-sliced can (given .before .before .if1 .taken) (given .give-back .ensures) }
+    let then1 = given .before .before in
+    record { all = λ p n f can. cut-sliced can (then1 .if1 .taken) (given .give-back .ensures) }
 
 take-more-requires : tie.Need-take-more-requires
 take-more-requires c κs = can-lengthen (c .before .before .before .pre .can) (omega (arith, c .before .if1 .left))
@@ -19,7 +20,8 @@ take-more-requires c κs = can-lengthen (c .before .before .before .pre .can) (o
 returns-2 : tie.Need-returns-2
 returns-2 c =
     let took = c .before .before in
-    record { all = λ p n f can. longer-sliced can (omega (arith, took .before .before .if1 .left)) (took .take-more .ensures) }
+    let else1 = took .before .before in
+    record { all = λ p n f can. longer-sliced can (omega (arith, else1 .if1 .left)) (took .take-more .ensures) }
 
 pub reslice-spec : {M : Type 1} → statement M
 reslice-spec =

@@ -11,14 +11,16 @@ clear-place-requires c κs = move-room (c .before .before .pre .can)
 find-unused-requires : tie.Need-find-unused-requires
 find-unused-requires c κs =
     let clear = c .before .before .before in
-    move-search (clear .before .before .before .pre .can) (clear .clear-place .ensures)
+    let start = clear .before .before .before in
+    move-search (start .pre .can) (clear .clear-place .ensures)
 
 -- the key has a place
 returns : tie.Need-returns
 returns c =
     let found = c .before .before in
     let clear = found .before .before .before .before in
-    absurd (move-there (clear .before .before .before .pre .can) (clear .clear-place .ensures) (found .find-unused .ensures .1) (c .enum-told .given .1))
+    let start = clear .before .before .before in
+    absurd (move-there (start .pre .can) (clear .clear-place .ensures) (found .find-unused .ensures .1) (c .enum-told .given .1))
 
 write-entry-requires : tie.Need-write-entry-requires
 write-entry-requires c κs =

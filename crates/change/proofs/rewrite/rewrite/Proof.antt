@@ -21,21 +21,27 @@ source-words-requires : tie.Need-source-words-requires
 source-words-requires c κs = let can = c .before .before .before .before .pre .can in (can .lentSize, place-inside can)
 
 resize-requires : tie.Need-resize-requires
-resize-requires c κs = can-resize (c .before .before .before .before .before .before .pre .can)
+resize-requires c κs = let start = c .before .before .before .before .before .before in can-resize (start .pre .can)
 
 mul-new-entry : tie.Need-mul-new-entry
-mul-new-entry c = omega (arith, reserved-small (c .before .before .before .before .before .before .before .before .before .before .before .before .pre .can))
+mul-new-entry c =
+    let start = c .before .before .before .before .before .before .before .before .before .before .before .before in
+    omega (arith, reserved-small (start .pre .can))
 
 key-requires : tie.Need-key-requires
-key-requires c κs = some-key (c .before .before .before .before .before .before .before .before .before .before .before .before .before .before .before .pre .can)
+key-requires c κs =
+    let start = c .before .before .before .before .before .before .before .before .before .before .before .before .before .before .before in
+    some-key (start .pre .can)
 
 move-entry-requires : tie.Need-move-entry-requires
 move-entry-requires c κs =
     let moves = c .before .before in
     let entry = moves .before in
-    let sized = entry .before .before .before .before .before .before in
+    let block-sector = entry .before .before .before in
+    let sized = block-sector .before .before .before in
     let source = sized .before .before in
-    can-move (source .before .before .before .before .before .pre .can) (sized .resize .ensures) (told source) (entry .before .before .before .block-sector .ensures) (entry .new-entry .ensures)
+    let start = source .before .before .before .before .before in
+    can-move (start .pre .can) (sized .resize .ensures) (told source) (block-sector .block-sector .ensures) (entry .new-entry .ensures)
     (moves .if1 .taken) (c .key .ensures)
 
 count-free-requires : tie.Need-count-free-requires
@@ -43,9 +49,11 @@ count-free-requires c κs =
     let put = c .before .before .before in
     let moves = put .before .before .before in
     let entry = moves .before in
-    let sized = entry .before .before .before .before .before .before in
+    let block-sector = entry .before .before .before in
+    let sized = block-sector .before .before .before in
     let source = sized .before .before in
-    moved-count (source .before .before .before .before .before .pre .can) (sized .resize .ensures) (told source) (entry .before .before .before .block-sector .ensures) (entry .new-entry .ensures)
+    let start = source .before .before .before .before .before in
+    moved-count (start .pre .can) (sized .resize .ensures) (told source) (block-sector .block-sector .ensures) (entry .new-entry .ensures)
     (moves .if1 .taken) (put .before .key .ensures) (put .move-entry .ensures)
 
 returns : tie.Need-returns
@@ -54,11 +62,12 @@ returns c =
     let put = counted .before .before .before .before in
     let moves = put .before .before .before in
     let entry = moves .before in
-    let sized = entry .before .before .before .before .before .before in
+    let block-sector = entry .before .before .before in
+    let sized = block-sector .before .before .before in
     let source = sized .before .before in
     record {
       all = λ p n m f can.
-          moved-rewrites can (sized .resize .ensures) (told source) (entry .before .before .before .block-sector .ensures) (entry .new-entry .ensures)
+          moved-rewrites can (sized .resize .ensures) (told source) (block-sector .block-sector .ensures) (entry .new-entry .ensures)
           (moves .if1 .taken) (put .before .key .ensures) (put .move-entry .ensures) (counted .count-free .ensures);
     }
 
@@ -66,9 +75,11 @@ write-entry-requires : tie.Need-write-entry-requires
 write-entry-requires c κs =
     let stays = c .before .before .before .before in
     let entry = stays .before in
-    let sized = entry .before .before .before .before .before .before in
+    let block-sector = entry .before .before .before in
+    let sized = block-sector .before .before .before in
     let source = sized .before .before in
-    kept-room (source .before .before .before .before .before .pre .can) (sized .resize .ensures) (told source) (entry .before .before .before .block-sector .ensures) (entry .new-entry .ensures)
+    let start = source .before .before .before .before .before in
+    kept-room (start .pre .can) (sized .resize .ensures) (told source) (block-sector .block-sector .ensures) (entry .new-entry .ensures)
     (stays .if1 .left)
 
 count-free-requires-2 : tie.Need-count-free-requires-2
@@ -76,9 +87,11 @@ count-free-requires-2 c κs =
     let put = c .before .before .before in
     let stays = put .before .before .before .before .before in
     let entry = stays .before in
-    let sized = entry .before .before .before .before .before .before in
+    let block-sector = entry .before .before .before in
+    let sized = block-sector .before .before .before in
     let source = sized .before .before in
-    kept-count (source .before .before .before .before .before .pre .can) (sized .resize .ensures) (told source) (entry .before .before .before .block-sector .ensures) (entry .new-entry .ensures)
+    let start = source .before .before .before .before .before in
+    kept-count (start .pre .can) (sized .resize .ensures) (told source) (block-sector .block-sector .ensures) (entry .new-entry .ensures)
     (stays .if1 .left) (put .write-entry .ensures)
 
 returns-2 : tie.Need-returns-2
@@ -87,11 +100,12 @@ returns-2 c =
     let put = counted .before .before .before .before in
     let stays = put .before .before .before .before .before in
     let entry = stays .before in
-    let sized = entry .before .before .before .before .before .before in
+    let block-sector = entry .before .before .before in
+    let sized = block-sector .before .before .before in
     let source = sized .before .before in
     record {
       all = λ p n m f can.
-          kept-rewrites can (sized .resize .ensures) (told source) (entry .before .before .before .block-sector .ensures) (entry .new-entry .ensures)
+          kept-rewrites can (sized .resize .ensures) (told source) (block-sector .block-sector .ensures) (entry .new-entry .ensures)
           (stays .if1 .left) (put .write-entry .ensures) (counted .count-free2 .ensures);
     }
 

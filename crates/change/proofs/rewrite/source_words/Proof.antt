@@ -12,17 +12,19 @@ use Rattle.change.proofs.rewrite.source_words.Tie as tie
 returns : tie.Need-returns
 returns c =
     let read = c .before in
-    let a = read .before .before .before .before .before .args in
+    let then1 = read .before .before in
+    let a = then1 .before .before .before .args in
     read .read-entry .ensures ∙ append-nil _
-    ∙ ap (λ (b : Bool). cond b (entryAt (a .image .now) (a .place)) (take 16 (a .lent .now))) (sym (read .before .before .if1 .taken))
+    ∙ ap (λ (b : Bool). cond b (entryAt (a .image .now) (a .place)) (take 16 (a .lent .now))) (sym (then1 .if1 .taken))
 
 returns-2 : tie.Need-returns-2
 returns-2 c =
     let copy = c .before in
-    let start = copy .before .before .before .before .before in
+    let else1 = copy .before .before in
+    let start = else1 .before .before .before in
     let a = start .args in
     copy .copy-words .ensures ∙ lent-stored _ (a .lent .now) refl (start .pre .0)
-    ∙ ap (λ (b : Bool). cond b (entryAt (a .image .now) (a .place)) (take 16 (a .lent .now))) (sym (copy .before .before .if1 .left))
+    ∙ ap (λ (b : Bool). cond b (entryAt (a .image .now) (a .place)) (take 16 (a .lent .now))) (sym (else1 .if1 .left))
 
 pub source-words-spec : {M : Type 1} → statement M
 source-words-spec =
