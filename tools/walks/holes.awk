@@ -176,7 +176,7 @@ function compute(    i) {
         add("frees", "move ! (" place(i, mutables + 7) " ∷ " place(i, mutables + 7) + 1 " ∷ []) $ free1 ! $")
     }
     for (i = 0; i < locals + mutables + 8; i++) hole["parens"] = hole["parens"] ")"
-    hole["dashed"] = dashed(hole["function"]); hole["step-dashed"] = dashed(hole["step"])
+    hole["dashed"] = dashed(hole["function"]); hole["step-dashed"] = dashed(hole["step"]); hole["crate-dashed"] = dashed(hole["crate"])
     hole["tokens"] = tokens(1); hole["token-terms"] = token_terms(1); hole["operands"] = operands()
     hole["count"] = slices + 1; hole["copy"] = outcome - 1; hole["outcome"] = outcome; hole["top"] = locals - 1
     hole["owned"] = 2 * locals + 1; hole["token"] = 2 * locals + 3; hole["returned"] = mutables + 1; hole["cell"] = mutables + 3

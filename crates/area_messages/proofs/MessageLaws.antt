@@ -33,16 +33,16 @@ use Rattle.plain.specs.Good.{Good}
 use Rattle.refine.specs.Represents.{Represents}
 use Rattle.refine.proofs.LeavesLaws.{leaves}
 use Rattle.refine.proofs.StateLaws.{same-absent}
-use Rattle.steps.proofs.Whole.{represents}
-use Rattle.steps.proofs.AreaMessages.{area-low, area-found, area-other, sender-absent, sender-found, area-file}
-use Rattle.steps.proofs.AreaUnit.{area-shut, area-reserved, area-nobody, area-strange, area-asked, operation-reserve, operation-stranger, operation-user, user-position, user-sense, user-transput}
-use Rattle.unit.specs.Unit.{NumbersOf, Meant}
-use Rattle.unit.proofs.MeantLaws.{meant-known}
-use Rattle.sharing.specs.declared.AreaReply.{AreaReply}
-use Rattle.sharing.specs.Sharing.{areaReply, atPosition, positionWord, positionReached, reservedReply, releasedReply, positionReply}
+use Rattle.preservation.proofs.Whole.{represents}
+use Rattle.preservation.proofs.AreaMessages.{area-low, area-found, area-other, sender-absent, sender-found, area-file}
+use Rattle.preservation.proofs.AreaUnit.{area-shut, area-reserved, area-nobody, area-strange, area-asked, operation-reserve, operation-stranger, operation-user, user-position, user-sense, user-transput}
+use Rattle.lookup.specs.Unit.{NumbersOf, Meant}
+use Rattle.lookup.proofs.MeantLaws.{meant-known}
+use Rattle.area_users.specs.declared.AreaReply.{AreaReply}
+use Rattle.area_users.specs.Sharing.{areaReply, atPosition, positionWord, positionReached, reservedReply, releasedReply, positionReply}
 use Rattle.refine.specs.Leaves.{Leaves}
-use Rattle.sharing.specs.Seat.{Seat, areaUsers, areaUser}
-use Rattle.sharing.proofs.ShareLaws.{seat-size, reserve-leaves, release-leaves, moved-good, moved-represents, reached-low, Positioned, positioned-by}
+use Rattle.area_users.specs.Seat.{Seat, areaUsers, areaUser}
+use Rattle.area_users.proofs.ShareLaws.{seat-size, reserve-leaves, release-leaves, moved-good, moved-represents, reached-low, Positioned, positioned-by}
 use Rattle.transput.specs.Transput.{Transputs, Seated}
 use Rattle.transput.proofs.TransputLaws.{kept-image}
 use Rattle.area_messages.specs.AreaMessages.{knownCount, knownTransput, reserveWord, messageImage, userState, operationState, admitted, messageState, UserSteps, OperatesFrom, CanOperate, Operates, AreaMessages}

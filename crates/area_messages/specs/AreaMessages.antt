@@ -27,11 +27,11 @@ use Rattle.plain.specs.Transput.{oneOf}
 use Rattle.plain.specs.Step.{isKnown, reserveCount, userStep, operationStep, stepArea}
 use Rattle.plain.specs.Good.{Good}
 use Rattle.refine.specs.Represents.{Represents}
-use Rattle.unit.specs.Unit.{NumbersOf}
-use Rattle.sharing.specs.declared.AreaReply.{AreaReply}
-use Rattle.sharing.specs.Sharing.{atPosition, positionReached}
+use Rattle.lookup.specs.Unit.{NumbersOf}
+use Rattle.area_users.specs.declared.AreaReply.{AreaReply}
+use Rattle.area_users.specs.Sharing.{atPosition, positionReached}
 use Rattle.refine.specs.Leaves.{Leaves}
-use Rattle.sharing.specs.Seat.{Seat, areaUsers, areaUser}
+use Rattle.area_users.specs.Seat.{Seat, areaUsers, areaUser}
 use Rattle.transput.specs.Transput.{transputImage, transputState}
 
 -- "Known operation (Reserve 0, 2, 3, 4; .. transput 1, 3, 5, 7, 19)".

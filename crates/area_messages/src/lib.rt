@@ -3,12 +3,12 @@
 ghost use mathlib.Core.Path.{_≡_};
 ghost use Rattle.disc.specs.Names.{unitIn};
 ghost use Rattle.plain.specs.Step.{isKnown};
-ghost use Rattle.unit.specs.Unit.{Meant};
+ghost use Rattle.lookup.specs.Unit.{Meant};
 ghost use Rattle.transput.specs.Transput.{Seated};
 ghost use Rattle.area_messages.specs.AreaMessages.{knownCount, knownTransput, reserveWord, UserSteps, CanOperate, Operates};
 ghost use Rattle.area_messages.specs.AreaMessages.{AreaMessages};
+use area_users::AreaReply;
 use catalog::Unit;
-use sharing::AreaReply;
 use state::Found;
 use state::Kind;
 use types::Block;
@@ -89,15 +89,15 @@ fn user_step(
         (now (lent .exit)) (now (image .exit)) ⌝ }
 {
     match operation {
-        Operation::Reserve(_) => sharing::release(state, j, u),
-        Operation::Position(block) => sharing::position(state, j, u, block),
-        Operation::Sense => sharing::reply(state, 0, 0, Block(0)),
+        Operation::Reserve(_) => area_users::release(state, j, u),
+        Operation::Position(block) => area_users::position(state, j, u, block),
+        Operation::Sense => area_users::reply(state, 0, 0, Block(0)),
         Operation::Transput {
             operation: number,
             bytes,
             block,
         } => { transput::transput(image, unit, state, j, u, sender, number, bytes, block, lent) }
-        Operation::Other(_) => sharing::reply(state, 0x0A00, 0, Block(0)),
+        Operation::Other(_) => area_users::reply(state, 0x0A00, 0, Block(0)),
     }
 }
 
@@ -117,11 +117,11 @@ fn operate(
 {
     let count = reserve_count(operation);
     if count != 0 {
-        return sharing::reserve(state, j, sender, count);
+        return area_users::reserve(state, j, sender, count);
     }
     let area = state::area_at(state, j);
     let Found::At(u) = state::find_user(area, sender) else {
-        return sharing::reply(state, 0x0810, 0, Block(0));
+        return area_users::reply(state, 0x0810, 0, Block(0));
     };
     user_step(image, unit, state, j, u, sender, operation, lent)
 }
@@ -141,17 +141,17 @@ pub fn area_message(
         (now (lent .exit)) (now (image .exit)) ⌝ }
 {
     let Found::At(j) = state::find_area(state, names::stored(name)) else {
-        return sharing::reply(state, 0x4800, 0, Block(0));
+        return area_users::reply(state, 0x4800, 0, Block(0));
     };
     let area = state::area_at(state, j);
     if state::any_other(area, sender, Kind::Exclusive) {
-        return sharing::reply(state, 0x0200, 0, Block(0));
+        return area_users::reply(state, 0x0200, 0, Block(0));
     }
     if sender == 0 {
-        return sharing::reply(state, 0x0810, 0, Block(0));
+        return area_users::reply(state, 0x0810, 0, Block(0));
     }
     if !is_known(operation) {
-        return sharing::reply(state, 0x0A00, 0, Block(0));
+        return area_users::reply(state, 0x0A00, 0, Block(0));
     }
     operate(image, unit, state, j, sender, operation, lent)
 }

@@ -15,9 +15,9 @@ use Rattle.refine.specs.Represents.{SameAreas, Represents}
 use Rattle.refine.specs.OnDisc.{OnDisc}
 use Rattle.refine.specs.Replies.{Replies, refused, written}
 use Rattle.refine.proofs.StateLaws.{same-room}
-use Rattle.steps.proofs.Whole.{on-disc, represents}
-use Rattle.steps.proofs.BookStep.{bookedUnit, book-on}
-use Rattle.steps.proofs.AreaSteps.{areas-on, open-areas, close-areas}
+use Rattle.preservation.proofs.Whole.{on-disc, represents}
+use Rattle.preservation.proofs.BookStep.{bookedUnit, book-on}
+use Rattle.preservation.proofs.AreaSteps.{areas-on, open-areas, close-areas}
 use Rattle.refine.specs.Leaves.{Leaves}
 use Rattle.refine.proofs.LeavesLaws.{leaves}
 use Rattle.areas.specs.declared.AreaDone.{AreaDone}

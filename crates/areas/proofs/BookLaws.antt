@@ -17,11 +17,11 @@ use Rattle.plain.specs.Unit.{Plain, File, sysOf, fileEntry}
 use Rattle.plain.specs.Areas.{bookLive}
 use Rattle.refine.specs.Writes.{bookedImage}
 use Rattle.refine.proofs.Ground.{Ground, ground, part-file, part-sectors}
-use Rattle.unit.specs.Files.{BlockOf}
-use Rattle.unit.proofs.UnitLaws.{on-catalog}
-use Rattle.unit.proofs.FindLaws.{place-room}
-use Rattle.unit.proofs.LookUpLaws.{entry-at}
-use Rattle.unit.proofs.FileLaws.{block-total, total-fits, file-entry}
+use Rattle.lookup.specs.Files.{BlockOf}
+use Rattle.lookup.proofs.UnitLaws.{on-catalog}
+use Rattle.lookup.proofs.FindLaws.{place-room}
+use Rattle.lookup.proofs.LookUpLaws.{entry-at}
+use Rattle.lookup.proofs.FileLaws.{block-total, total-fits, file-entry}
 use Rattle.areas.specs.Areas.{CanBookFrom}
 
 -- ---- words 7, 8 and 9 of an entry

@@ -28,13 +28,13 @@ use Rattle.plain.proofs.QuestionLaws.{false-no, asks-yes, asks-no}
 use Rattle.refine.specs.Represents.{Represents}
 use Rattle.refine.specs.Replies.{refused, written}
 use Rattle.refine.proofs.StateLaws.{same-room, same-full}
-use Rattle.steps.proofs.Whole.{on-disc}
-use Rattle.unit.specs.Unit.{NumbersOf, Meant}
-use Rattle.unit.specs.Find.{NameAt, NameFound, FindsName}
-use Rattle.unit.specs.Files.{nameOpen}
-use Rattle.unit.proofs.UnitLaws.{on-catalog}
-use Rattle.unit.proofs.MeantLaws.{meant-known}
-use Rattle.unit.proofs.FileLaws.{found-file, live-size, live-index, name-open, name-closed, name-absent}
+use Rattle.preservation.proofs.Whole.{on-disc}
+use Rattle.lookup.specs.Unit.{NumbersOf, Meant}
+use Rattle.lookup.specs.Find.{NameAt, NameFound, FindsName}
+use Rattle.lookup.specs.Files.{nameOpen}
+use Rattle.lookup.proofs.UnitLaws.{on-catalog}
+use Rattle.lookup.proofs.MeantLaws.{meant-known}
+use Rattle.lookup.proofs.FileLaws.{found-file, live-size, live-index, name-open, name-closed, name-absent}
 use Rattle.areas.specs.Areas.{CreatesArea, dummyCreate, made}
 
 -- ---- on the plain unit

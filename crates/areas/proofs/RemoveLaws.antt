@@ -32,11 +32,11 @@ use Rattle.refine.specs.Represents.{usersIn, Represents}
 use Rattle.refine.specs.Replies.{refused, written}
 use Rattle.refine.proofs.UserLaws.{users-count}
 use Rattle.refine.proofs.StateLaws.{named-inside, named-open, same-found, same-absent, same-index, same-size, same-users}
-use Rattle.steps.proofs.Whole.{on-disc}
-use Rattle.unit.specs.Unit.{NumbersOf, Meant}
-use Rattle.unit.specs.Find.{NameAt, NameFound, FindsName}
-use Rattle.unit.proofs.UnitLaws.{on-catalog}
-use Rattle.unit.proofs.MeantLaws.{meant-known}
+use Rattle.preservation.proofs.Whole.{on-disc}
+use Rattle.lookup.specs.Unit.{NumbersOf, Meant}
+use Rattle.lookup.specs.Find.{NameAt, NameFound, FindsName}
+use Rattle.lookup.proofs.UnitLaws.{on-catalog}
+use Rattle.lookup.proofs.MeantLaws.{meant-known}
 use Rattle.areas.specs.Areas.{CanBookFrom, CanBook, Booked, RemovesArea, dummyRemove, books}
 
 pub none-left : {A : Type 0} (l : List A) → length l ≡ 0 → l ≡ []

@@ -21,8 +21,8 @@ use Rattle.refine.specs.Represents.{Represents}
 use Rattle.refine.specs.OnDisc.{OnDisc}
 use Rattle.refine.specs.Writes.{bookedImage}
 use Rattle.refine.specs.Replies.{Replies}
-use Rattle.unit.specs.Unit.{NumbersOf, unitPlaces}
-use Rattle.unit.specs.Find.{NameAt}
+use Rattle.lookup.specs.Unit.{NumbersOf, unitPlaces}
+use Rattle.lookup.specs.Find.{NameAt}
 use Rattle.areas.specs.declared.AreaDone.{AreaDone}
 
 -- ---- Create area

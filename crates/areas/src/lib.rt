@@ -1,7 +1,7 @@
 // Area create and remove, from the question whether the name is entered, or none of SYS and MAP, on.
 
 ghost use Rattle.disc.specs.Names.{unitIn};
-ghost use Rattle.unit.specs.Unit.{Meant};
+ghost use Rattle.lookup.specs.Unit.{Meant};
 ghost use Rattle.areas.specs.Areas.{CanBook, Booked, CreatesArea, RemovesArea};
 use catalog::Found;
 use catalog::Place;
@@ -22,7 +22,7 @@ pub fn create_area(image: &[u16], unit: Unit, state: State, name: Name) -> AreaD
     ensures { λ r. ⌜ CreatesArea (now (image .entry)) unit state name r ⌝ }
 {
     let n = names::stored(name);
-    let Found::At(place) = unit::find_name(image, unit, n) else {
+    let Found::At(place) = lookup::find_name(image, unit, n) else {
         return AreaDone {
             result: 0x4800,
             state: state,
@@ -34,7 +34,7 @@ pub fn create_area(image: &[u16], unit: Unit, state: State, name: Name) -> AreaD
             state: state,
         };
     }
-    if unit::is_open(state, n) {
+    if lookup::is_open(state, n) {
         return AreaDone {
             result: 0,
             state: state,
@@ -60,7 +60,7 @@ fn book(image: &mut [u16], unit: Unit, place: Place, index: Sector, length: u16)
     requires { ⌜ CanBook (now image) unit place (index .0) length ⌝ }
     ensures { λ _. ⌜ Booked (now (image .entry)) unit place (index .0) length (now (image .exit)) ⌝ }
 {
-    let block = unit::file_block(image, index);
+    let block = lookup::file_block(image, index);
     let total = index::slice_total(block, unit.slice);
     let mut entry = [0u16; 16];
     catalog::read_entry(image, place, &mut entry);
@@ -96,7 +96,7 @@ pub fn remove_area(image: &mut [u16], unit: Unit, state: State, name: Name) -> A
         };
     }
     // An open area's name is entered.
-    let Found::At(place) = unit::find_name(image, unit, n) else {
+    let Found::At(place) = lookup::find_name(image, unit, n) else {
         return AreaDone {
             result: 0,
             state: state,

@@ -25,11 +25,11 @@ use Rattle.plain.proofs.UnitLaws.{entry-of}
 use Rattle.refine.specs.OnDisc.{OnDisc}
 use Rattle.refine.specs.Writes.{replacedImage}
 use Rattle.refine.proofs.Ground.{ground, block-in, file-data, file-slices}
-use Rattle.steps.proofs.OutputMessage.{block-inside}
-use Rattle.unit.specs.Unit.{NumbersOf}
-use Rattle.unit.specs.Find.{FindsName}
-use Rattle.unit.specs.Files.{BlockOf}
-use Rattle.unit.proofs.UnitLaws.{on-catalog}
+use Rattle.preservation.proofs.OutputMessage.{block-inside}
+use Rattle.lookup.specs.Unit.{NumbersOf}
+use Rattle.lookup.specs.Find.{FindsName}
+use Rattle.lookup.specs.Files.{BlockOf}
+use Rattle.lookup.proofs.UnitLaws.{on-catalog}
 use Rattle.blocks.specs.Blocks.{entryAttributes, AttributesOf, BlockFrom, SomeBlock, BlockSectorOf, BlockRead, BlockReplaced}
 
 -- ---- attributes
@@ -60,7 +60,7 @@ sector-is : {image : List ℕ} {index k : ℕ} {p : Plain} {n : ℕ} {f : File} 
 sector-is {k = k} {p} {n} {f} from e =
     let good = from .on .good in
     let g = ground p good in
-    let positive : 1 ≤ p .s = omega (arith, good .limits .slice-low) in
+    let positive : 1 ≤ p .s = omega (arith, good .limits .sliceLow) in
     let inside = need-cover (p .s) (length (f .sectors)) (length (f .slices)) positive (good .catalog .files n f (from .file) .covered) k (from .below) in
     let far = file-data p g n f (from .file) (k + 1) (block-in p g n f (from .file) k (from .below)) in
     ap (λ (w : List ℕ). jointSector w 0 (k + 1)) e

@@ -12,7 +12,7 @@ use Rattle.plain.specs.Table.{tableFind}
 use Rattle.plain.specs.Unit.{Plain, File, entry}
 use Rattle.refine.specs.OnDisc.{OnDisc}
 use Rattle.refine.specs.Writes.{replacedImage}
-use Rattle.unit.specs.Unit.{NumbersOf, CatalogOn}
+use Rattle.lookup.specs.Unit.{NumbersOf, CatalogOn}
 
 -- "6 attributes": the word of an entry, 0 if there is none.
 abbrev pub entryAttributes : Option (List ℕ) → ℕ

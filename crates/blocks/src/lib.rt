@@ -3,8 +3,8 @@
 
 ghost use Prim.Native.Nat.{_≤_};
 ghost use lib.ListN.{length};
-ghost use Rattle.disc.specs.Names.{pack};
-ghost use Rattle.unit.specs.Unit.{Searchable};
+ghost use Rattle.disc.specs.Names.{packed};
+ghost use Rattle.lookup.specs.Unit.{Searchable};
 ghost use Rattle.blocks.specs.Blocks.{AttributesOf, SomeBlock, BlockSectorOf, BlockRead, BlockReplaced};
 use catalog::Found;
 use catalog::Unit;
@@ -15,9 +15,9 @@ use types::Sector;
 // The attributes of a name as it is stored; 0 if it is not entered.
 pub fn attributes_of(image: &[u16], unit: Unit, name: Name) -> u16
     requires { ⌜ Searchable (now image) unit ⌝ }
-    ensures { λ r. ⌜ AttributesOf (now (image .entry)) unit (pack (name .0) (name .1) (name .2)) r ⌝ }
+    ensures { λ r. ⌜ AttributesOf (now (image .entry)) unit (packed name) r ⌝ }
 {
-    let Found::At(place) = unit::find_name(image, unit, name) else {
+    let Found::At(place) = lookup::find_name(image, unit, name) else {
         return 0;
     };
     catalog::entry_word(image, place, 6)
@@ -28,7 +28,7 @@ fn sector_of(image: &[u16], index: Sector, k: Block) -> Sector
     requires { ⌜ SomeBlock (now image) (index .0) (k .0) ⌝ }
     ensures { λ r. ⌜ BlockSectorOf (now (image .entry)) (index .0) (k .0) (r .0) ⌝ }
 {
-    let block = unit::file_block(image, index);
+    let block = lookup::file_block(image, index);
     index::block_sector(block, 1, k)
 }
 

@@ -4,7 +4,7 @@ ghost use mathlib.Core.Path.{_≡_};
 ghost use mathlib.Core.List.{_++_};
 ghost use Prim.Native.Nat.{_+_, _≤_};
 ghost use lib.ListN.{length, take, drop};
-ghost use Rattle.disc.specs.Names.{pack, packed};
+ghost use Rattle.disc.specs.Names.{packed};
 ghost use Rattle.disc.specs.Entries.{entryFrom, systemEntry};
 ghost use Rattle.words.specs.Store.{store, zeroWords};
 ghost use Rattle.catalog.specs.Catalog.{sysValue, keySector, placeStart, entryWord, entryAt};
@@ -62,7 +62,7 @@ fn key_sector(image: &[u16], c: Catalog, key: u16, layer: u16) -> Sector
 
 // Whether the name stands in a slot of sector q: by the first word, as few other names have it.
 fn is_named_slot(image: &[u16], q: Sector, slot: u16, name: Name) -> bool
-    ensures { λ r. ⌜ r ≡ slotNamed (now (image .entry)) (pack (name .0) (name .1) (name .2)) (q .0) slot ⌝ }
+    ensures { λ r. ⌜ r ≡ slotNamed (now (image .entry)) (packed name) (q .0) slot ⌝ }
 {
     let at = slot as usize * 16;
     let first = words::word(image, q, at);
@@ -76,7 +76,7 @@ fn is_named_slot(image: &[u16], q: Sector, slot: u16, name: Name) -> bool
 
 // The first slot of sector q with the name, 16 if there is none.
 pub fn slot_named(image: &[u16], q: Sector, name: Name) -> u16
-    ensures { λ r. ⌜ r ≡ firstSlot (slotNamed (now (image .entry)) (pack (name .0) (name .1) (name .2)) (q .0)) ⌝ }
+    ensures { λ r. ⌜ r ≡ firstSlot (slotNamed (now (image .entry)) (packed name) (q .0)) ⌝ }
 {
     let mut i: u16 = 0;
     while i < 16 {
@@ -120,7 +120,7 @@ pub fn unused_slot(image: &[u16], q: Sector) -> u16
 // The place of a name.
 pub fn find(image: &[u16], c: Catalog, name: Name) -> Found
     requires { ⌜ 1 ≤ c .keys ⌝ }
-    ensures { λ r. ⌜ NamePlace (now (image .entry)) c (pack (name .0) (name .1) (name .2)) r ⌝ }
+    ensures { λ r. ⌜ NamePlace (now (image .entry)) c (packed name) r ⌝ }
 {
     let key = numbers::key(name, c.keys);
     let mut layer: u16 = 0;

@@ -25,13 +25,13 @@ use Rattle.plain.proofs.QuestionLaws.{given-law, true-yes, false-no, asks-yes, 
 use Rattle.plain.proofs.UnitLaws.{system-none, ordinary-files}
 use Rattle.refine.specs.Represents.{Represents}
 use Rattle.refine.specs.Replies.{Replies, refused, written}
-use Rattle.steps.proofs.Whole.{on-disc}
-use Rattle.unit.specs.Unit.{NumbersOf, Meant}
-use Rattle.unit.specs.Find.{NameAt, NameFound, FindsName}
-use Rattle.unit.specs.Files.{nameOpen}
-use Rattle.unit.proofs.UnitLaws.{on-catalog}
-use Rattle.unit.proofs.MeantLaws.{meant-known}
-use Rattle.unit.proofs.FileLaws.{found-file, name-open, name-closed}
+use Rattle.preservation.proofs.Whole.{on-disc}
+use Rattle.lookup.specs.Unit.{NumbersOf, Meant}
+use Rattle.lookup.specs.Find.{NameAt, NameFound, FindsName}
+use Rattle.lookup.specs.Files.{nameOpen}
+use Rattle.lookup.proofs.UnitLaws.{on-catalog}
+use Rattle.lookup.proofs.MeantLaws.{meant-known}
+use Rattle.lookup.proofs.FileLaws.{found-file, name-open, name-closed}
 use Rattle.change.specs.Asked.{CanStandFrom}
 use Rattle.change.specs.Change.{sizeThen, attributesThen, Changed, CanChange, FileChanges, ChangeDone, Changes}
 use Rattle.change.proofs.AnswerLaws.{change-open}

@@ -29,14 +29,14 @@ use Rattle.refine.specs.Represents.{Represents}
 use Rattle.refine.specs.OnDisc.{OnDisc}
 use Rattle.refine.specs.Writes.{emptyPlace, resizedImage, renamedImage}
 use Rattle.refine.specs.Replies.{Replies, refused, written}
-use Rattle.steps.proofs.Whole.{on-disc, represents}
-use Rattle.steps.proofs.GrowStep.{grow-on}
-use Rattle.steps.proofs.RenameStep.{rename-at}
-use Rattle.steps.proofs.ChangeMessage.{change-kept, change-areas}
-use Rattle.steps.specs.Units.{grownUnit}
+use Rattle.preservation.proofs.Whole.{on-disc, represents}
+use Rattle.preservation.proofs.GrowStep.{grow-on}
+use Rattle.preservation.proofs.RenameStep.{rename-at}
+use Rattle.preservation.proofs.ChangeMessage.{change-kept, change-areas}
+use Rattle.preservation.specs.Units.{grownUnit}
 use Rattle.refine.specs.Leaves.{Leaves}
 use Rattle.refine.proofs.LeavesLaws.{leaves}
-use Rattle.unit.specs.Find.{FirstUnused}
+use Rattle.lookup.specs.Find.{FirstUnused}
 use Rattle.grow.specs.Grow.{GrownFrom}
 use Rattle.change.specs.Rewrite.{Rewrites, stayed, moved}
 use Rattle.change.specs.Change.{sizeThen, attributesThen, fileAfter, layersThen, Changed, stays, grows, ChangeDone, ChangeStep}

@@ -25,7 +25,7 @@ use Rattle.plain.specs.Catalog.{isRecord, newName, keptOr, attributesIn, sizeIn
 use Rattle.plain.proofs.ChangeUnit.{Changes, changeLayers, changeGrown, changedOn, changedUnit, ChangeAsked, change-outcome, change-changes, moved-vacant, moved-fits}
 use Rattle.plain.proofs.GrowUnit.{grownTo, not-grown, entry-grown}
 use Rattle.refine.specs.Replies.{Replies, refused, written}
-use Rattle.steps.specs.Units.{grownUnit}
+use Rattle.preservation.specs.Units.{grownUnit}
 use Rattle.grow.specs.Grow.{CanGrowFrom, CanGrow, Grows}
 use Rattle.grow.proofs.BlockLaws.{sys-in}
 use Rattle.change.specs.Resize.{slicesThen}

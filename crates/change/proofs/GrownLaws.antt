@@ -17,10 +17,10 @@ use Rattle.plain.proofs.GrowUnit.{entry-but-sys}
 use Rattle.refine.proofs.CatalogLaws.{name-cong}
 use Rattle.refine.proofs.Ground.{ground, place-in, sys-ground}
 use Rattle.refine.proofs.Writers.{grown-sector}
-use Rattle.steps.proofs.GrowStep.{grow-old}
-use Rattle.steps.specs.Units.{layerSlices, grownUnit}
-use Rattle.unit.specs.Unit.{NumbersOf, unitPlaces}
-use Rattle.unit.specs.Find.{PlaceIs, NameAt}
+use Rattle.preservation.proofs.GrowStep.{grow-old}
+use Rattle.preservation.specs.Units.{layerSlices, grownUnit}
+use Rattle.lookup.specs.Unit.{NumbersOf, unitPlaces}
+use Rattle.lookup.specs.Find.{PlaceIs, NameAt}
 use Rattle.grow.specs.Grow.{CanGrowFrom, GrownFrom}
 use Rattle.grow.proofs.GrowLaws.{grown-on}
 use Rattle.change.specs.declared.rewrite.Standing.{Standing}

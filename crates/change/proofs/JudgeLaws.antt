@@ -14,7 +14,7 @@ use Rattle.plain.specs.Questions.{Outcome}
 use Rattle.plain.specs.Taking.{Taking, taking, enough}
 use Rattle.plain.specs.Catalog.{slicesAfter, changeFile}
 use Rattle.refine.proofs.Ground.{ground, part-file}
-use Rattle.unit.specs.Unit.{UnitOn}
+use Rattle.lookup.specs.Unit.{UnitOn}
 use Rattle.grow.specs.Room.{AskedOf, CanAsk, RoomFor}
 use Rattle.grow.proofs.BlockLaws.{sys-in}
 use Rattle.change.specs.declared.rewrite.Standing.{Standing}

@@ -9,7 +9,7 @@ use native.Mathlib.Omega.{arith}
 use native.Mathlib.Nat.{mul-comm, mul-le-mul-right}
 use lib.ListN.{length}
 use borrow.Author.Tests.{le-leb, lt-leb}
-use Rattle.disc.specs.Names.{pack, keyOf}
+use Rattle.disc.specs.Names.{keyOf, packed}
 use Rattle.disc.specs.Slices.{oneIfSame}
 use Rattle.disc.proofs.Compare.{Tri, less, same, more, tri, tri-same}
 use Rattle.catalog.specs.declared.Place.{Place}
@@ -21,10 +21,10 @@ use Rattle.plain.specs.Unit.{Plain, File, entry, sysOf}
 use Rattle.plain.specs.Taking.{hasKey, placesTaken, layersFor}
 use Rattle.plain.proofs.TableLaws.{weightAt, total-remove}
 use Rattle.refine.proofs.Ground.{ground, sys-ground, part-sectors}
-use Rattle.unit.specs.Unit.{NumbersOf, UnitOn}
-use Rattle.unit.specs.Find.{FindsName, FindsUnused}
+use Rattle.lookup.specs.Unit.{NumbersOf, UnitOn}
+use Rattle.lookup.specs.Find.{FindsName, FindsUnused}
 use Rattle.change.specs.declared.rewrite.Wanted.{Wanted}
-use Rattle.unit.proofs.UnitLaws.{on-catalog}
+use Rattle.lookup.proofs.UnitLaws.{on-catalog}
 use Rattle.change.specs.Asked.{LayersFor, TakenBy}
 
 -- a number is the same as itself, and another one is not
@@ -70,25 +70,25 @@ pub some-layers : {image : List ℕ} {o : Unit} → UnitOn image o → (1 ≤ o 
 some-layers h =
     let p = h .unit in
     let gr = ground p (h .on .good) in (
-      omega (arith, h .numbers .catalog .keys, gr .limits .keys-low),
+      omega (arith, h .numbers .catalog .keys, gr .limits .keysLow),
       omega (
         arith,
         h .numbers .catalog .layers,
         gr .sysCover,
         part-sectors p gr (p .sys) (sys-ground gr .part),
         mul-comm (p .s) (length (p .sys)),
-        mul-le-mul-right (p .layers) (gr .limits .keys-low),
+        mul-le-mul-right (p .layers) (gr .limits .keysLow),
       ),
     )
 
 module _ (image : List ℕ) (o : Unit) (n : ℕ) (w : Wanted) where
   abbrev m : ℕ
-  m = pack (w .name .0) (w .name .1) (w .name .2)
+  m = packed (w .name)
 
   pub layers-kept : w .moves ≡ false → LayersFor image o n w (o .catalog .layers)
   layers-kept e = record { all = λ p f on num found. num .catalog .layers ∙ sym (ap (λ (b : Bool). cond b (layersFor (p .H) (sysOf p) m (tableRemove n (p .files))) (p .layers)) e) }
 
-  module _ (e : w .moves ≡ true) {k : ℕ} (key : k ≡ keyOf (o .catalog .keys) (pack (w .name .0) (w .name .1) (w .name .2))) where
+  module _ (e : w .moves ≡ true) {k : ℕ} (key : k ≡ keyOf (o .catalog .keys) (packed (w .name))) where
     moving : (p : Plain) {r : ℕ} → r ≡ layersFor (p .H) (sysOf p) m (tableRemove n (p .files)) → r ≡ cond (w .moves) (layersFor (p .H) (sysOf p) m (tableRemove n (p .files))) (p .layers)
     moving p q = q ∙ sym (ap (λ (b : Bool). cond b (layersFor (p .H) (sysOf p) m (tableRemove n (p .files))) (p .layers)) e)
 
@@ -131,7 +131,7 @@ module _ (image : List ℕ) (o : Unit) (n : ℕ) (w : Wanted) where
   pub taken-kept : w .moves ≡ false → TakenBy image o w false
   taken-kept e = record { all = λ p on num. sym (ap (λ (b : Bool). b && isSome (entry p m)) e) }
 
-  module _ (e : w .moves ≡ true) {r : Found} (finds : FindsName image o (pack (w .name .0) (w .name .1) (w .name .2)) r) where
+  module _ (e : w .moves ≡ true) {r : Found} (finds : FindsName image o (packed (w .name)) r) where
     pub taken-at : {place : Place} → r ≡ At place → TakenBy image o w true
     taken-at {place} at = record {
       all = λ p on num. sym (ap (λ (b : Bool). b && isSome (entry p m)) e ∙ ap isSome (finds .all p (on-catalog on) num .at place at .entered));

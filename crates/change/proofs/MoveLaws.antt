@@ -15,9 +15,9 @@ use Rattle.catalog.specs.declared.Unit.{Unit}
 use Rattle.catalog.specs.Catalog.{placeStart}
 use Rattle.plain.specs.Unit.{Plain, sysOf}
 use Rattle.refine.specs.Writes.{storePlace, emptyPlace}
-use Rattle.unit.specs.Unit.{CatalogOn, Searchable}
-use Rattle.unit.specs.Find.{PlaceIs, UnusedAt, UnusedFound, FindsUnused}
-use Rattle.unit.proofs.FindLaws.{place-room}
+use Rattle.lookup.specs.Unit.{CatalogOn, Searchable}
+use Rattle.lookup.specs.Find.{PlaceIs, UnusedAt, UnusedFound, FindsUnused}
+use Rattle.lookup.proofs.FindLaws.{place-room}
 use Rattle.change.specs.Move.{CanMoveFrom, MovedFrom}
 
 -- a store in a place of the code is one in SYS's place

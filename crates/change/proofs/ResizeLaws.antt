@@ -16,8 +16,8 @@ use Rattle.catalog.specs.declared.Unit.{Unit}
 use Rattle.plain.specs.Unit.{Plain, File, M, held}
 use Rattle.refine.specs.Writes.{zeroedSectors, takenImage, cutImage, resizedImage}
 use Rattle.refine.proofs.Ground.{Ground, ground, part-file}
-use Rattle.steps.proofs.ResizeLaws.{Resizes, resizes-taken, cut-none, resliced-size}
-use Rattle.steps.proofs.WriteLaws.{taken-none}
+use Rattle.preservation.proofs.ResizeLaws.{Resizes, resizes-taken, cut-none, resliced-size}
+use Rattle.preservation.proofs.WriteLaws.{taken-none}
 use Rattle.slices.specs.FileBlock.{FileBlock}
 use Rattle.slices.specs.Take.{CanLengthenFrom, CanLengthen, Lengthened}
 use Rattle.slices.specs.Give.{CanCutFrom, CanCut, Cut}
@@ -180,7 +180,7 @@ module _ {image : List ℕ} {o : Unit} {block : List ℕ} {had has : Extent} {p 
   zero-from h = record {
     file = then-file (can .slices) r;
     room = λ some.
-        let low = can .slices .on .good .limits .slice-low in
+        let low = can .slices .on .good .limits .sliceLow in
         omega (
           arith,
           need-sectors (p .s) (has .size) (has .slices) (omega (arith, low)) (omega arith) (can .needed),

@@ -10,7 +10,7 @@ use lib.ListN.{length, take, drop}
 use lib.Seq.{take-all}
 use Rattle.disc.specs.Numbers.{bit}
 use Rattle.disc.specs.Words.{Words}
-use Rattle.disc.specs.Names.{pack, keyOf}
+use Rattle.disc.specs.Names.{keyOf, packed}
 use Rattle.disc.specs.Attributes.{permanent}
 use Rattle.disc.specs.Stretches.{sectorIn}
 use Rattle.disc.specs.Map.{onesInMap}
@@ -33,18 +33,18 @@ use Rattle.plain.proofs.QuestionLaws.{cond-law}
 use Rattle.refine.specs.Writes.{countedFree, storePlace, emptyPlace, resizedImage, changedImage, renamedImage}
 use Rattle.refine.proofs.Ground.{Ground, ground, top}
 use Rattle.refine.proofs.Writers.{long}
-use Rattle.steps.proofs.WriteLaws.{zeroed-size}
-use Rattle.steps.proofs.ResizeLaws.{resliced-size}
-use Rattle.steps.proofs.ChangeStep.{changes-resizes, changes-entry, change-on}
-use Rattle.steps.proofs.RenameStep.{rename-emptied, rename-at}
-use Rattle.unit.specs.Unit.{NumbersOf, CatalogOn}
-use Rattle.unit.proofs.UnitLaws.{on-catalog}
-use Rattle.unit.proofs.FindLaws.{place-room}
-use Rattle.unit.proofs.FileLaws.{file-entry}
-use Rattle.unit.proofs.LookUpLaws.{entry-at}
+use Rattle.preservation.proofs.WriteLaws.{zeroed-size}
+use Rattle.preservation.proofs.ResizeLaws.{resliced-size}
+use Rattle.preservation.proofs.ChangeStep.{changes-resizes, changes-entry, change-on}
+use Rattle.preservation.proofs.RenameStep.{rename-emptied, rename-at}
+use Rattle.lookup.specs.Unit.{NumbersOf, CatalogOn}
+use Rattle.lookup.proofs.UnitLaws.{on-catalog}
+use Rattle.lookup.proofs.FindLaws.{place-room}
+use Rattle.lookup.proofs.FileLaws.{file-entry}
+use Rattle.lookup.proofs.LookUpLaws.{entry-at}
 use Rattle.slices.specs.FileBlock.{FileBlock}
 use Rattle.slices.proofs.BlockLaws.{unit-file, index-told}
-use Rattle.unit.specs.Find.{FirstUnused}
+use Rattle.lookup.specs.Find.{FirstUnused}
 use Rattle.grow.proofs.BlockLaws.{counted-word}
 use Rattle.change.specs.declared.resize.Extent.{Extent}
 use Rattle.change.specs.Resize.{slicesThen, CanResizeFrom, CanResize, Resized}
@@ -179,7 +179,7 @@ module _ {image : List ℕ} {o : Unit} {now : Standing} {w : Wanted} {lent : Lis
     -- ---- the entry
 
     module _ {source : List ℕ} (told : source ≡ cond (bit 11 (now .attributes)) (entryAt image (now .place)) (take 16 lent)) {index : ℕ} (at : index ≡ jointSector block 0 0) {words : List ℕ}
-        (put : words ≡ entryWords (pack (w .name .0) (w .name .1) (w .name .2)) (take 3 (drop 3 source)) (w .attributes) (w .size) index (o .slice * w .slices) (take 6 (drop 10 source))) where
+        (put : words ≡ entryWords (packed (w .name)) (take 3 (drop 3 source)) (w .attributes) (w .size) index (o .slice * w .slices) (take 6 (drop 10 source))) where
       words-are : words ≡ fileEntry (p .F) (p .s) m f′
       words-are =
           put
@@ -220,7 +220,7 @@ module _ {image : List ℕ} {o : Unit} {now : Standing} {w : Wanted} {lent : Lis
           kept-rewrites e = stayed (can .kept same) (e ∙ ap₂ countedFree stored-is (num .slice))
 
       -- another name
-      module _ (other : w .moves ≡ true) {k : ℕ} (key : k ≡ keyOf (o .catalog .keys) (pack (w .name .0) (w .name .1) (w .name .2))) where
+      module _ (other : w .moves ≡ true) {k : ℕ} (key : k ≡ keyOf (o .catalog .keys) (packed (w .name))) where
         abbrev without : Plain
         without = withFiles p (tableRemove n (p .files))
 
@@ -240,7 +240,7 @@ module _ {image : List ℕ} {o : Unit} {now : Standing} {w : Wanted} {lent : Lis
           numbers = record { slice = num .slice; first = num .first; slices = num .slices; catalog = num .catalog };
           is = record { inside = s₀ .at .is .inside; sector = s₀ .at .is .sector; slot = s₀ .at .is .slot };
           emptied = emptied;
-          low = rw key-is (mod-lt _ (omega (arith, gr .limits .keys-low)));
+          low = rw key-is (mod-lt _ (omega (arith, gr .limits .keysLow)));
           fits = rw key-is (can .fits differs);
         }
 
@@ -286,4 +286,4 @@ module _ {image : List ℕ} {o : Unit} {now : Standing} {w : Wanted} {lent : Lis
 
   -- H is at least 1
   pub some-key : 1 ≤ o .catalog .keys
-  some-key = omega (arith, gr .limits .keys-low, num .catalog .keys)
+  some-key = omega (arith, gr .limits .keysLow, num .catalog .keys)

@@ -9,8 +9,8 @@ use Rattle.catalog.specs.declared.Place.{Place}
 use Rattle.catalog.specs.declared.Unit.{Unit}
 use Rattle.catalog.specs.Catalog.{entryWord}
 use Rattle.plain.specs.Unit.{Plain, File}
-use Rattle.unit.specs.Files.{BlockOf}
-use Rattle.unit.proofs.FileLaws.{file-words, live-index, block-is, block-total, total-fits}
+use Rattle.lookup.specs.Files.{BlockOf}
+use Rattle.lookup.proofs.FileLaws.{file-words, live-index, block-is, block-total, total-fits}
 use Rattle.change.specs.declared.rewrite.Standing.{Standing}
 use Rattle.change.specs.Rewrite.{StandsAs}
 use Rattle.change.specs.Asked.{CanStandFrom}

@@ -9,7 +9,7 @@ use lib.ListN.{getD}
 use borrow.Author.Tests.{eq-eqb, ne-eqb}
 use Rattle.types.specs.declared.Name.{Name}
 use Rattle.disc.specs.Numbers.{need, negative}
-use Rattle.disc.specs.Names.{pack, nameOf, named, legalName}
+use Rattle.disc.specs.Names.{nameOf, named, legalName, packed}
 use Rattle.disc.specs.Attributes.{legalAttributes, legalWith, permanent}
 use Rattle.names.specs.NameIs.{NameIs}
 use Rattle.plain.specs.Catalog.{keptOr, newName}
@@ -31,8 +31,8 @@ slices-kept s size booked slices e = rw (eq-eqb size booked e) refl
 pub slices-new : (s size booked slices : ℕ) {r : ℕ} → size ≢ booked → r ≡ need s size → r ≡ cond (eqb size booked) slices (need s size)
 slices-new s size booked slices d e = rw (ne-eqb size booked d) e
 
-pub name-kept : (n : Name) (lent : List ℕ) → n .0 < 65536 → n .1 < 65536 → n .2 < 65536 → getD lent 0 0 ≡ 0 → NameIs n (newName (pack (n .0) (n .1) (n .2)) lent)
-name-kept n lent a b c z = record { packed = sym (ap (λ (t : Bool). cond t (pack (n .0) (n .1) (n .2)) (nameOf (getD lent 0 0) (getD lent 1 0) (getD lent 2 0))) (eq-eqb (getD lent 0 0) 0 z)); first = a; second = b; third = c }
+pub name-kept : (n : Name) (lent : List ℕ) → n .0 < 65536 → n .1 < 65536 → n .2 < 65536 → getD lent 0 0 ≡ 0 → NameIs n (newName (packed n) lent)
+name-kept n lent a b c z = record { packed = sym (ap (λ (t : Bool). cond t (packed n) (nameOf (getD lent 0 0) (getD lent 1 0) (getD lent 2 0))) (eq-eqb (getD lent 0 0) 0 z)); first = a; second = b; third = c }
 
 pub name-new : {r : Name} (n : ℕ) (lent : List ℕ) → getD lent 0 0 ≢ 0 → NameIs r (named (record { 0 = getD lent 0 0; 1 = getD lent 1 0; 2 = getD lent 2 0 }))
     → NameIs r (newName n lent)
@@ -45,13 +45,13 @@ moves-told n e q = ap not (e ∙ ap (λ (x : ℕ). eqb x n) q)
 
 module _ (f : Standing) (w : Wanted) where
   abbrev m : ℕ
-  m = pack (w .name .0) (w .name .1) (w .name .2)
+  m = packed (w .name)
 
-  pub no-name : legalName (pack (w .name .0) (w .name .1) (w .name .2)) ≡ false → false ≡ allowedBy f w
+  pub no-name : legalName (packed (w .name)) ≡ false → false ≡ allowedBy f w
   unfolding allowedBy
   no-name a = rw a refl
 
-  module _ (a : legalName (pack (w .name .0) (w .name .1) (w .name .2)) ≡ true) where
+  module _ (a : legalName (packed (w .name)) ≡ true) where
     pub no-attributes : legalAttributes (w .attributes) ≡ false → false ≡ allowedBy f w
     unfolding allowedBy
     no-attributes b = rw (a, b) refl

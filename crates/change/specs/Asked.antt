@@ -16,8 +16,8 @@ use Rattle.plain.specs.Unit.{Plain, File, entry, sysOf}
 use Rattle.plain.specs.Taking.{layersFor}
 use Rattle.plain.specs.Catalog.{newName, keptOr, attributesIn, sizeIn, slicesAfter, changeFile}
 use Rattle.refine.specs.OnDisc.{OnDisc}
-use Rattle.unit.specs.Unit.{NumbersOf}
-use Rattle.unit.specs.Find.{NameAt}
+use Rattle.lookup.specs.Unit.{NumbersOf}
+use Rattle.lookup.specs.Find.{NameAt}
 use Rattle.change.specs.declared.rewrite.Standing.{Standing}
 use Rattle.change.specs.declared.rewrite.Wanted.{Wanted}
 use Rattle.change.specs.Rewrite.{StandsAs}

@@ -19,8 +19,8 @@ use Rattle.plain.specs.Taking.{layersFor}
 use Rattle.plain.specs.Catalog.{newName, keptOr, attributesIn, sizeIn, slicesAfter, changed, changeFile, stepChange}
 use Rattle.refine.specs.Represents.{Represents}
 use Rattle.refine.specs.Replies.{Replies}
-use Rattle.unit.specs.Unit.{NumbersOf, unitPlaces}
-use Rattle.steps.specs.Units.{grownUnit}
+use Rattle.lookup.specs.Unit.{NumbersOf, unitPlaces}
+use Rattle.preservation.specs.Units.{grownUnit}
 use Rattle.grow.specs.Grow.{GrownFrom}
 use Rattle.change.specs.Resize.{slicesThen}
 use Rattle.change.specs.Rewrite.{Rewrites}

@@ -8,8 +8,8 @@ use Rattle.catalog.specs.declared.Unit.{Unit}
 use Rattle.plain.specs.Unit.{Plain, sysOf}
 use Rattle.plain.specs.Taking.{placesTaken}
 use Rattle.refine.specs.Writes.{storePlace, emptyPlace}
-use Rattle.unit.specs.Unit.{NumbersOf, CatalogOn}
-use Rattle.unit.specs.Find.{PlaceIs, FirstUnused}
+use Rattle.lookup.specs.Unit.{NumbersOf, CatalogOn}
+use Rattle.lookup.specs.Find.{PlaceIs, FirstUnused}
 
 -- With place t empty the image has the catalog of unit p, whose names of key k leave a place.
 pub record CanMoveFrom (image : List ℕ) (o : Unit) (place : Place) (k : ℕ) (p : Plain) (t : ℕ) : Type 0 where

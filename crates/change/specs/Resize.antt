@@ -14,7 +14,7 @@ use Rattle.plain.specs.Unit.{Plain, File, M, held, freeSlices}
 use Rattle.refine.specs.OnDisc.{OnDisc}
 use Rattle.refine.specs.Writes.{takenImage, cutImage, resizedImage}
 use Rattle.change.specs.declared.resize.Extent.{Extent}
-use Rattle.unit.specs.Unit.{NumbersOf}
+use Rattle.lookup.specs.Unit.{NumbersOf}
 
 -- "Gives back from the end or takes until need is met": the slices of a file that is to have `count` of them.
 abbrev pub slicesThen : Plain → File → ℕ → List ℕ

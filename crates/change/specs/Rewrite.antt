@@ -21,8 +21,8 @@ use Rattle.plain.specs.Taking.{placesTaken}
 use Rattle.plain.specs.Catalog.{changed}
 use Rattle.refine.specs.OnDisc.{OnDisc}
 use Rattle.refine.specs.Writes.{emptyPlace, resizedImage, changedImage, renamedImage}
-use Rattle.unit.specs.Unit.{NumbersOf}
-use Rattle.unit.specs.Find.{NameAt, FirstUnused}
+use Rattle.lookup.specs.Unit.{NumbersOf}
+use Rattle.lookup.specs.Find.{NameAt, FirstUnused}
 use Rattle.change.specs.Resize.{slicesThen}
 use Rattle.change.specs.declared.rewrite.Standing.{Standing}
 use Rattle.change.specs.declared.rewrite.Wanted.{Wanted}

@@ -12,7 +12,7 @@ ghost use Rattle.disc.specs.Numbers.{need};
 ghost use Rattle.disc.specs.Names.{packed, unitIn};
 ghost use Rattle.names.specs.NameIs.{NameIs};
 ghost use Rattle.plain.specs.Catalog.{keptOr, newName};
-ghost use Rattle.unit.specs.Unit.{UnitOn, Meant};
+ghost use Rattle.lookup.specs.Unit.{UnitOn, Meant};
 ghost use Rattle.change.specs.Asked.{CanStand, Stands, WantedOf, allowedBy, LayersFor, TakenBy, CanJudge, Judges};
 ghost use Rattle.change.specs.Change.{CanChange, FileChanges, Changes};
 use catalog::Found;
@@ -32,7 +32,7 @@ fn standing(image: &[u16], unit: Unit, place: Place) -> Standing
     let attributes = catalog::entry_word(image, place, 6);
     let size = catalog::entry_word(image, place, 7);
     let index = catalog::entry_word(image, place, 8);
-    let block = unit::file_block(image, Sector(index));
+    let block = lookup::file_block(image, Sector(index));
     let slices = index::slice_total(block, unit.slice);
     Standing {
         place: place,
@@ -128,7 +128,7 @@ fn layers_for(image: &[u16], unit: Unit, n: Name, w: Wanted) -> u16
     if numbers::key(n, unit.catalog.keys) == key {
         return unit.catalog.layers;
     }
-    match unit::find_unused(image, unit, key) {
+    match lookup::find_unused(image, unit, key) {
         Found::At(_) => unit.catalog.layers,
         Found::Nothing => unit.catalog.layers + 1,
     }
@@ -142,7 +142,7 @@ fn is_taken(image: &[u16], unit: Unit, w: Wanted) -> bool
     if !w.moves {
         return false;
     }
-    match unit::find_name(image, unit, w.name) {
+    match lookup::find_name(image, unit, w.name) {
         Found::At(_) => true,
         Found::Nothing => false,
     }
@@ -205,7 +205,7 @@ pub fn change(image: &mut [u16], unit: Unit, state: State, name: Name, lent: &[u
     ensures { λ r. ⌜ Changes (now (image .entry)) unit state name (now (lent .entry)) (now (image .exit)) r ⌝ }
 {
     let n = names::stored(name);
-    let Found::At(place) = unit::find_name(image, unit, n) else {
+    let Found::At(place) = lookup::find_name(image, unit, n) else {
         return 0x5000;
     };
     if lent.len() < 16 {
@@ -217,7 +217,7 @@ pub fn change(image: &mut [u16], unit: Unit, state: State, name: Name, lent: &[u
     if names::is_system(n) {
         return 0x1200;
     }
-    if unit::is_open(state, n) {
+    if lookup::is_open(state, n) {
         return 0x1200;
     }
     change_file(image, unit, n, place, lent)

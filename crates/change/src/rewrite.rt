@@ -72,7 +72,7 @@ fn move_entry(image: &mut [u16], unit: Unit, place: Place, key: u16, entry: Entr
     ensures { λ _. ⌜ Moved (now (image .entry)) unit place key (entry .words) (now (image .exit)) ⌝ }
 {
     catalog::clear_place(image, place);
-    let Found::At(free) = unit::find_unused(image, unit, key) else {
+    let Found::At(free) = lookup::find_unused(image, unit, key) else {
         return;
     };
     catalog::write_entry(image, free, &entry.words);

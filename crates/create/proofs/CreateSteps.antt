@@ -29,11 +29,11 @@ use Rattle.refine.specs.OnDisc.{OnDisc}
 use Rattle.refine.specs.Replies.{Replies, refused, written}
 use Rattle.refine.specs.Writes.{createdImage, grownSys}
 use Rattle.refine.proofs.PlaceCount.{sys-entries, unused-room}
-use Rattle.steps.proofs.NewFileStep.{new-file-stays, new-file-grows}
-use Rattle.steps.proofs.AreaSteps.{grow-areas, create-areas}
-use Rattle.steps.proofs.Whole.{on-disc, represents}
-use Rattle.steps.specs.Units.{layerSlices, grownUnit, newFileOf}
-use Rattle.unit.specs.Unit.{unitPlaces}
+use Rattle.preservation.proofs.NewFileStep.{new-file-stays, new-file-grows}
+use Rattle.preservation.proofs.AreaSteps.{grow-areas, create-areas}
+use Rattle.preservation.proofs.Whole.{on-disc, represents}
+use Rattle.preservation.specs.Units.{layerSlices, grownUnit, newFileOf}
+use Rattle.lookup.specs.Unit.{unitPlaces}
 use Rattle.create.specs.Create.{CreatedOn, Created, stays, grows, CreateStep, SetStep}
 
 -- ---- where the answer is 0, every question was answered yes

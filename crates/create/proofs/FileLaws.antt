@@ -28,12 +28,12 @@ use Rattle.plain.proofs.CreateUnit.{NewFile}
 use Rattle.refine.specs.OnDisc.{OnDisc}
 use Rattle.refine.specs.Writes.{countedFree, storePlace, zeroedSectors, takenImage, createdImage}
 use Rattle.refine.proofs.Ground.{Ground, ground, top}
-use Rattle.steps.proofs.WriteLaws.{zeroed-size}
-use Rattle.steps.proofs.CreateStep.{create-on}
-use Rattle.steps.specs.Units.{newFileOf}
-use Rattle.unit.specs.Unit.{NumbersOf}
-use Rattle.unit.proofs.UnitLaws.{on-catalog}
-use Rattle.unit.proofs.FindLaws.{place-room}
+use Rattle.preservation.proofs.WriteLaws.{zeroed-size}
+use Rattle.preservation.proofs.CreateStep.{create-on}
+use Rattle.preservation.specs.Units.{newFileOf}
+use Rattle.lookup.specs.Unit.{NumbersOf}
+use Rattle.lookup.proofs.UnitLaws.{on-catalog}
+use Rattle.lookup.proofs.FindLaws.{place-room}
 use Rattle.slices.specs.FileBlock.{FileBlock}
 use Rattle.slices.specs.Take.{CanLengthenFrom, CanLengthen, Lengthened}
 use Rattle.slices.specs.Zero.{CanZeroFrom, CanZero, Zeroed}
@@ -61,7 +61,7 @@ none-file {image} {none} {p} on e =
 module _ {image : List ℕ} {o : Unit} {place : Place} {n size attributes : ℕ} {words : List ℕ} {p : Plain}
     (can : CanWriteFrom image o place n size attributes words p) where
   asked : AskedFrom image o n size attributes words p
-  asked = can .place-for .asked
+  asked = can .placeFor .asked
 
   num : NumbersOf o p
   num = asked .numbers
@@ -73,7 +73,7 @@ module _ {image : List ℕ} {o : Unit} {place : Place} {n size attributes : ℕ}
   f = newFileOf p size attributes (optionalIn words) (tailIn words)
 
   abbrev t : ℕ
-  t = can .place-for .at .number
+  t = can .placeFor .at .number
 
   gr : Ground p
   gr = ground p (asked .on .good)
@@ -96,7 +96,7 @@ module _ {image : List ℕ} {o : Unit} {place : Place} {n size attributes : ℕ}
       }
 
   on-created : OnDisc (createdImage p (sysOf p) image t n f) (unitWith p n size attributes (optionalIn words) (tailIn words))
-  on-created = let a = can .place-for .at in create-on (asked .on) new t (a .is .inside) (a .first .unused) (a .first .key)
+  on-created = let a = can .placeFor .at in create-on (asked .on) new t (a .is .inside) (a .first .unused) (a .first .key)
 
   length-slices : length (f .slices) ≡ count
   length-slices = length-taken (M p) (held p) 0 count
@@ -155,7 +155,7 @@ module _ {image : List ℕ} {o : Unit} {place : Place} {n size attributes : ℕ}
       file = file;
       room = λ some.
           let own : count ≤ count = omega arith in
-          omega (arith, need-le (p .s) size count (omega (arith, asked .on .good .limits .slice-low)) some .0 own, ap (λ (c : ℕ). p .s * c) length-slices, mul-comm (p .s) count);
+          omega (arith, need-le (p .s) size count (omega (arith, asked .on .good .limits .sliceLow)) some .0 own, ap (λ (c : ℕ). p .s * c) length-slices, mul-comm (p .s) count);
     }
 
     pub can-zero : CanZero taken block 1 size
@@ -173,7 +173,7 @@ module _ {image : List ℕ} {o : Unit} {place : Place} {n size attributes : ℕ}
           ∙ length-taken-image image (sectorIn (p .F) (p .s) (f .slices) 0) (p .F) (p .s) [] (f .slices)
 
       pub can-enter : (16 ≤ length words) × (placeStart place + 16 ≤ length zeroed)
-      can-enter = (asked .long, omega (arith, place-room (on-catalog (asked .on)) (can .place-for .at .is), length-zeroed-image))
+      can-enter = (asked .long, omega (arith, place-room (on-catalog (asked .on)) (can .placeFor .at .is), length-zeroed-image))
 
       -- ---- the entry
 
@@ -181,7 +181,7 @@ module _ {image : List ℕ} {o : Unit} {place : Place} {n size attributes : ℕ}
           (stored : entered ≡ store zeroed (placeStart place) (entryWords n (optionalIn words) attributes size sector (o .slice * k) (tailIn words))) where
         entered-is : entered ≡ storePlace p (sysOf p) i₃ t (fileEntry (p .F) (p .s) n f)
         entered-is =
-            let is = can .place-for .at .is in
+            let is = can .placeFor .at .is in
             let start : placeStart place ≡ placeSector (p .F) (p .s) (sysOf p) t * 256 + t % 16 * 16 = ap₂ (λ (q i : ℕ). q * 256 + i * 16) (is .sector) (is .slot) in
             let index : sector ≡ indexSector (p .F) (p .s) count (f .slices) = first ∙ index-told file ∙ ap (λ (c : ℕ). indexSector (p .F) (p .s) c (f .slices)) length-slices in
             let reserved : o .slice * k ≡ p .s * count = ap₂ (λ (a b : ℕ). a * b) (num .slice) (count-is q) in
@@ -200,7 +200,7 @@ module _ {image : List ℕ} {o : Unit} {place : Place} {n size attributes : ℕ}
         pub file-written : {after : List ℕ} → after ≡ countedFree entered (o .slice) → CreatedOn p image n f after
         unfolding createdImage
         file-written c =
-            let a = can .place-for .at in
+            let a = can .placeFor .at in
             record {
               place = t;
               first = a .first;

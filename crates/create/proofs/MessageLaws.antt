@@ -23,10 +23,10 @@ use Rattle.plain.specs.Catalog.{optionalIn, attributesIn, sizeIn, tailIn, newFi
 use Rattle.plain.proofs.QuestionLaws.{asks-yes, asks-no}
 use Rattle.refine.specs.OnDisc.{OnDisc}
 use Rattle.refine.specs.Replies.{Replies, refused}
-use Rattle.unit.specs.Unit.{NumbersOf, UnitOn, MeantOn}
-use Rattle.unit.specs.Find.{UnusedFound, FindsName, FindsUnused}
-use Rattle.unit.proofs.UnitLaws.{on-catalog}
-use Rattle.unit.proofs.MeantLaws.{meant-on-known}
+use Rattle.lookup.specs.Unit.{NumbersOf, UnitOn, MeantOn}
+use Rattle.lookup.specs.Find.{UnusedFound, FindsName, FindsUnused}
+use Rattle.lookup.proofs.UnitLaws.{on-catalog}
+use Rattle.lookup.proofs.MeantLaws.{meant-on-known}
 use Rattle.create.specs.Create.{legalNew, NewFileStep, NewFileMade, Creates, Sets, AskedFrom, CanPlaceFrom, CanGrowForFrom}
 use Rattle.create.proofs.LegalLaws.{Legal, legal-all, not-legal}
 
@@ -84,7 +84,7 @@ module _ (image : List ℕ) (o : Unit) (n size attributes : ℕ) {b : Bool} (jud
 -- a key is one of the unit's
 pub key-below : {image : List ℕ} {o : Unit} {key : ℕ} (n : ℕ) → UnitOn image o → key ≡ keyOf (o .catalog .keys) n → key < o .catalog .keys
 key-below {o = o} n opened q =
-    let some-key : 1 ≤ o .catalog .keys = omega (arith, opened .numbers .catalog .keys, opened .on .good .limits .keys-low) in
+    let some-key : 1 ≤ o .catalog .keys = omega (arith, opened .numbers .catalog .keys, opened .on .good .limits .keysLow) in
     let small : keyOf (o .catalog .keys) n < o .catalog .keys = mod-lt _ some-key in
     omega (arith, q)
 

@@ -29,10 +29,10 @@ use Rattle.plain.proofs.QuestionLaws.{asks-yes}
 use Rattle.refine.specs.OnDisc.{OnDisc}
 use Rattle.refine.specs.Replies.{refused, written}
 use Rattle.refine.proofs.Ground.{Ground, ground, sys-ground, part-sectors}
-use Rattle.steps.specs.Units.{grownUnit, fileWith, newFileOf}
-use Rattle.unit.specs.Unit.{NumbersOf, Searchable}
-use Rattle.unit.specs.Find.{UnusedFound, FindsUnused}
-use Rattle.unit.proofs.UnitLaws.{on-catalog}
+use Rattle.preservation.specs.Units.{grownUnit, fileWith, newFileOf}
+use Rattle.lookup.specs.Unit.{NumbersOf, Searchable}
+use Rattle.lookup.specs.Find.{UnusedFound, FindsUnused}
+use Rattle.lookup.proofs.UnitLaws.{on-catalog}
 use Rattle.grow.specs.Room.{AskedOf, RoomFor}
 use Rattle.grow.specs.Grow.{CanGrowFrom, GrownFrom, Grows}
 use Rattle.grow.proofs.BlockLaws.{sys-in}
@@ -132,7 +132,7 @@ module _ {image : List ℕ} {o : Unit} {place : Place} {n size attributes : ℕ}
       pub place-write : CanWriteFrom image o place n size attributes words p
       place-write =
           let new = new-stays (can .asked .on .good) n size attributes (optionalIn words) (tailIn words) yes (three (can .asked)) (six (can .asked)) in
-          record { place-for = can; room = new .room; few = new .few }
+          record { placeFor = can; room = new .room; few = new .few }
 
       pub place-done : {after : List ℕ} → FileWritten image o place n size attributes words after → NewFileStep p image n size attributes (optionalIn words) (tailIn words) after 0
       place-done w = record {
@@ -160,14 +160,14 @@ module _ {image : List ℕ} {o : Unit} {n size attributes : ℕ} {words : List �
       omega (
         arith,
         num .catalog .layers,
-        mul-le-mul-right (p .layers) (can .asked .on .good .limits .keys-low),
+        mul-le-mul-right (p .layers) (can .asked .on .good .limits .keysLow),
         gr .sysCover,
         mul-comm (p .s) (length (p .sys)),
         part-sectors p gr (p .sys) (sys-ground gr .part),
       )
 
   pub some-key : 1 ≤ o .catalog .keys
-  some-key = omega (arith, num .catalog .keys, can .asked .on .good .limits .keys-low)
+  some-key = omega (arith, num .catalog .keys, can .asked .on .good .limits .keysLow)
 
   module _ {none : List ℕ} {k r : ℕ} (e : none ≡ zeroWords 256) (count : k ≡ need (o .slice) size) (answer : RoomFor image o (o .catalog .layers + 1) none k r) where
     pub grow-refused : (r ≡ 0 → ⊥) → NewFileStep p image n size attributes (optionalIn words) (tailIn words) image r
@@ -211,7 +211,7 @@ module _ {image : List ℕ} {o : Unit} {n size attributes : ℕ} {words : List �
           module _ {place : Place} (h : found ≡ At place) where
             pub grown-write : CanWriteFrom middle o′ place n size attributes words (grownUnit p)
             grown-write = record {
-              place-for = record {
+              placeFor = record {
                 asked = record {
                   on = on′;
                   numbers = grown .1;

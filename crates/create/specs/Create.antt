@@ -22,9 +22,9 @@ use Rattle.plain.specs.Catalog.{optionalIn, attributesIn, sizeIn, tailIn, newFi
 use Rattle.refine.specs.OnDisc.{OnDisc}
 use Rattle.refine.specs.Writes.{createdImage}
 use Rattle.refine.specs.Replies.{Replies}
-use Rattle.unit.specs.Unit.{NumbersOf}
-use Rattle.unit.specs.Find.{FirstUnused, UnusedAt}
-use Rattle.steps.specs.Units.{grownUnit, newFileOf}
+use Rattle.lookup.specs.Unit.{NumbersOf}
+use Rattle.lookup.specs.Find.{FirstUnused, UnusedAt}
+use Rattle.preservation.specs.Units.{grownUnit, newFileOf}
 use Rattle.grow.specs.Grow.{GrownFrom}
 
 -- "4. .. name, size, attributes legal? 1200h", and no bit 13 (R-9).
@@ -105,7 +105,7 @@ pub record CanGrowForFrom (image : List ℕ) (o : Unit) (n size attributes : ℕ
 
 -- Questions 7 and 8 too are answered yes, and the key has an unused place.
 pub record CanWriteFrom (image : List ℕ) (o : Unit) (place : Place) (n size attributes : ℕ) (words : List ℕ) (p : Plain) : Type 0 where
-  pub place-for : CanPlaceFrom image o place n size attributes words p
+  pub placeFor : CanPlaceFrom image o place n size attributes words p
   pub room : need (p .s) size ≤ freeSlices p
   pub few : stretchCount (newFileOf p size attributes (optionalIn words) (tailIn words) .slices) ≤ 127
 

@@ -9,7 +9,7 @@ ghost use Rattle.words.specs.Store.{store};
 ghost use Rattle.catalog.specs.Catalog.{placeStart};
 ghost use Rattle.create.specs.Create.{legalNew, CanWrite, FileWritten, CanPlace, Placed, CanGrowFor, PlacedGrown};
 ghost use Rattle.create.specs.Create.{NewFileMade, Creates, Sets};
-ghost use Rattle.unit.specs.Unit.{UnitOn, MeantOn};
+ghost use Rattle.lookup.specs.Unit.{UnitOn, MeantOn};
 use catalog::Found;
 use catalog::Place;
 use catalog::Unit;
@@ -135,7 +135,7 @@ fn create_grown(
         return room;
     }
     let grown = grow::grow(image, unit);
-    let Found::At(place) = unit::find_unused(image, grown, numbers::key(name, unit.catalog.keys))
+    let Found::At(place) = lookup::find_unused(image, grown, numbers::key(name, unit.catalog.keys))
     else {
         return 0;
     };
@@ -158,10 +158,10 @@ fn new_file(
     if !is_legal(name, size, attributes) {
         return 0x1200;
     }
-    let Found::Nothing = unit::find_name(image, unit, name) else {
+    let Found::Nothing = lookup::find_name(image, unit, name) else {
         return 0x1010;
     };
-    let Found::At(place) = unit::find_unused(image, unit, numbers::key(name, unit.catalog.keys))
+    let Found::At(place) = lookup::find_unused(image, unit, numbers::key(name, unit.catalog.keys))
     else {
         return create_grown(image, unit, name, size, attributes, words);
     };

@@ -22,7 +22,7 @@ use Rattle.plain.specs.Transput.{isOutput, refusedAt, input, append, output, st
 use Rattle.plain.specs.Step.{reserveCount, userStep, operationStep, stepArea}
 use Rattle.plain.proofs.QuestionLaws.{asks-law, given-law, either-law, end-law}
 use Rattle.refine.specs.Writes.{replacedImage, appendedImage}
-use Rattle.steps.specs.Units.{appendSlices}
+use Rattle.preservation.specs.Units.{appendSlices}
 use Rattle.output.specs.Output.{outputImage}
 use Rattle.transput.specs.Transput.{transputImage}
 use Rattle.area_messages.specs.AreaMessages.{messageImage}

@@ -19,7 +19,7 @@ use Rattle.sound.specs.Sound.{SoundUnit}
 use Rattle.refine.specs.Represents.{Represents}
 use Rattle.refine.specs.Demands.{Performed, AcceptedState, Demand3}
 use Rattle.refine.proofs.SoundRepresents.{sound-represents, represents-sound}
-use Rattle.known.specs.Known.{Known}
+use Rattle.first_question.specs.Known.{Known}
 use Rattle.format.specs.declared.Formatted.{Formatted}
 use Rattle.format.specs.Format.{Refused, FormatAnswer, notLent, notAllowed, written}
 use Rattle.format.proofs.FormatUnit.{format-sound}
@@ -52,7 +52,7 @@ format-determined (written _ f x) (notAllowed _ n y) = absurd (n f)
 format-determined {r = r} {q = q} (written _ _ x) (written _ _ y) = (x .whole ∙ sym (y .whole), format-same r q (x .word ∙ sym (y .word)) (x .left ∙ sym (y .left)))
 
 pub demand-1 : Demand1 Performs FormatAnswer
-demand-1 = record { call = answered; format = λ f. f; determined = determined; format-determined = format-determined }
+demand-1 = record { call = answered; format = λ f. f; determined = determined; formatDetermined = format-determined }
   where
     answered : {image : List ℕ} {state : State} {message : Message} {lent : List ℕ} {r : Performed} → Performs image state message lent r → Answered image state message lent r
     answered (unknown other u) = demands.unknown other u
@@ -81,8 +81,8 @@ module _ {image : List ℕ} {state : State} {unit : ℕ} {lent : List ℕ} where
   init-only (obeyed k s all) z = k
 
   init-refused : {r : Performed} → Performs image state (Init unit) lent r → r .answer .result ≢ 0 → (r .image ≡ image) × (r .state ≡ state) × (r .lent ≡ lent)
-  init-refused (unknown _ u) nz = (u .same-image, u .same-state, u .same-lent)
-  init-refused (unsound _ _ u) nz = (u .same-image, u .same-state, u .same-lent)
+  init-refused (unknown _ u) nz = (u .sameImage, u .sameState, u .sameLent)
+  init-refused (unsound _ _ u) nz = (u .sameImage, u .sameState, u .sameLent)
   init-refused (obeyed k s all) nz = absurd (nz (init-exactly (obeyed k s all) k .1 s))
 
   init-accepted : {r : Performed} → Performs image state (Init unit) lent r → r .answer .result ≡ 0 → (r .image ≡ image) × AcceptedState (r .state) × SoundUnit (r .image) (r .state)
@@ -102,8 +102,8 @@ abbrev Keeps : List ℕ → State → List ℕ → State → Type 0
 Keeps image state end stop = ((end ≡ image) × (stop ≡ state)) ⊎ SoundUnit end stop
 
 call-keeps : {image : List ℕ} {state : State} {message : Message} {lent : List ℕ} {r : Performed} → Words lent → Performs image state message lent r → Keeps image state (r .image) (r .state)
-call-keeps w (unknown other u) = inl (u .same-image, u .same-state)
-call-keeps w (unsound k other u) = inl (u .same-image, u .same-state)
+call-keeps w (unknown other u) = inl (u .sameImage, u .sameState)
+call-keeps w (unsound k other u) = inl (u .sameImage, u .sameState)
 call-keeps {image} {state} {message} {lent} w (obeyed k s all) =
     let x = sound-represents .reads image state s in
     inr (represents-sound (step-keeps (x .0) message lent (x .1) w) (all (x .0) (x .1) (x .2) .represents))
@@ -160,4 +160,4 @@ after-init = record {
 }
 
 pub the-demands : TheDemands
-the-demands = record { first = demand-1; second = demand-2; third = demand-3; after-init = after-init; reserved = reserved-sectors; slack = slack-kept; whole = written-whole; listing = listed-by-name }
+the-demands = record { first = demand-1; second = demand-2; third = demand-3; afterInit = after-init; reserved = reserved-sectors; slack = slack-kept; whole = written-whole; listing = listed-by-name }

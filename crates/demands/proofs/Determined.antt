@@ -24,7 +24,7 @@ use Rattle.refine.specs.Represents.{Represents}
 use Rattle.refine.specs.OnDisc.{OnDisc}
 use Rattle.refine.specs.Writes.{bookedImage, removedImage, createdImage, renamedImage}
 use Rattle.refine.specs.Replies.{Replies, refused, written}
-use Rattle.steps.proofs.Whole.{on-disc}
+use Rattle.preservation.proofs.Whole.{on-disc}
 use Rattle.refine.specs.Demands.{Performed}
 use Rattle.refine.proofs.StateLaws.{same-absent}
 use Rattle.refine.proofs.SoundRepresents.{sound-represents}
@@ -32,9 +32,9 @@ use Rattle.names.specs.NameIs.{NameIs}
 use Rattle.names.proofs.NameIsLaws.{nameIs-unique}
 use Rattle.state.specs.declared.Found.the-variants.{At}
 use Rattle.state.specs.Areas.{areaClosed}
-use Rattle.unit.specs.Unit.{unitPlaces}
-use Rattle.unit.specs.Find.{FirstUnused}
-use Rattle.steps.specs.Units.{grownUnit}
+use Rattle.lookup.specs.Unit.{unitPlaces}
+use Rattle.lookup.specs.Find.{FirstUnused}
+use Rattle.preservation.specs.Units.{grownUnit}
 use Rattle.grow.specs.Grow.{GrownFrom}
 use Rattle.create.specs.Create.{CreatedOn, Created, stays, grows}
 use Rattle.remove.specs.Remove.{Removed}
@@ -184,7 +184,7 @@ module _ {image : List ℕ} {state : State} {p : Plain} (g : Good p) (r : Repres
 -- ---- every call
 
 untouched-is : {word : ℕ} {image : List ℕ} {state : State} {lent : List ℕ} {x : Performed} → Untouched word image state lent x → x ≡ performed image state (answer word 0 0 0) lent
-untouched-is u = λ i. record { image = u .same-image i; state = u .same-state i; answer = u .answered i; lent = u .same-lent i }
+untouched-is u = λ i. record { image = u .sameImage i; state = u .sameState i; answer = u .answered i; lent = u .sameLent i }
 
 pub determined : {image : List ℕ} {state : State} {message : Message} {lent : List ℕ} {x y : Performed} → Performs image state message lent x → Performs image state message lent y → x ≡ y
 determined (unknown _ a) (unknown _ b) = untouched-is a ∙ sym (untouched-is b)

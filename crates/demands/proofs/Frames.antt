@@ -16,8 +16,8 @@ use Rattle.map.proofs.MarkLaws.{InMap, length-all-marked}
 use Rattle.plain.specs.Unit.{Plain, sysOf}
 use Rattle.refine.specs.Writes.{countedFree, storePlace, emptyPlace, zeroedSectors, takenImage}
 use Rattle.refine.proofs.Sectors.{Same, same-trans, store-outside, sector-outside, marked-outside-map}
-use Rattle.steps.proofs.WriteLaws.{counted-keep, zeroed-keep, taken-keep}
-use Rattle.steps.proofs.ResizeLaws.{Resizes, occurrences-old, occurrences-new, resliced, resliced-keep}
+use Rattle.preservation.proofs.WriteLaws.{counted-keep, zeroed-keep, taken-keep}
+use Rattle.preservation.proofs.ResizeLaws.{Resizes, occurrences-old, occurrences-new, resliced, resliced-keep}
 
 -- slices among those in the map are in the map
 pub in-map-part : (l k : List ℕ) → InMap l → ((x : ℕ) → occurrences x k ≤ occurrences x l) → InMap k

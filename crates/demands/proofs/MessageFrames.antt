@@ -25,8 +25,8 @@ use Rattle.plain.proofs.TableLaws.{find-put}
 use Rattle.refine.specs.Writes.{takenImage, emptyPlace, removedImage, grownImage, createdImage, resizedImage, changedImage, renamedImage, bookedImage, replacedImage, appendedImage, grownSys}
 use Rattle.refine.proofs.Sectors.{Same, same-trans}
 use Rattle.refine.proofs.Ground.{ground, sys-ground, part-file, place-in}
-use Rattle.steps.proofs.WriteLaws.{part-in-map, counted-keep}
-use Rattle.steps.proofs.ResizeLaws.{Resizes, resliced}
+use Rattle.preservation.proofs.WriteLaws.{part-in-map, counted-keep}
+use Rattle.preservation.proofs.ResizeLaws.{Resizes, resliced}
 use Rattle.demands.proofs.Frames.{in-map-part, marks-keep, place-keep, block-keep, taking-keep, reslicing-keep, finish-keep, rename-keep, append-keep}
 
 -- Sector q is none of the map, the kit, the sectors of SYS's places and the blocks of file f, as joined sectors.

@@ -20,9 +20,9 @@ use Rattle.refine.proofs.Sectors.{Same, bit-kept}
 use Rattle.refine.proofs.Ground.{ground}
 use Rattle.refine.proofs.Writers.{kit-kept, low-write}
 use Rattle.refine.proofs.SoundRepresents.{sound-represents, represents-sound}
-use Rattle.steps.specs.Units.{grownUnit}
-use Rattle.unit.specs.Unit.{unitPlaces}
-use Rattle.unit.specs.Find.{FirstUnused}
+use Rattle.preservation.specs.Units.{grownUnit}
+use Rattle.lookup.specs.Unit.{unitPlaces}
+use Rattle.lookup.specs.Find.{FirstUnused}
 use Rattle.grow.specs.Grow.{GrownFrom}
 use Rattle.create.specs.Create.{CreatedOn, Created, stays, grows}
 use Rattle.remove.specs.Remove.{Removed}

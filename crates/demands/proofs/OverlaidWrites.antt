@@ -16,7 +16,7 @@ use Rattle.plain.specs.Unit.{Plain, File, sysOf}
 use Rattle.plain.specs.Transput.{isOutput}
 use Rattle.refine.specs.Writes.{storePlace, removedImage, grownImage, createdImage, resizedImage, changedImage, renamedImage, bookedImage, replacedImage, appendedImage, grownSys}
 use Rattle.refine.specs.Format.{storeBlock, mapPlace, systemSectors, clearSys, enterAt, freshCatalog, formatted}
-use Rattle.steps.specs.Units.{appendSlices}
+use Rattle.preservation.specs.Units.{appendSlices}
 use Rattle.output.specs.Output.{outputImage}
 use Rattle.transput.specs.Transput.{transputImage}
 use Rattle.area_messages.specs.AreaMessages.{messageImage}

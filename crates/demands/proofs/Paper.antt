@@ -27,7 +27,7 @@ use Rattle.examples.specs.Paper.{paperUnit, pass, slicesIn, passSlices, lookedU
 use Rattle.examples.proofs.Paper.{paper}
 use Rattle.refine.specs.Represents.{Represents}
 use Rattle.refine.proofs.Format.{format-paper}
-use Rattle.known.specs.Known.{Known}
+use Rattle.first_question.specs.Known.{Known}
 use Rattle.format.specs.Format.{Formattable, Written, FormatAnswer, notLent, notAllowed, written}
 use Rattle.format.proofs.FormatUnit.{format-unit}
 use Rattle.perform.specs.Perform.{Performs, unknown, unsound, obeyed}
@@ -47,16 +47,16 @@ module _ {calls : List Call} {replies : List Reply} {fresh end : List ℕ} {stop
   allowed = record {
     known = record { unit = record { number = sym (b .unit); low = omega (arith, b .unit) }; ready = b .closed };
     limits = record {
-      keys-low = omega arith;
-      keys-high = omega arith;
-      slice-low = omega arith;
-      slice-high = omega arith;
+      keysLow = omega arith;
+      keysHigh = omega arith;
+      sliceLow = omega arith;
+      sliceHigh = omega arith;
       first = omega arith;
-      some-data = omega arith;
+      someData = omega arith;
       sectors = omega arith;
       whole = refl;
-      slices-high = omega arith;
-      slices-low = omega arith;
+      slicesHigh = omega arith;
+      slicesLow = omega arith;
     };
     free = refl;
     top = refl;
@@ -73,7 +73,7 @@ module _ {calls : List Call} {replies : List Reply} {fresh end : List ℕ} {stop
 
   -- what Format leaves is the unit of the paper
   fresh-unit : Good paperUnit × Represents fresh (b .formatted .state) paperUnit
-  fresh-unit = rw (b .unit) at (format-unit (b .words) (b .record-words) (b .shaped) (b .format) (wrote .word))
+  fresh-unit = rw (b .unit) at (format-unit (b .words) (b .recordWords) (b .shaped) (b .format) (wrote .word))
 
   init-known : Known (b .formatted .state) (Init 0)
   init-known = rw (wrote .left) (record { unit = record { number = sym (b .unit); low = omega (arith, b .unit) }; ready = b .closed })
@@ -81,7 +81,7 @@ module _ {calls : List Call} {replies : List Reply} {fresh end : List ℕ} {stop
   -- and Init accepts it
   init-zero : b .accepted .answer .result ≡ 0
   init-zero =
-      let sound = demand-2 .format (b .words) (b .record-words) (b .shaped) (b .format) (wrote .word) .0 in
+      let sound = demand-2 .format (b .words) (b .recordWords) (b .shaped) (b .format) (wrote .word) .0 in
       demand-2 .exactly (b .init) init-known .1 sound
 
   begins : Standing (b .accepted .image) (b .accepted .state) paperUnit

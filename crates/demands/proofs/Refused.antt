@@ -17,7 +17,7 @@ use Rattle.plain.proofs.PlainClaims.{plain-claims}
 use Rattle.refine.specs.Represents.{Represents}
 use Rattle.refine.specs.Replies.{Replies, refused, written}
 use Rattle.refine.specs.Demands.{Performed}
-use Rattle.known.specs.Known.{Known}
+use Rattle.first_question.specs.Known.{Known}
 use Rattle.perform.specs.Perform.{Obeyed}
 use Rattle.perform.proofs.ObeyLaws.{known-yes, init-done}
 use Rattle.demands.specs.Demands.{StateLeft, RefusedLater}
@@ -61,7 +61,7 @@ module _ {image : List ℕ} {state : State} {p : Plain} (g : Good p) (rep : Repr
         answered = e;
         bytes = ap (λ (a : Answer). a .bytes) e ∙ c .bytes;
         entries = ap (λ (a : Answer). a .entries) e ∙ c .entries;
-        same-image = s .0;
-        same-lent = ap (λ (x : Reply). x .lent) (o .same) ∙ c .words;
-        same-state = s .1;
+        sameImage = s .0;
+        sameLent = ap (λ (x : Reply). x .lent) (o .same) ∙ c .words;
+        sameState = s .1;
       }

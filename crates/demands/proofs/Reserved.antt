@@ -15,7 +15,7 @@ use Rattle.sound.specs.Sound.{SoundUnit}
 use Rattle.refine.specs.Represents.{Represents}
 use Rattle.refine.specs.Demands.{Performed}
 use Rattle.refine.proofs.SoundRepresents.{sound-represents}
-use Rattle.steps.specs.Units.{grownUnit}
+use Rattle.preservation.specs.Units.{grownUnit}
 use Rattle.grow.specs.Grow.{GrownFrom}
 use Rattle.create.specs.Create.{CreatedOn, Created, stays, grows}
 use Rattle.change.specs.Rewrite.{Rewrites, stayed, moved}
@@ -87,8 +87,8 @@ data-low : {p : Plain} → Good p → 6 ≤ p .F
 data-low g = omega (arith, g .limits .first)
 
 call-kept : {image : List ℕ} {state : State} {message : Message} {lent : List ℕ} {r : Performed} → Performs image state message lent r → SameReserved image (r .image)
-call-kept (unknown other u) = as-before (u .same-image)
-call-kept (unsound k other u) = as-before (u .same-image)
+call-kept (unknown other u) = as-before (u .sameImage)
+call-kept (unsound k other u) = as-before (u .sameImage)
 call-kept {image} {state} {message} {lent} {r} (obeyed k s all) =
     let x = sound-represents .reads image state s in
     wrote-kept (x .0) (data-low (x .1)) image state message lent r (all (x .0) (x .1) (x .2) .wrote)
@@ -104,10 +104,10 @@ sound-same {a} {b} {state} s w u = subst (λ (i : List ℕ). SoundUnit i state) 
 -- two calls that the first or the second question refuses
 untouched-alike : {word : ℕ} {a b : List ℕ} {state : State} {lent : List ℕ} {r q : Performed} → SameOthers a b → Untouched word a state lent r → Untouched word b state lent q → SameButReserved r q
 untouched-alike same x y = record {
-  image = rw (x .same-image, y .same-image) same;
-  state = x .same-state ∙ sym (y .same-state);
+  image = rw (x .sameImage, y .sameImage) same;
+  state = x .sameState ∙ sym (y .sameState);
   answer = x .answered ∙ sym (y .answered);
-  words = x .same-lent ∙ sym (y .same-lent);
+  words = x .sameLent ∙ sym (y .sameLent);
 }
 
 -- two that are obeyed: what is written on a, with the words of b in sectors 0 to 5, is what is written on b
@@ -183,6 +183,6 @@ reserved-sectors = record {
   written = call-kept;
   sound = λ s wa wb. (sound-same s wb, sound-same (others-back s) wa);
   read = call-alike;
-  format-written = format-kept;
-  format-read = format-alike;
+  formatWritten = format-kept;
+  formatRead = format-alike;
 }

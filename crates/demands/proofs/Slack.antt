@@ -29,8 +29,8 @@ use Rattle.refine.specs.Demands.{Performed, Run, empty, then}
 use Rattle.refine.proofs.Sectors.{Same, same-refl, same-trans}
 use Rattle.refine.proofs.Ground.{ground}
 use Rattle.refine.proofs.Writers.{long}
-use Rattle.steps.specs.Units.{layerSlices, grownUnit}
-use Rattle.steps.proofs.ResizeLaws.{Resizes, resizes-taken}
+use Rattle.preservation.specs.Units.{layerSlices, grownUnit}
+use Rattle.preservation.proofs.ResizeLaws.{Resizes, resizes-taken}
 use Rattle.grow.specs.Grow.{GrownFrom}
 use Rattle.create.specs.Create.{Created, stays, grows}
 use Rattle.remove.specs.Remove.{Removed}
@@ -166,8 +166,8 @@ kept s = record { at = s .at }
 
 call-idle : {image : List ℕ} {state : State} {message : Message} {lent : List ℕ} {r : Performed} (p : Plain) → Good p → Represents image state p → Words lent → Performs image state message lent r
     → (q : ℕ) → Idle (step p message lent .unit) q → SectorKept image (r .image) q
-call-idle p g rep w (unknown other u) q idle = kept (as-before (u .same-image) q)
-call-idle p g rep w (unsound k other u) q idle = kept (as-before (u .same-image) q)
+call-idle p g rep w (unknown other u) q idle = kept (as-before (u .sameImage) q)
+call-idle p g rep w (unsound k other u) q idle = kept (as-before (u .sameImage) q)
 call-idle {state = state} {message} {lent} {r} p g rep w (obeyed k s all) q idle =
     kept (wrote-idle g (long (ground p g) (rep .layout)) q state message lent r (step-keeps p message lent g w) idle (all p g rep .wrote))
 

@@ -32,7 +32,7 @@ use Rattle.refine.specs.Replies.{Replies}
 use Rattle.refine.specs.Demands.{Performed}
 use Rattle.refine.proofs.SoundRepresents.{represents-sound}
 use Rattle.refine.proofs.Sectors.{Same, holds-kept}
-use Rattle.steps.specs.Units.{layerSlices, grownUnit}
+use Rattle.preservation.specs.Units.{layerSlices, grownUnit}
 use Rattle.grow.specs.Grow.{GrownFrom}
 use Rattle.create.specs.Create.{Created, stays, grows}
 use Rattle.change.specs.Change as change
@@ -132,7 +132,7 @@ after-growth p w sys = record { file = w .file; sys = sys }
 
 module _ {p : Plain} (g : Good p) (i : List ℕ) (size : length i ≡ 256 * p .N) where
   far : 2560 ≤ length i
-  far = omega (arith, g .limits .first, g .limits .some-data)
+  far = omega (arith, g .limits .first, g .limits .someData)
 
   grown-size : {j : List ℕ} → GrownFrom i p j → length j ≡ 256 * p .N
   grown-size w = ap length (w .written) ∙ beyond-grown p (omega (arith, g .limits .first)) (w .place) (layerSlices p) .size i ∙ size

@@ -23,7 +23,7 @@ use Rattle.plain.proofs.TableLaws.{find-put}
 use Rattle.refine.specs.Writes.{takenImage, createdImage, changedImage, appendedImage, grownSys}
 use Rattle.refine.proofs.Sectors.{Same, holds-kept}
 use Rattle.refine.proofs.Ground.{Ground, ground, joined-in, sys-ground, first-in, block-in, place-in, catalog-data, file-data, catalog-file, in-file}
-use Rattle.steps.proofs.ResizeLaws.{Resizes, resliced, remarked, resliced-cases, remarked-size}
+use Rattle.preservation.proofs.ResizeLaws.{Resizes, resliced, remarked, resliced-cases, remarked-size}
 use Rattle.change.specs.Rewrite.{Rewrites, stayed, moved}
 use Rattle.change.specs.Change as change
 use Rattle.demands.proofs.MessageFrames.{Off, OffIndex, layer-keep, entered-keep, created-keep, rewritten-keep, moved-keep, stored-keep}
@@ -95,7 +95,7 @@ module _ (p : Plain) (n : ℕ) (f : File) (g′ : Good (withFiles p (tablePut n 
   here = find-put n f (p .files)
 
   far : 2560 ≤ length i
-  far = omega (arith, g′ .limits .first, g′ .limits .some-data)
+  far = omega (arith, g′ .limits .first, g′ .limits .someData)
 
   pub created-whole : 0 < length (f .slices) → Holds (createdImage p (sysOf p) i t n f) (sectorIn (p .F) (p .s) (f .slices) 0) (wholeIndex (p .F) (p .s) (f .slices))
   created-whole has =
@@ -118,7 +118,7 @@ module _ (p : Plain) (n : ℕ) (f : File) (lent : List ℕ) (old : InMap (f .sli
   now = changed-file p n f lent
 
   long : 2560 ≤ length i
-  long = omega (arith, g′ .limits .first, g′ .limits .some-data)
+  long = omega (arith, g′ .limits .first, g′ .limits .someData)
 
   pub changed-whole : {j : List ℕ} → change.ChangedOn p i n f lent j → change.fileAfter p f lent .slices ≢ f .slices → 0 < length (change.fileAfter p f lent .slices)
       → Holds j (sectorIn (p .F) (p .s) (change.fileAfter p f lent .slices) 0) (wholeIndex (p .F) (p .s) (change.fileAfter p f lent .slices))
@@ -147,5 +147,5 @@ module _ (p : Plain) (n : ℕ) (f f′ : File) (areas : Table (Table AreaUser)) 
       let there = find-put n f′ (p .files) in
       let low : sectorIn (p .F) (p .s) (f .slices ++ new) 0 < p .N = rw e at (index-data g′ n f′ there has .1) in
       let few : stretchCount (f .slices ++ new) ≤ 127 = rw e at (g′ .catalog .files n f′ there .few) in
-      let kept = stored-keep p n f f′ areas i (omega (arith, g′ .limits .first, g′ .limits .some-data)) words short _ (index-off g′ n f′ there has) g′ new more e in
+      let kept = stored-keep p n f f′ areas i (omega (arith, g′ .limits .first, g′ .limits .someData)) words short _ (index-off g′ n f′ there has) g′ new more e in
       holds-kept (rw e (taken-whole i _ (p .F) (p .s) (omega arith) (f .slices) new few some-new)) kept

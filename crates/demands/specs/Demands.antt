@@ -21,8 +21,8 @@ use Rattle.sound.specs.State.{Shaped}
 use Rattle.sound.specs.Sound.{SoundUnit}
 use Rattle.refine.specs.Represents.{Represents}
 use Rattle.refine.specs.Demands.{Performed, Contract, Run, AcceptedState, Demand3After, Demand3}
-use Rattle.sharing.specs.Sharing.{atPosition}
-use Rattle.known.specs.Known.{unknownWord, unsoundWord, Known}
+use Rattle.area_users.specs.Sharing.{atPosition}
+use Rattle.first_question.specs.Known.{unknownWord, unsoundWord, Known}
 use Rattle.format.specs.declared.Formatted.{Formatted}
 use Rattle.format.specs.Format.{FormatAnswer}
 use Rattle.perform.specs.Perform.{Untouched, Obeyed, Performs}
@@ -61,9 +61,9 @@ pub record RefusedLater (p : Plain) (image : List ℕ) (state : State) (message 
   pub answered : r .answer ≡ step p message lent .answer
   pub bytes : r .answer .bytes ≡ 0
   pub entries : r .answer .entries ≡ 0
-  pub same-image : r .image ≡ image
-  pub same-lent : r .lent ≡ lent
-  pub same-state : StateLeft p (step p message lent .unit) state (r .state) message
+  pub sameImage : r .image ≡ image
+  pub sameLent : r .lent ≡ lent
+  pub sameState : StateLeft p (step p message lent .unit) state (r .state) message
 
 -- "Where a question that document 01 puts to a call has the answer no .., the first such question gives the result word": the first
 -- question, the second, or a later one; "where none has, the word is 0 and the call does what document 01 says of it".
@@ -86,7 +86,7 @@ pub record Demand1 (C : Contract) (F : FormatContract) : Type 0 where
   -- every word of answer, image, state and lent words is determined; a listing's order too, by document 02, R-1
   pub determined : {image : List ℕ} {state : State} {message : Message} {lent : List ℕ} {r q : Performed} → C image state message lent r
       → C image state message lent q → r ≡ q
-  pub format-determined : {image : List ℕ} {state : State} {bytes : ℕ} {lent a b : List ℕ} {r q : Formatted} → F image state bytes lent a r
+  pub formatDetermined : {image : List ℕ} {state : State} {bytes : ℕ} {lent a b : List ℕ} {r q : Formatted} → F image state bytes lent a r
       → F image state bytes lent b q → (a ≡ b) × (r ≡ q)
 
 -- ---- demand 2
@@ -137,7 +137,7 @@ pub record Demands (C : Contract) (F : FormatContract) : Type 0 where
   pub first : Demand1 C F
   pub second : Demand2 C F
   pub third : Demand3 C
-  pub after-init : AfterInit C
+  pub afterInit : AfterInit C
   -- "Sectors 0 to 5 are never read or written."
   pub reserved : ReservedSectors C F
   -- "Slack, freed and free sectors keep their words."

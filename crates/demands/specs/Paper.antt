@@ -36,7 +36,7 @@ pub record FromFormat (calls : List Call) (replies : List Reply) (fresh end : Li
   pub closed : NoneOpen state
   pub k6 : ℕ
   pub k7 : ℕ
-  pub record-words : Words (paperRecord k6 k7)
+  pub recordWords : Words (paperRecord k6 k7)
   pub formatted : Formatted
   pub format : FormatAnswer image state 18 (paperRecord k6 k7) fresh formatted
   pub lent : List ℕ

@@ -44,7 +44,7 @@ pub record ReservedSectors (C : Contract) (F : FormatContract) : Type 0 where
   pub read : {a b : List ℕ} {state : State} {message : Message} {lent : List ℕ} {r q : Performed} → SameOthers a b → Words a → Words b
       → C a state message lent r → C b state message lent q → SameButReserved r q
   -- Format
-  pub format-written : {image : List ℕ} {state : State} {bytes : ℕ} {lent after : List ℕ} {r : Formatted} → F image state bytes lent after r
+  pub formatWritten : {image : List ℕ} {state : State} {bytes : ℕ} {lent after : List ℕ} {r : Formatted} → F image state bytes lent after r
       → SameReserved image after
-  pub format-read : {a b : List ℕ} {state : State} {bytes : ℕ} {lent afterA afterB : List ℕ} {r q : Formatted} → SameOthers a b
+  pub formatRead : {a b : List ℕ} {state : State} {bytes : ℕ} {lent afterA afterB : List ℕ} {r q : Formatted} → SameOthers a b
       → F a state bytes lent afterA r → F b state bytes lent afterB q → SameOthers afterA afterB × (r ≡ q)

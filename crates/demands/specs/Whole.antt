@@ -20,7 +20,7 @@ use Rattle.plain.specs.Good.{Good}
 use Rattle.sound.specs.Places.{Unused}
 use Rattle.refine.specs.Represents.{Represents}
 use Rattle.refine.specs.Demands.{Performed, Contract}
-use Rattle.unit.specs.Unit.{unitPlaces}
+use Rattle.lookup.specs.Unit.{unitPlaces}
 
 -- "An emptied place is zeroed": a place of SYS in which no name of the unit stands is 16 zero words, nothing of an old entry is left.
 abbrev pub EmptiedZero : Plain → List ℕ → Type 0

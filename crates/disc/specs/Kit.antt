@@ -31,13 +31,13 @@ pub record Kit (image : List ℕ) (H s N free F : ℕ) : Type 0 where
 -- "Limits: H 1 to 64; s 2 to 64; F from 10; F < N <= 32,767; s divides N - F; M = (N - F) / s is at most 4,096 and
 -- at least H / s rounded up."
 pub record Limits (H s F N : ℕ) : Type 0 where
-  pub keys-low : 1 ≤ H
-  pub keys-high : H ≤ 64
-  pub slice-low : 2 ≤ s
-  pub slice-high : s ≤ 64
+  pub keysLow : 1 ≤ H
+  pub keysHigh : H ≤ 64
+  pub sliceLow : 2 ≤ s
+  pub sliceHigh : s ≤ 64
   pub first : 10 ≤ F
-  pub some-data : F < N
+  pub someData : F < N
   pub sectors : N ≤ 32767
   pub whole : (N - F) % s ≡ 0
-  pub slices-high : sliceCount s F N ≤ 4096
-  pub slices-low : ceilDiv H s ≤ sliceCount s F N
+  pub slicesHigh : sliceCount s F N ≤ 4096
+  pub slicesLow : ceilDiv H s ≤ sliceCount s F N

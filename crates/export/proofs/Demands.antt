@@ -16,7 +16,7 @@ use Rattle.plain.specs.Unit.{Plain}
 use Rattle.sound.specs.Sound.{SoundUnit}
 use Rattle.refine.specs.Demands.{Performed, AcceptedState}
 use Rattle.refine.proofs.StateLaws.{named-inside}
-use Rattle.known.specs.Known.{Known}
+use Rattle.first_question.specs.Known.{Known}
 use Rattle.format.specs.declared.Formatted.{Formatted}
 use Rattle.format.specs.Format.{Refused, FormatAnswer, notLent, notAllowed, written}
 use Rattle.perform.specs.Perform.{Untouched}
@@ -65,9 +65,9 @@ module _ {image : List ℕ} {state : UnitState} {lent : List ℕ} {r : UnitPerfo
   untouched u message = record {
     bytes = ap (λ (a : Answer). a .bytes) (u .answered);
     entries = ap (λ (a : Answer). a .entries) (u .answered);
-    same-image = u .same-image;
-    same-lent = u .same-lent;
-    same-mirror = unit.everything (same-state state (c .arrays) (r .state) (c .mirror) (u .same-state));
+    sameImage = u .sameImage;
+    sameLent = u .sameLent;
+    sameMirror = unit.everything (same-state state (c .arrays) (r .state) (c .mirror) (u .sameState));
   }
 
   call-refused : (message : UnitMessage) → askedOf message ≡ asked.Call m → r .answer .result ≢ 0 → Answered image (stateOf state) m lent (performedOf r) → UnitRefused image state message lent r
@@ -76,9 +76,9 @@ module _ {image : List ℕ} {state : UnitState} {lent : List ℕ} {r : UnitPerfo
   call-refused message e nz (demands.refused _ _ p _ _ l) = record {
     bytes = l .bytes;
     entries = l .entries;
-    same-image = l .same-image;
-    same-lent = l .same-lent;
-    same-mirror = subst (λ (a : Asked). MirrorLeft state (r .state) a) (sym e) (mirror-left (c .arrays) (c .mirror) (l .same-state));
+    sameImage = l .sameImage;
+    sameLent = l .sameLent;
+    sameMirror = subst (λ (a : Asked). MirrorLeft state (r .state) a) (sym e) (mirror-left (c .arrays) (c .mirror) (l .sameState));
   }
   call-refused message e nz (demands.done _ _ p _ z _) = absurd (nz z)
 
@@ -88,9 +88,9 @@ unit-refused {message} (call m e c) nz = call-refused c message e nz (demand-1 .
 unit-refused (noSuchCall e c) nz = record {
   bytes = ap (λ (a : UnitAnswer). a .bytes) (c .answered);
   entries = ap (λ (a : UnitAnswer). a .entries) (c .answered);
-  same-image = c .same-image;
-  same-lent = c .same-lent;
-  same-mirror = unit.everything (c .same-mirror);
+  sameImage = c .sameImage;
+  sameLent = c .sameLent;
+  sameMirror = unit.everything (c .sameMirror);
 }
 
 format-refused : {image : List ℕ} {state : UnitState} {bytes : ℕ} {lent : List ℕ} {r : UnitFormatted} → UnitFormats image state bytes lent r → r .result ≢ 0 → (r .image ≡ image) × (r .state ≡ state)
@@ -108,7 +108,7 @@ answer-same : (a b : UnitAnswer) → answerOf a ≡ answerOf b → a ≡ b
 answer-same a b e = λ i. record { result = e i .result; bytes = e i .bytes; block = e i .block .0; entries = e i .entries }
 
 not-called-is : {image : List ℕ} {state : UnitState} {lent : List ℕ} {r : UnitPerformed} → NotCalled image state lent r → r ≡ unitPerformed image state noSuchAnswer lent
-not-called-is c = λ i. record { image = c .same-image i; state = c .same-mirror i; answer = c .answered i; lent = c .same-lent i }
+not-called-is c = λ i. record { image = c .sameImage i; state = c .sameMirror i; answer = c .answered i; lent = c .sameLent i }
 
 unit-determined : {image : List ℕ} {state : UnitState} {message : UnitMessage} {lent : List ℕ} {r q : UnitPerformed} → UnitPerforms image state message lent r → UnitPerforms image state message lent q → r ≡ q
 unit-determined {state} {r} {q} (call m e c) d =
@@ -122,7 +122,7 @@ unit-determined (noSuchCall e c) (noSuchCall _ d) = not-called-is c ∙ sym (not
 
 format-determined : {image : List ℕ} {state : UnitState} {bytes : ℕ} {lent : List ℕ} {r q : UnitFormatted} → UnitFormats image state bytes lent r → UnitFormats image state bytes lent q → r ≡ q
 format-determined {state} {r} {q} f g =
-    let s = demand-1 .format-determined (f .formats) (g .formats) in
+    let s = demand-1 .formatDetermined (f .formats) (g .formats) in
     let mirror : r .state ≡ q .state = f .mirror ∙ ap (λ (x : Formatted). remirrored state (x .state)) (s .1) ∙ sym (g .mirror) in
     λ i. record { image = s .0 i; state = mirror i; result = s .1 i .result }
 
@@ -133,9 +133,9 @@ unit-demand-1 = record {
   every = every-answered;
   refused = unit-refused;
   format = λ f. (f .formats, f .mirror);
-  format-refused = format-refused;
+  formatRefused = format-refused;
   determined = unit-determined;
-  format-determined = format-determined;
+  formatDetermined = format-determined;
 }
 
 -- ---- demand 2
@@ -148,7 +148,7 @@ call-keeps : {image : List ℕ} {state : UnitState} {message : UnitMessage} {len
     → Keeps image state (r .image) (r .state)
 call-keeps {state} {r} i w (call m e c) =
     ⊎-elim (λ x. inl (x .0, same-state state (c .arrays) (r .state) (c .mirror) (x .1))) inr (demand-2 .written i (state-shaped state) (demands.call w (c .performs) demands.here))
-call-keeps i w (noSuchCall e c) = inl (c .same-image, c .same-mirror)
+call-keeps i w (noSuchCall e c) = inl (c .sameImage, c .sameMirror)
 
 format-keeps : {image : List ℕ} {state : UnitState} {bytes : ℕ} {lent : List ℕ} {r : UnitFormatted} → Words image → Words lent → UnitFormats image state bytes lent r
     → Keeps image state (r .image) (r .state)
@@ -189,12 +189,12 @@ unit-holds : {image end : List ℕ} {state stop : UnitState} {calls : List UnitC
     → UnitDemand3After image state calls replies end stop
 unit-holds sound accepted words r =
     let s = unit-run r in
-    record { plain = s .plain; answered = s .answered; stand-for = s .stand-for; holds = demand-3 .holds _ _ _ _ _ _ sound accepted (s .words words) (s .run) }
+    record { plain = s .plain; answered = s .answered; standFor = s .standFor; holds = demand-3 .holds _ _ _ _ _ _ sound accepted (s .words words) (s .run) }
 
 pub unit-demand-3 : UnitDemand3 UnitPerforms
 unit-demand-3 = record {
   holds = unit-holds;
-  after-init = λ c e z words r. let s = unit-demand-2 .accepted c e z in unit-holds (s .2) (s .1) words r;
+  afterInit = λ c e z words r. let s = unit-demand-2 .accepted c e z in unit-holds (s .2) (s .1) words r;
 }
 
 pub the-unit-demands : TheUnitDemands

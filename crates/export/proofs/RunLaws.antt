@@ -42,7 +42,7 @@ pub unit-later : {image end : List ℕ} {state stop : UnitState} → UnitLater U
 unit-later here = demands.here
 unit-later (runs.call w (call m e c) rest) = demands.call w (c .performs) (unit-later rest)
 unit-later {end} {stop} (runs.call w (noSuchCall e c) rest) =
-    at (λ (i : List ℕ) (s : State). Later Performs FormatAnswer i s end (stateOf stop)) (c .same-image) (ap stateOf (c .same-mirror)) (unit-later rest)
+    at (λ (i : List ℕ) (s : State). Later Performs FormatAnswer i s end (stateOf stop)) (c .sameImage) (ap stateOf (c .sameMirror)) (unit-later rest)
 unit-later (runs.format w f rest) = demands.format w (f .formats) (unit-later rest)
 
 -- the calls that a list stands for
@@ -50,19 +50,19 @@ pub record Stands (image : List ℕ) (state : UnitState) (calls : List UnitCall)
   pub plain : List Call
   pub answered : List Reply
   pub words : UnitLentWords calls → LentWords plain
-  pub stand-for : StandFor calls replies plain answered
+  pub standFor : StandFor calls replies plain answered
   pub run : Run Performs image (stateOf state) plain answered end (stateOf stop)
 
 pub unit-run : {image end : List ℕ} {state stop : UnitState} {calls : List UnitCall} {replies : List UnitReply} → UnitRun UnitPerforms image state calls replies end stop
     → Stands image state calls replies end stop
-unit-run empty = record { plain = []; answered = []; words = λ w. w; stand-for = runs.empty; run = run.empty }
+unit-run empty = record { plain = []; answered = []; words = λ w. w; standFor = runs.empty; run = run.empty }
 unit-run (then {call = c} {r = r} (call m e x) rest) =
     let s = unit-run rest in
     record {
       plain = record { message = m; lent = c .lent } ∷ s .plain;
       answered = record { answer = answerOf (r .answer); lent = r .lent } ∷ s .answered;
       words = λ w. (w .0, s .words (w .1));
-      stand-for = runs.call e (s .stand-for);
+      standFor = runs.call e (s .standFor);
       run = run.then (x .performs) (s .run);
     }
 unit-run {end} {stop} (then (noSuchCall e x) rest) =
@@ -71,6 +71,6 @@ unit-run {end} {stop} (then (noSuchCall e x) rest) =
       plain = s .plain;
       answered = s .answered;
       words = λ w. s .words (w .1);
-      stand-for = runs.noSuchCall e (x .answered) (x .same-lent) (s .stand-for);
-      run = at (λ (i : List ℕ) (t : State). Run Performs i t (s .plain) (s .answered) end (stateOf stop)) (x .same-image) (ap stateOf (x .same-mirror)) (s .run);
+      standFor = runs.noSuchCall e (x .answered) (x .sameLent) (s .standFor);
+      run = at (λ (i : List ℕ) (t : State). Run Performs i t (s .plain) (s .answered) end (stateOf stop)) (x .sameImage) (ap stateOf (x .sameMirror)) (s .run);
     }

@@ -82,9 +82,9 @@ noSuchAnswer = record { result = 0xFFFF; bytes = 0; block = 0; entries = 0 }
 
 pub record NotCalled (image : List ℕ) (state : UnitState) (lent : List ℕ) (r : UnitPerformed) : Type 0 where
   pub answered : r .answer ≡ noSuchAnswer
-  pub same-image : r .image ≡ image
-  pub same-mirror : r .state ≡ state
-  pub same-lent : r .lent ≡ lent
+  pub sameImage : r .image ≡ image
+  pub sameMirror : r .state ≡ state
+  pub sameLent : r .lent ≡ lent
 
 -- What comes of a message.
 pub data UnitPerforms (image : List ℕ) (state : UnitState) (message : UnitMessage) (lent : List ℕ) (r : UnitPerformed) : Type 0 where

@@ -17,7 +17,7 @@ use Rattle.plain.specs.Step.{Call, Reply}
 use Rattle.plain.specs.Claims.{Moves}
 use Rattle.sound.specs.Sound.{SoundUnit}
 use Rattle.refine.specs.Demands.{AcceptedState, Demand3After}
-use Rattle.known.specs.Known.{Known}
+use Rattle.first_question.specs.Known.{Known}
 use Rattle.format.specs.Format.{FormatAnswer}
 use Rattle.demands.specs.Demands.{Answered}
 use Rattle.export.specs.declared.Asked.{Asked}
@@ -41,9 +41,9 @@ pub data MirrorLeft (state next : UnitState) : Asked → Type 0 where
 pub record UnitRefused (image : List ℕ) (state : UnitState) (message : UnitMessage) (lent : List ℕ) (r : UnitPerformed) : Type 0 where
   pub bytes : r .answer .bytes ≡ 0
   pub entries : r .answer .entries ≡ 0
-  pub same-image : r .image ≡ image
-  pub same-lent : r .lent ≡ lent
-  pub same-mirror : MirrorLeft state (r .state) (askedOf message)
+  pub sameImage : r .image ≡ image
+  pub sameLent : r .lent ≡ lent
+  pub sameMirror : MirrorLeft state (r .state) (askedOf message)
 
 -- One of the calls is answered as demand 1 says, and of the mirror every word stays that stands for the same value; a number that no call
 -- has is answered FFFFh, and nothing changes.
@@ -65,12 +65,12 @@ pub record UnitDemand1 (C : UnitContract) (F : UnitFormatContract) : Type 0 wher
       → C image state message lent r → r .answer .result ≢ 0 → UnitRefused image state message lent r
   pub format : {image : List ℕ} {state : UnitState} {bytes : ℕ} {lent : List ℕ} {r : UnitFormatted} → F image state bytes lent r
       → FormatAnswer image (stateOf state) bytes lent (r .image) (formattedOf r) × (r .state ≡ remirrored state (stateOf (r .state)))
-  pub format-refused : {image : List ℕ} {state : UnitState} {bytes : ℕ} {lent : List ℕ} {r : UnitFormatted}
+  pub formatRefused : {image : List ℕ} {state : UnitState} {bytes : ℕ} {lent : List ℕ} {r : UnitFormatted}
       → F image state bytes lent r → r .result ≢ 0 → (r .image ≡ image) × (r .state ≡ state)
   -- every word of answer, image, mirror and lent words is determined; a listing's order too, by document 02, R-1
   pub determined : {image : List ℕ} {state : UnitState} {message : UnitMessage} {lent : List ℕ} {r q : UnitPerformed}
       → C image state message lent r → C image state message lent q → r ≡ q
-  pub format-determined : {image : List ℕ} {state : UnitState} {bytes : ℕ} {lent : List ℕ} {r q : UnitFormatted}
+  pub formatDetermined : {image : List ℕ} {state : UnitState} {bytes : ℕ} {lent : List ℕ} {r q : UnitFormatted}
       → F image state bytes lent r → F image state bytes lent q → r ≡ q
 
 -- ---- demand 2: as `Demand2`, of the states that the mirrors stand for
@@ -106,7 +106,7 @@ pub record UnitDemand3After (image : List ℕ) (state : UnitState) (calls : List
     (stop : UnitState) : Type 0 where
   pub plain : List Call
   pub answered : List Reply
-  pub stand-for : StandFor calls replies plain answered
+  pub standFor : StandFor calls replies plain answered
   pub holds : Demand3After image (stateOf state) plain answered end (stateOf stop)
 
 pub record UnitDemand3 (C : UnitContract) : Type 0 where
@@ -114,7 +114,7 @@ pub record UnitDemand3 (C : UnitContract) : Type 0 where
       → SoundUnit image (stateOf state) → AcceptedState (stateOf state) → UnitLentWords calls → UnitRun C image state calls replies end stop
       → UnitDemand3After image state calls replies end stop
   -- the same said of an accepted Init, without a word about the state that it left
-  pub after-init : {image end : List ℕ} {state stop : UnitState} {message : UnitMessage} {unit : ℕ} {words : List ℕ}
+  pub afterInit : {image end : List ℕ} {state stop : UnitState} {message : UnitMessage} {unit : ℕ} {words : List ℕ}
       {r : UnitPerformed} {calls : List UnitCall} {replies : List UnitReply}
       → C image state message words r → askedOf message ≡ asked.Call (Init unit) → r .answer .result ≡ 0 → UnitLentWords calls
       → UnitRun C (r .image) (r .state) calls replies end stop

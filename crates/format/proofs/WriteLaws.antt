@@ -21,7 +21,7 @@ use Rattle.refine.proofs.FormatImage.{key-lt, length-system}
 
 -- the sector of a key lies in the image
 pub key-inside : (H s F N : ℕ) → Limits H s F N → (n k : ℕ) → k ≡ keyOf H n → F + k < N
-key-inside H s F N lim n k e = omega (arith, sys-end H s F N lim, key-lt H n (lim .keys-low))
+key-inside H s F N lim n k e = omega (arith, sys-end H s F N lim, key-lt H n (lim .keysLow))
 
 -- and is where the code has it
 pub key-sector : (H s F N : ℕ) → Limits H s F N → (n k : ℕ) → k ≡ keyOf H n → {q : ℕ} → q ≡ (F + k) % 65536 → q ≡ F + k

@@ -9,7 +9,7 @@ use Rattle.types.specs.declared.State.{State}
 use Rattle.types.specs.declared.Message.the-variants.{Init}
 use Rattle.disc.specs.Kit.{Limits}
 use Rattle.state.specs.Areas.{withInitialized}
-use Rattle.known.specs.Known.{Known}
+use Rattle.first_question.specs.Known.{Known}
 use Rattle.refine.specs.Format.{systemSectors, freshCatalog, formatted}
 use Rattle.format.specs.declared.Formatted.{Formatted}
 

@@ -182,7 +182,7 @@ fn accepts(image: &[u16], state: State, lent: &[u16]) -> bool
     requires { ⌜ 9 ≤ length (now lent) ⌝ }
     ensures { λ r. ⌜ Decides r (Formattable (now (image .entry)) state (now (lent .entry))) ⌝ }
 {
-    if !known::known(state, Message::Init { unit: lent[0] }) {
+    if !first_question::known(state, Message::Init { unit: lent[0] }) {
         return false;
     }
     let sectors = lent[3];

@@ -19,7 +19,7 @@ use Rattle.refine.specs.OnDisc.{OnDisc}
 use Rattle.refine.specs.Writes.{countedFree}
 use Rattle.refine.proofs.Ground.{ground, sys-ground, part-sectors}
 use Rattle.catalog.specs.declared.Unit.{Unit}
-use Rattle.unit.specs.Unit.{NumbersOf}
+use Rattle.lookup.specs.Unit.{NumbersOf}
 use Rattle.slices.specs.FileBlock.{FileBlock}
 use Rattle.slices.proofs.BlockLaws.{unit-file}
 use Rattle.grow.specs.Catalog.{CatalogIn}
@@ -35,7 +35,7 @@ sys-in {image} {o} {p} on num = record {
   on = on;
   numbers = num;
   index = on .layout .sys .index;
-  inside = omega (arith, on .layout .size, on .good .limits .first, on .good .limits .some-data);
+  inside = omega (arith, on .layout .size, on .good .limits .first, on .good .limits .someData);
   count = on .good .catalog .count;
   few = on .good .catalog .few;
   part = sys-ground (ground p (on .good)) .part;
@@ -58,7 +58,7 @@ module _ {image : List ℕ} {o : Unit} {p : Plain} {c : Catalog} (a : CatalogIn 
         arith,
         a .count,
         slices-for (c .from) (p .s) (p .H * c .layers),
-        ceil-cover (p .s) (p .H * c .layers + c .from) (length (c .slices)) (omega (arith, a .on .good .limits .slice-low)) (omega (arith, a .count, slices-for (c .from) (p .s) (p .H * c .layers))),
+        ceil-cover (p .s) (p .H * c .layers + c .from) (length (c .slices)) (omega (arith, a .on .good .limits .sliceLow)) (omega (arith, a .count, slices-for (c .from) (p .s) (p .H * c .layers))),
         mul-comm (p .s) (length (c .slices)),
         catalog-sectors,
       )

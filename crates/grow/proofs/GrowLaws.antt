@@ -31,14 +31,14 @@ use Rattle.plain.proofs.UnitLaws.{entry-sys}
 use Rattle.refine.specs.OnDisc.{OnDisc}
 use Rattle.refine.specs.Writes.{countedFree, storePlace, zeroedSectors, takenImage, layeredImage, grownImage, grownSys}
 use Rattle.refine.proofs.Ground.{Ground, ground, top}
-use Rattle.steps.proofs.WriteLaws.{zeroed-size}
-use Rattle.steps.proofs.GrowStep.{grow-on}
-use Rattle.steps.specs.Units.{layerOf, layerSlices, grownUnit}
-use Rattle.unit.specs.Unit.{NumbersWith}
-use Rattle.unit.specs.Unit.{NumbersOf}
-use Rattle.unit.specs.Find.{NameAt, FindsName}
-use Rattle.unit.proofs.UnitLaws.{on-catalog}
-use Rattle.unit.proofs.FindLaws.{place-room}
+use Rattle.preservation.proofs.WriteLaws.{zeroed-size}
+use Rattle.preservation.proofs.GrowStep.{grow-on}
+use Rattle.preservation.specs.Units.{layerOf, layerSlices, grownUnit}
+use Rattle.lookup.specs.Unit.{NumbersWith}
+use Rattle.lookup.specs.Unit.{NumbersOf}
+use Rattle.lookup.specs.Find.{NameAt, FindsName}
+use Rattle.lookup.proofs.UnitLaws.{on-catalog}
+use Rattle.lookup.proofs.FindLaws.{place-room}
 use Rattle.slices.specs.Take.{CanLengthenFrom, CanLengthen, LengthenedAt}
 use Rattle.slices.specs.Zero.{CanZeroFrom, CanZero, Zeroed}
 use Rattle.slices.proofs.BlockLaws.{block-total}
@@ -68,7 +68,7 @@ module _ {image : List ℕ} {o : Unit} {p : Plain} {c : Catalog} (can : CanGrowF
   had {block} e = ap (λ (s : ℕ). sliceTotal s block 0) (num .slice) ∙ block-total (catalog-file (can .catalog) (own-block e) .own)
 
   pub had-small : {block : List ℕ} → block ≡ blockAt image (o .catalog .index .0) → sliceTotal (o .slice) block 0 < 65536
-  had-small e = omega (arith, had e, catalog-sectors (can .catalog), mul-le-mul-right (length (c .slices)) (on .good .limits .slice-low))
+  had-small e = omega (arith, had e, catalog-sectors (can .catalog), mul-le-mul-right (length (c .slices)) (on .good .limits .sliceLow))
 
   can-own : {block : List ℕ} → block ≡ blockAt image (o .catalog .index .0) → CanLengthenFrom image block (p .F) (p .s) (M p) more (held p) (c .slices)
   can-own e = record {
@@ -100,20 +100,20 @@ module _ {image : List ℕ} {o : Unit} {p : Plain} {c : Catalog} (can : CanGrowF
         can .catalog .count,
         slices-for (c .from) (p .s) (p .H * c .layers),
         slices-for (c .from) (p .s) (p .H * suc (c .layers)),
-        ceilDiv-mono (p .s) {a = p .H * c .layers + c .from} {b = p .H * suc (c .layers) + c .from} (omega (arith, on .good .limits .slice-low)) (omega arith),
+        ceilDiv-mono (p .s) {a = p .H * c .layers + c .from} {b = p .H * suc (c .layers) + c .from} (omega (arith, on .good .limits .sliceLow)) (omega arith),
       )
 
   -- its sectors too, with those before its blocks
   cover : p .H * suc (c .layers) + c .from ≤ length (c .slices ++ layerOf p c) * p .s
   cover =
-      ceil-cover (p .s) (p .H * suc (c .layers) + c .from) (length (c .slices ++ layerOf p c)) (omega (arith, on .good .limits .slice-low))
+      ceil-cover (p .s) (p .H * suc (c .layers) + c .from) (length (c .slices ++ layerOf p c)) (omega (arith, on .good .limits .sliceLow))
       (omega (arith, layer-count, slices-for (c .from) (p .s) (p .H * suc (c .layers))))
 
   small : p .H * suc (c .layers) + c .from + 10 ≤ 32767
   small = omega (arith, cover, longer-sectors, mul-comm (p .s) (length (c .slices ++ layerOf p c)))
 
   pub layers-small : o .catalog .layers + 1 < 32768
-  layers-small = omega (arith, small, num .catalog .layers, mul-le-mul-right (suc (c .layers)) (on .good .limits .keys-low))
+  layers-small = omega (arith, small, num .catalog .layers, mul-le-mul-right (suc (c .layers)) (on .good .limits .keysLow))
 
   pub blocks-small : o .catalog .keys * (o .catalog .layers + 1) < 32768
   blocks-small = rw (num .catalog .keys, num .catalog .layers, add-one (c .layers)) (omega (arith, small))
@@ -128,10 +128,10 @@ module _ {image : List ℕ} {o : Unit} {p : Plain} {c : Catalog} (can : CanGrowF
   reserved-small = rw (slices-is, num .slice) (omega (arith, longer-sectors))
 
   pub slices-small : slicesFor (o .catalog .from) (o .slice) (o .catalog .keys * (o .catalog .layers + 1)) < 32768
-  slices-small = omega (arith, slices-is, longer-sectors, mul-le-mul-right (length (c .slices ++ layerOf p c)) (on .good .limits .slice-low))
+  slices-small = omega (arith, slices-is, longer-sectors, mul-le-mul-right (length (c .slices ++ layerOf p c)) (on .good .limits .sliceLow))
 
   pub slice-low : 2 ≤ o .slice
-  slice-low = omega (arith, num .slice, on .good .limits .slice-low)
+  slice-low = omega (arith, num .slice, on .good .limits .sliceLow)
 
   -- ---- its slices
 
@@ -139,7 +139,7 @@ module _ {image : List ℕ} {o : Unit} {p : Plain} {c : Catalog} (can : CanGrowF
   more-is e q = q ∙ ap₂ (λ (a b : ℕ). a - b) (slices-is ∙ layer-count) (had e)
 
   pub more-small : more < 65536
-  more-small = omega (arith, can .room, sum-law (M p) (held p) (on .good .once), on .good .limits .slices-high)
+  more-small = omega (arith, can .room, sum-law (M p) (held p) (on .good .once), on .good .limits .slicesHigh)
 
   pub can-lengthen : {block : List ℕ} {n : ℕ} → block ≡ blockAt image (o .catalog .index .0) → n ≡ more → CanLengthen image block (o .first .0) (o .slice) (o .slices) n
   can-lengthen {block} {n} e q = record {

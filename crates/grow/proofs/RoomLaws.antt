@@ -25,7 +25,7 @@ use Rattle.plain.specs.Questions.{Outcome, replies, done}
 use Rattle.plain.specs.Taking.{Taking, taking, enough}
 use Rattle.plain.proofs.QuestionLaws.{asks-law, asks-yes, asks-no}
 use Rattle.refine.specs.OnDisc.{OnDisc}
-use Rattle.unit.specs.Unit.{NumbersWith}
+use Rattle.lookup.specs.Unit.{NumbersWith}
 use Rattle.slices.specs.declared.Growth.{Growth}
 use Rattle.slices.specs.FileBlock.{FileBlock}
 use Rattle.slices.specs.Fit.{CanFitFrom, CanFit, Fits}
@@ -91,7 +91,7 @@ module _ {image : List ℕ} {o : Unit} {block : List ℕ} {p : Plain} {c : Catal
   num = asked .catalog .numbers
 
   pub room-slice : 2 ≤ o .slice
-  room-slice = omega (arith, num .slice, on .good .limits .slice-low)
+  room-slice = omega (arith, num .slice, on .good .limits .sliceLow)
 
   asked-file : FileBlock image block (p .F) (p .s) (M p) slices
   asked-file =
@@ -99,7 +99,7 @@ module _ {image : List ℕ} {o : Unit} {block : List ℕ} {p : Plain} {c : Catal
       (λ k. omega (arith, asked .part k, on .good .once k))
 
   pub free-is : onesInMap image ≡ freeSlices p
-  free-is = ones-free (M p) (held p) image (on .good .limits .slices-high) (on .layout .map) (on .words)
+  free-is = ones-free (M p) (held p) image (on .good .limits .slicesHigh) (on .layout .map) (on .words)
 
   module _ {index : List ℕ} (at-index : index ≡ blockAt image (o .catalog .index .0)) where
     read : index ≡ blockAt image (c .index)
@@ -109,7 +109,7 @@ module _ {image : List ℕ} {o : Unit} {block : List ℕ} {p : Plain} {c : Catal
     had = ap (λ (s : ℕ). sliceTotal s index 0) (num .slice) ∙ block-total (catalog-file (asked .catalog) read .own)
 
     pub room-had : sliceTotal (o .slice) index 0 < 65536
-    room-had = omega (arith, had, catalog-sectors (asked .catalog), mul-le-mul-right (length (c .slices)) (on .good .limits .slice-low))
+    room-had = omega (arith, had, catalog-sectors (asked .catalog), mul-le-mul-right (length (c .slices)) (on .good .limits .sliceLow))
 
     module _ (layers : ℕ) {more : ℕ} (took : more ≡ slicesFor (o .catalog .from) (o .slice) (o .catalog .keys * layers) - sliceTotal (o .slice) index 0) (forFile : ℕ) where
       abbrev t : Taking
@@ -127,9 +127,9 @@ module _ {image : List ℕ} {o : Unit} {block : List ℕ} {p : Plain} {c : Catal
             for-catalog,
             slices-for (c .from) (p .s) (p .H * layers),
             catalog-from (asked .catalog),
-            ceilDiv-le n (p .s) n (omega (arith, on .good .limits .slice-low)) .1 (le-mul-of-pos-right n (omega (arith, on .good .limits .slice-low))),
+            ceilDiv-le n (p .s) n (omega (arith, on .good .limits .sliceLow)) .1 (le-mul-of-pos-right n (omega (arith, on .good .limits .sliceLow))),
             mul-le-mul-left (p .H) h,
-            mul-le-mul-right 65535 (on .good .limits .keys-high),
+            mul-le-mul-right 65535 (on .good .limits .keysHigh),
           )
 
       pub answer-few : {free : ℕ} → free ≡ onesInMap image → free < more + forFile → (lent : List ℕ) (files : Table File)

@@ -10,7 +10,7 @@ use Rattle.disc.specs.Catalog.{Catalog, slicesNeeded}
 use Rattle.plain.specs.Unit.{Plain, held}
 use Rattle.refine.specs.OnDisc.{OnDisc}
 use Rattle.catalog.specs.declared.Unit.{Unit}
-use Rattle.unit.specs.Unit.{NumbersWith}
+use Rattle.lookup.specs.Unit.{NumbersWith}
 
 -- "SYS has .. H times L / s slices, rounded up": the catalog has the slices of its layers, which are among those of the unit, and its
 -- index block describes them.

@@ -10,9 +10,9 @@ use Rattle.catalog.specs.declared.Unit.{Unit}
 use Rattle.plain.specs.Unit.{Plain, freeSlices, sysOf}
 use Rattle.plain.specs.Taking.{taking}
 use Rattle.refine.specs.Writes.{layeredImage, grownSys}
-use Rattle.steps.specs.Units.{layerOf, layerSlices, grownUnit}
+use Rattle.preservation.specs.Units.{layerOf, layerSlices, grownUnit}
 use Rattle.grow.specs.Catalog.{CatalogIn}
-use Rattle.unit.specs.Unit.{NumbersOf, unitPlaces}
+use Rattle.lookup.specs.Unit.{NumbersOf, unitPlaces}
 
 -- A catalog of a unit that has slices for one layer more, in at most 127 stretches.
 pub record CanGrowFrom (image : List ℕ) (o : Unit) (p : Plain) (c : Catalog) : Type 0 where

@@ -125,7 +125,7 @@ pub fn grow(image: &mut [u16], unit: Unit) -> Unit
     requires { ⌜ CanGrow (now image) unit ⌝ }
     ensures { λ r. ⌜ Grows (now (image .entry)) unit (now (image .exit)) r ⌝ }
 {
-    let Found::At(place) = unit::find_name(image, unit, names::sys_name()) else {
+    let Found::At(place) = lookup::find_name(image, unit, names::sys_name()) else {
         return unit;
     };
     let layers = unit.catalog.layers + 1;

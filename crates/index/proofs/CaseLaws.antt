@@ -8,21 +8,9 @@ use lib.Dec.{eqb}
 use Rattle.disc.specs.Numbers.{sliceStart}
 use Rattle.disc.specs.Pairs.{pairLength, pairStart}
 use Rattle.disc.proofs.Compare.{same-or}
-use Rattle.index.specs.Block.{pairCount, sectorsFrom, firstSliceOf, firstSlice, lastSliceOf, lastSlice, joinsLast, joins, stretchesWith, lengthened, extended, appended}
+use Rattle.index.specs.Block.{pairCount, sectorsFrom, lastSliceOf, lastSlice, joinsLast, joins, stretchesWith, lengthened, extended, appended}
 
 module _ (F s : ℕ) (l : List ℕ) (q n : ℕ) (count : n ≡ pairCount l q) where
-  pub first-none : n ≡ 0 → 0 ≡ firstSlice F s l q
-  unfolding firstSliceOf
-  first-none z = sym (ap (firstSliceOf F s l q) (sym count ∙ z))
-
-  pub first-some : 1 ≤ n → (pairStart l q 0 - F) / s + 1 ≡ firstSlice F s l q
-  unfolding firstSliceOf
-  first-some h = go n h ∙ ap (firstSliceOf F s l q) count
-    where
-      go : (m : ℕ) → 1 ≤ m → (pairStart l q 0 - F) / s + 1 ≡ firstSliceOf F s l q m
-      go zero x = absurd (omega arith)
-      go (suc j) x = refl
-
   pub last-none : n ≡ 0 → 0 ≡ lastSlice F s l q
   unfolding lastSliceOf
   last-none z = sym (ap (lastSliceOf F s l q) (sym count ∙ z))

@@ -44,17 +44,10 @@ sectorTotal l q = sectorsFrom l q (pairCount l q) 0
 abbrev pub sliceTotal : ℕ → List ℕ → ℕ → ℕ
 sliceTotal s l q = sectorTotal l q / s
 
--- The first slice of the first pair, and the last slice of the last of n pairs; 0 if there is none.
-unfoldable pub firstSliceOf : ℕ → ℕ → List ℕ → ℕ → ℕ → ℕ
-firstSliceOf F s l q zero = 0
-firstSliceOf F s l q (suc n) = (pairStart l q 0 - F) / s + 1
-
+-- The last slice of the last of n pairs; 0 if there is none.
 unfoldable pub lastSliceOf : ℕ → ℕ → List ℕ → ℕ → ℕ → ℕ
 lastSliceOf F s l q zero = 0
 lastSliceOf F s l q (suc j) = (pairStart l q j - F) / s + pairLength l q j / s
-
-abbrev pub firstSlice : ℕ → ℕ → List ℕ → ℕ → ℕ
-firstSlice F s l q = firstSliceOf F s l q (pairCount l q)
 
 abbrev pub lastSlice : ℕ → ℕ → List ℕ → ℕ → ℕ
 lastSlice F s l q = lastSliceOf F s l q (pairCount l q)

@@ -5,7 +5,7 @@ ghost use Prim.Native.Nat.{_+_, _-_, _*_, _≤_, _<_, min};
 ghost use lib.ListN.{length};
 ghost use Rattle.disc.specs.Pairs.{pairLength, pairStart};
 ghost use Rattle.words.specs.Store.{store, zeroWords};
-ghost use Rattle.index.specs.Block.{pairCount, blockAt, sectorTotal, sliceTotal, firstSlice, lastSlice, jointSector, sliceNumber};
+ghost use Rattle.index.specs.Block.{pairCount, blockAt, sectorTotal, sliceTotal, lastSlice, jointSector, sliceNumber};
 ghost use Rattle.index.specs.Block.{joins, stretchesWith, withPair, lengthened, appended, Appendable, cutTo};
 use types::Block;
 use types::Sector;
@@ -98,17 +98,6 @@ pub fn slice_total_at(image: &[u16], q: Sector, s: u16) -> u16
     ensures { λ r. ⌜ r ≡ sliceTotal s (now (image .entry)) (q .0) ⌝ }
 {
     (sector_total_at(image, q) / s as u32) as u16
-}
-
-// The first slice of the block in sector q, 0 if there is none.
-pub fn first_slice_at(image: &[u16], q: Sector, first: Sector, s: u16) -> Slice
-    requires { ⌜ 2 ≤ s ⌝ }
-    ensures { λ r. ⌜ r .0 ≡ firstSlice (first .0) s (now (image .entry)) (q .0) ⌝ }
-{
-    if pair_count(image, q) == 0 {
-        return Slice(0);
-    }
-    numbers::slice_from(first, s, pair_start(image, q, 0))
 }
 
 // The last slice of the block in sector q, 0 if there is none.
@@ -260,14 +249,6 @@ pub fn slice_total(block: IndexBlock, s: u16) -> u16
     ensures { λ r. ⌜ r ≡ sliceTotal s (block .words) 0 ⌝ }
 {
     slice_total_at(&block.words, Sector(0), s)
-}
-
-// Its first slice, 0 if there is none.
-pub fn first_slice(block: IndexBlock, first: Sector, s: u16) -> Slice
-    requires { ⌜ 2 ≤ s ⌝ }
-    ensures { λ r. ⌜ r .0 ≡ firstSlice (first .0) s (block .words) 0 ⌝ }
-{
-    first_slice_at(&block.words, Sector(0), first, s)
 }
 
 // Its slice number j, counted from 0 in file order.

@@ -91,4 +91,4 @@ module _ {image : List ℕ} {g : Geometry} (is : GeometryOf image g) where
 
 -- the image has sectors 0 to 9
 pub unit-long : {image : List ℕ} {g : Geometry} → UnitOf image g → 2560 ≤ length image
-unit-long unit = omega (arith, unit .size, unit .limits .first, unit .limits .some-data)
+unit-long unit = omega (arith, unit .size, unit .limits .first, unit .limits .someData)

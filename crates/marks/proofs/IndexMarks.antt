@@ -172,11 +172,11 @@ module _ (image : List ℕ) (g : Geometry) (q : ℕ) where
   module _ (unit : UnitOf image g) where
     -- a sector that is read as an index block is in the image
     pub index-inside : IndexSector g q → q < g .sectors
-    index-inside (ofSys e) = omega (arith, unit .limits .first, unit .limits .some-data)
+    index-inside (ofSys e) = omega (arith, unit .limits .first, unit .limits .someData)
     index-inside (ofFile low high) = high
 
     positive : 1 ≤ s
-    positive = omega (arith, unit .limits .slice-low)
+    positive = omega (arith, unit .limits .sliceLow)
 
     block-legal : IndexBlock image F s q → LegalPairs image F s q
     block-legal block = index-pairs image F s q positive .1 (block .some, block .few, block .pairs)

@@ -71,7 +71,7 @@ module _ (g : Geometry) (sectors start : ℕ) where
     pair-high : start + sectors ≤ g .sectors
     pair-high =
         let most : (from + count) * g .slice ≤ g .slices * g .slice = mul-le-mul-right (g .slice) fits in
-        omega (arith, unit-sectors g limits unit, add-mul from count (g .slice), limits .some-data)
+        omega (arith, unit-sectors g limits unit, add-mul from count (g .slice), limits .someData)
 
     pub mark-pair : {before after : List ℕ} {r : Bool} → r ≡ true
         → ((m : ℕ) (held : List ℕ) → from + count ≤ m → Marked m before held → Marking r (Unit {0}) m after held (span (from + 1) count))
@@ -88,4 +88,4 @@ module _ (g : Geometry) (sectors start : ℕ) where
     }
       where
         positive : ltb 0 count ≡ true → 1 ≤ sectors
-        positive e = let c : 0 < count = ltb-true 0 count e in let t : 0 < g .slice = omega (arith, limits .slice-low) in omega (arith, mul-pos c t)
+        positive e = let c : 0 < count = ltb-true 0 count e in let t : 0 < g .slice = omega (arith, limits .sliceLow) in omega (arith, mul-pos c t)

@@ -28,7 +28,7 @@ module _ (image : List ℕ) (g : Geometry) (q sectors : ℕ) where
 
   module _ (unit : UnitOf image g) where
     positive : 1 ≤ g .slice
-    positive = omega (arith, unit .limits .slice-low)
+    positive = omega (arith, unit .limits .sliceLow)
 
     -- such a file has its slices in the unit
     pub single-fits : {before : List ℕ} → SingleFile image g q sectors before → from + count ≤ g .slices
@@ -36,7 +36,7 @@ module _ (image : List ℕ) (g : Geometry) (q sectors : ℕ) where
         let all = unit-sectors g (unit .limits) (unit .slices) in
         let start = whole-product (q - g .first .0) (g .slice) (file .slices .aligned) in
         let size = whole-product sectors (g .slice) (file .slices .whole) in
-        let product : (from + count) * g .slice ≤ g .slices * g .slice = omega (arith, add-mul from count (g .slice), file .slices .low, file .high, unit .limits .some-data) in
+        let product : (from + count) * g .slice ≤ g .slices * g .slice = omega (arith, add-mul from count (g .slice), file .slices .low, file .high, unit .limits .someData) in
         le-of-mul-le-mul-right product positive
 
     -- it starts where a slice does
@@ -70,7 +70,7 @@ module _ (image : List ℕ) (g : Geometry) (q sectors : ℕ) where
       pub single-high : q + sectors ≤ g .sectors
       single-high =
           let most : (k - 1 + n) * g .slice ≤ g .slices * g .slice = mul-le-mul-right (g .slice) fits in
-          omega (arith, unit-sectors g (unit .limits) (unit .slices), add-mul (k - 1) n (g .slice), unit .limits .some-data)
+          omega (arith, unit-sectors g (unit .limits) (unit .slices), add-mul (k - 1) n (g .slice), unit .limits .someData)
 
       pub single-inside : q < g .sectors
       single-inside = omega (arith, single-high, single-slices .some)
@@ -95,7 +95,7 @@ module _ (image : List ℕ) (g : Geometry) (q sectors : ℕ) where
     pair =
         let fits = single-fits unit file in
         mark-pair g sectors q (unit .limits) (unit .slices) (file .slices .low) (whole-product (q - g .first .0) (g .slice) (file .slices .aligned)) single-whole fits refl
-        (run-marking from count (omega (arith, fits, unit .slices, unit .limits .slices-high)) (run-done from count (file .free) is))
+        (run-marking from count (omega (arith, fits, unit .slices, unit .limits .slicesHigh)) (run-done from count (file .free) is))
 
     pub single-index : IndexMarking image g q before after (record { good = true; slices = count; start = record { 0 = q } })
     single-index =

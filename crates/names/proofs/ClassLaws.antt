@@ -98,8 +98,8 @@ not-letter a b c hb hc e = rw (pack-char0 a b c hb hc, e)
 
 -- the first character is a letter, and p, q, r and s are the classes of the next four
 pub record Read (a b c p q r s : ℕ) : Type 0 where
-  pub second-word : b < 65536
-  pub third-word : c < 65536
+  pub secondWord : b < 65536
+  pub thirdWord : c < 65536
   pub first : letter (a / 256) ≡ true
   pub one : p ≡ classOf (a % 256)
   pub two : q ≡ classOf (b / 256)
@@ -109,8 +109,8 @@ pub record Read (a b c p q r s : ℕ) : Type 0 where
 module _ {a b c p q r s : ℕ} (d : Read a b c p q r s) where
   by-run : legalName (pack a b c) ≡ run 1 (a % 256 ∷ b / 256 ∷ b % 256 ∷ c / 256 ∷ []) && eqb (c % 256) 0
   by-run =
-      let hb = d .second-word in
-      let hc = d .third-word in
+      let hb = d .secondWord in
+      let hc = d .thirdWord in
       rw (pack-char0 a b c hb hc, pack-char1 a b c hb hc, pack-char2 a b c hb hc, pack-char3 a b c hc, pack-char4 a b c hc, pack-char5 a b c, d .first)
       (ap (λ (t : Bool). t && eqb (c % 256) 0) (sym (run-legal (a % 256 ∷ b / 256 ∷ b % 256 ∷ c / 256 ∷ []))))
 

@@ -19,14 +19,14 @@ use Rattle.plain.specs.Transput.{slicesToTake}
 use Rattle.plain.proofs.KeepsTransput.{append-few}
 use Rattle.refine.specs.Writes.{countedFree, takenImage, extendedImage}
 use Rattle.refine.proofs.Ground.{ground, part-file}
-use Rattle.steps.proofs.OutputStep.{extended-counts}
-use Rattle.steps.proofs.OutputUnit.{Appends}
-use Rattle.steps.proofs.OutputMessage.{appends-extends, appends-room, appends-few}
+use Rattle.preservation.proofs.OutputStep.{extended-counts}
+use Rattle.preservation.proofs.OutputUnit.{Appends}
+use Rattle.preservation.proofs.OutputMessage.{appends-extends, appends-room, appends-few}
 use Rattle.slices.specs.FileBlock.{FileBlock}
 use Rattle.slices.specs.Take.{CanLengthenFrom, CanLengthen, Lengthened}
 use Rattle.slices.proofs.BlockLaws.{index-told}
 use Rattle.slices.proofs.StoreLaws.{length-taken-image, longer-file}
-use Rattle.steps.specs.Units.{appendSlices}
+use Rattle.preservation.specs.Units.{appendSlices}
 use Rattle.output.specs.Output.{roomWord, outputWord, CanExtendFrom}
 use Rattle.output.proofs.FileLaws.{file-block}
 

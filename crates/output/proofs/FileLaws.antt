@@ -43,7 +43,7 @@ module _ {image : List ℕ} {p : Plain} (on : OnDisc image p) (n : ℕ) {f : Fil
     total-is = block-total (file-block e .own)
 
     pub total-small : sliceTotal (p .s) words 0 < 65536
-    total-small = omega (arith, total-is, sum-law (M p) (f .slices) once, on .good .limits .slices-high)
+    total-small = omega (arith, total-is, sum-law (M p) (f .slices) once, on .good .limits .slicesHigh)
 
     pub more-is : {r len : ℕ} → len ≡ length (f .sectors) → r ≡ oneIf (ltb (sliceTotal (p .s) words 0) (need (p .s) (len + 1))) → r ≡ slicesToTake (p .s) f
     more-is {r} {len} l q =

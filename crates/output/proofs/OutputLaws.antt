@@ -23,7 +23,8 @@ use Rattle.disc.specs.Entries.{indexSector}
 use Rattle.disc.proofs.Compare.{same-or, below-or}
 use Rattle.index.specs.Block.{wholeIndex, sliceTotal}
 use Rattle.catalog.specs.declared.Unit.{Unit}
-use Rattle.state.specs.Areas.{setArea, packed, moved, withLive}
+use Rattle.disc.specs.Names.{packed}
+use Rattle.state.specs.Areas.{setArea, moved, withLive}
 use Rattle.plain.specs.Table.{tableFind}
 use Rattle.plain.specs.Unit.{Plain, File, freeSlices}
 use Rattle.plain.specs.Areas as plain
@@ -36,22 +37,22 @@ use Rattle.refine.specs.Writes.{replacedImage, appendedImage, extendedImage}
 use Rattle.refine.proofs.LeavesLaws.{leaves}
 use Rattle.refine.proofs.StateLaws.{named-name, same-index}
 use Rattle.refine.proofs.Ground.{length-small, ground}
-use Rattle.steps.proofs.Whole.{on-disc, represents}
-use Rattle.steps.proofs.AreaMessages.{area-found, sender-found, output-areas, replace-areas, area-set}
-use Rattle.steps.proofs.OutputStep.{wordsThere, extended-on, appended-stored}
-use Rattle.steps.proofs.OutputUnit.{transputAt, replace-done, append-fixed, append-full, append-many, append-done, Appends}
-use Rattle.steps.proofs.OutputMessage.{replaced-on, appended-on, appends-extends, appends-room, appends-few}
-use Rattle.unit.specs.Unit.{Searchable}
-use Rattle.unit.specs.Files.{BlockOf}
-use Rattle.unit.proofs.UnitLaws.{searchable}
-use Rattle.sharing.specs.declared.AreaReply.{AreaReply}
-use Rattle.sharing.specs.Sharing.{areaReply, atPosition}
+use Rattle.preservation.proofs.Whole.{on-disc, represents}
+use Rattle.preservation.proofs.AreaMessages.{area-found, sender-found, output-areas, replace-areas, area-set}
+use Rattle.preservation.proofs.OutputStep.{wordsThere, extended-on, appended-stored}
+use Rattle.preservation.proofs.OutputUnit.{transputAt, replace-done, append-fixed, append-full, append-many, append-done, Appends}
+use Rattle.preservation.proofs.OutputMessage.{replaced-on, appended-on, appends-extends, appends-room, appends-few}
+use Rattle.lookup.specs.Unit.{Searchable}
+use Rattle.lookup.specs.Files.{BlockOf}
+use Rattle.lookup.proofs.UnitLaws.{searchable}
+use Rattle.area_users.specs.declared.AreaReply.{AreaReply}
+use Rattle.area_users.specs.Sharing.{areaReply, atPosition}
 use Rattle.refine.specs.Leaves.{Leaves}
-use Rattle.sharing.specs.Seat.{areaUsers, areaUser}
-use Rattle.sharing.proofs.ShareLaws.{seat-size, seat-low}
+use Rattle.area_users.specs.Seat.{areaUsers, areaUser}
+use Rattle.area_users.proofs.ShareLaws.{seat-size, seat-low}
 use Rattle.blocks.specs.Blocks.{AttributesOf, BlockFrom, SomeBlock, BlockReplaced}
 use Rattle.blocks.proofs.BlockLaws.{file-attributes}
-use Rattle.steps.specs.Units.{appendSlices}
+use Rattle.preservation.specs.Units.{appendSlices}
 use Rattle.output.specs.Output.{roomWord, RoomFor, CanExtendFrom, ExtendedBy, Placed, SomePlaced, outputWord, outputImage, outputState, preparedImage, outputReply, Prepares, OutputLeaves, Outputs}
 use Rattle.output.proofs.FileLaws.{total-small, more-is}
 use Rattle.output.proofs.AppendLaws.{appends}
@@ -74,31 +75,31 @@ module _ (p : Plain) (f : File) (k : ℕ) where
   module _ (image lent : List ℕ) (state : State) (j u : ℕ) where
     -- Where the word is `word`: the image before the block is stored and after it, and the reply.
     record Way (word : ℕ) (before after : List ℕ) (next : State) : Type 0 where
-      before-is : preparedImage p image f k ≡ before
-      after-is : outputImage p image f (outputWord p f k) k lent ≡ after
-      reply-is : outputReply p f state j u k ≡ areaReply next word (cond (eqb word 0) 512 0) k
+      beforeIs : preparedImage p image f k ≡ before
+      afterIs : outputImage p image f (outputWord p f k) k lent ≡ after
+      replyIs : outputReply p f state j u k ≡ areaReply next word (cond (eqb word 0) 512 0) k
 
     way-refused : outputWord p f k ≢ 0 → Way (outputWord p f k) image image (atPosition state j u k)
     unfolding preparedImage outputImage outputState
-    way-refused d = let e = ne-eqb (outputWord p f k) 0 d in record { before-is = rw e refl; after-is = rw e refl; reply-is = rw e refl }
+    way-refused d = let e = ne-eqb (outputWord p f k) 0 d in record { beforeIs = rw e refl; afterIs = rw e refl; replyIs = rw e refl }
 
     refuses : {word : ℕ} {reply : AreaReply} → word ≢ 0 → word ≡ outputWord p f k → reply ≡ areaReply (atPosition state j u k) word 0 k
         → (reply ≡ outputReply p f state j u k) × (image ≡ preparedImage p image f k)
     refuses d is e =
         let no : outputWord p f k ≢ 0 = λ z. d (is ∙ z) in
         let w = way-refused no in
-        (e ∙ rw (is, w .reply-is, ne-eqb (outputWord p f k) 0 no) refl, sym (w .before-is))
+        (e ∙ rw (is, w .replyIs, ne-eqb (outputWord p f k) 0 no) refl, sym (w .beforeIs))
 
     way-below : k < length (f .sectors) → Way 0 image (replacedImage p image f k (take 256 lent)) (atPosition state j u (suc k))
     unfolding outputWord preparedImage outputImage outputState
-    way-below x = let e = lt-ltb k (length (f .sectors)) x in record { before-is = rw e refl; after-is = rw e refl; reply-is = rw e refl }
+    way-below x = let e = lt-ltb k (length (f .sectors)) x in record { beforeIs = rw e refl; afterIs = rw e refl; replyIs = rw e refl }
 
     way-end : length (f .sectors) ≤ k → outputWord p f k ≡ 0
         → let slices : List ℕ = f .slices ++ appendSlices p f in
         Way 0 (extendedImage p image f (appendSlices p f)) (appendedImage p image f (appendSlices p f) (take 256 lent))
         (setArea state j (withLive (moved (areaAt state j) u (record { 0 = suc k })) (record { 0 = indexSector (p .F) (p .s) (length slices) slices }) (suc (length (f .sectors)))))
     unfolding preparedImage outputImage outputState
-    way-end x z = let e = le-ltb k (length (f .sectors)) x in record { before-is = rw (z, e) refl; after-is = rw (z, e) refl; reply-is = rw (z, e) refl }
+    way-end x z = let e = le-ltb k (length (f .sectors)) x in record { beforeIs = rw (z, e) refl; afterIs = rw (z, e) refl; replyIs = rw (z, e) refl }
 
 -- In the image and the state that are left before the block is stored, block k is a file's; with the lent words it gives Output's image.
 record Ready (image : List ℕ) (p : Plain) (f : File) (k j : ℕ) (before : List ℕ) (reply : AreaReply) : Type 0 where
@@ -184,10 +185,10 @@ module _ {image : List ℕ} {state : State} {o : Unit} {p q : Plain} {n j sender
 
       outcome : Left (outputReply p f state j u k) (outputImage p image f (outputWord p f k) k lent)
       outcome = below-or k (length (f .sectors))
-          (λ x. let w = way-below p f k image lent state j u x in rw (w .reply-is, w .after-is) (replaced x))
+          (λ x. let w = way-below p f k image lent state j u x in rw (w .replyIs, w .afterIs) (replaced x))
           (λ x. same-or (outputWord p f k) 0
-          (λ z. let w = way-end p f k image lent state j u x z in rw (w .reply-is, w .after-is) (appended x (appends p f k x z)))
-          (λ d. let w = way-refused p f k image lent state j u d in rw (w .reply-is, w .after-is, ne-eqb (outputWord p f k) 0 d) (refused x d)))
+          (λ z. let w = way-end p f k image lent state j u x z in rw (w .replyIs, w .afterIs) (appended x (appends p f k x z)))
+          (λ d. let w = way-refused p f k image lent state j u d in rw (w .replyIs, w .afterIs, ne-eqb (outputWord p f k) 0 d) (refused x d)))
 
       pub output-leaves : OutputLeaves image state p q n j sender u f k lent (outputReply p f state j u k) (outputImage p image f (outputWord p f k) k lent)
       unfolding Left
@@ -201,7 +202,7 @@ module _ {image : List ℕ} {state : State} {o : Unit} {p q : Plain} {n j sender
   ready-below : k < length (f .sectors) → Ready image p f k j image (areaReply (atPosition state j u (suc k)) 0 512 k)
   ready-below x = record {
     block = record { p = p; n = n; f = f; from = record { on = placed-on; file = at .seat .file; first = ap (λ (y : Area). y .index .0) (area-after _) ∙ placed-index; below = x } };
-    stored = λ lent long. sym (way-below p f k image lent state j u x .after-is);
+    stored = λ lent long. sym (way-below p f k image lent state j u x .afterIs);
   }
 
   ready-end : length (f .sectors) ≤ k → outputWord p f k ≡ 0 → (area : Area) → indexSector (p .F) (p .s) (length (f .slices ++ appendSlices p f)) (f .slices ++ appendSlices p f) ≡ area .index .0
@@ -230,13 +231,13 @@ module _ {image : List ℕ} {state : State} {o : Unit} {p q : Plain} {n j sender
         stored = λ lent long.
             ap (λ (b : ℕ). replacedImage p (extendedImage p image f (appendSlices p f)) more b (take 256 lent)) (sym end)
             ∙ appended-stored placed-on n (at .seat .file) placed-live ext room few (take 256 lent) (length-take-le 256 lent long)
-            ∙ sym (way-end p f k image lent state j u x z .after-is);
+            ∙ sym (way-end p f k image lent state j u x z .afterIs);
       }
 
   ready : outputWord p f k ≡ 0 → Ready image p f k j (preparedImage p image f k) (outputReply p f state j u k)
   ready z = below-or k (length (f .sectors))
-      (λ x. let w = way-below p f k image [] state j u x in rw (w .before-is, w .reply-is) (ready-below x))
-      (λ x. let w = way-end p f k image [] state j u x z in rw (w .before-is, w .reply-is) (ready-end x z _ refl))
+      (λ x. let w = way-below p f k image [] state j u x in rw (w .beforeIs, w .replyIs) (ready-below x))
+      (λ x. let w = way-end p f k image [] state j u x z in rw (w .beforeIs, w .replyIs) (ready-end x z _ refl))
 
 -- ---- what the functions ask
 
@@ -249,7 +250,7 @@ module _ {image : List ℕ} {state : State} {o : Unit} {j u k : ℕ} (some : Som
       let at = some .placed in
       let on = placed-on at in
       let l = on .good .limits in
-      (omega (arith, l .slice-low, at .numbers .slice), omega (arith, l .slices-high, at .numbers .slices), omega (arith, on .layout .size, l .first, l .some-data))
+      (omega (arith, l .sliceLow, at .numbers .slice), omega (arith, l .slicesHigh, at .numbers .slices), omega (arith, on .layout .size, l .first, l .someData))
 
   pub position-asks : (j < 8) × (k < 65535)
   position-asks =
@@ -287,7 +288,7 @@ module _ {image : List ℕ} {state : State} {o : Unit} {j u k : ℕ} {area : Are
         let at = some .placed in
         let on = placed-on at in
         let fits : sliceTotal (o .slice) words 0 < 65536 = rw (at .numbers .slice) (total-small on (some .n) (at .seat .file) (own-block at b)) in
-        (omega (arith, on .good .limits .slice-low, at .numbers .slice), fits, omega (arith, own-size at, length-small (some .p) (ground (some .p) (on .good)) (some .n) (some .f) (at .seat .file)))
+        (omega (arith, on .good .limits .sliceLow, at .numbers .slice), fits, omega (arith, own-size at, length-small (some .p) (ground (some .p) (on .good)) (some .n) (some .f) (at .seat .file)))
 
     pub block-there : k < area .length → SomeBlock image (area .index .0) k
     block-there x = record { p = some .p; n = some .n; f = some .f; from = own-from (some .placed) x }
@@ -298,7 +299,7 @@ module _ {image : List ℕ} {state : State} {o : Unit} {j u k : ℕ} {area : Are
   prepares-below x e = record {
     all = λ p q n sender f at.
         let w = way-below p f k image [] state j u (omega (arith, own-size at)) in
-        (e ∙ rw add-one (sym (w .reply-is)), sym (w .before-is));
+        (e ∙ rw add-one (sym (w .replyIs)), sym (w .beforeIs));
   }
 
   module _ (end : area .length ≤ k) {a : ℕ} (attributes : AttributesOf image o (packed (area .name)) a) where
@@ -341,7 +342,7 @@ module _ {image : List ℕ} {state : State} {o : Unit} {j u k : ℕ} {area : Are
               let first : index ≡ record { 0 = _ } = ap (λ (y : ℕ). record { 0 = y }) (w .1) in
               let size : area .length + 1 ≡ suc (length (f .sectors)) = omega (arith, own-size at) in
               let way = way-end p f k image [] state j u (at-end at) (sym (own-word at) ∙ yes) in
-              (rw (e, s, n, m, size, first, add-one k, own) (sym (way .reply-is)), w .0 ∙ sym (way .before-is));
+              (rw (e, s, n, m, size, first, add-one k, own) (sym (way .replyIs)), w .0 ∙ sym (way .beforeIs));
         }
 
 -- ---- the block stored
@@ -355,7 +356,7 @@ module _ {image : List ℕ} {state : State} {o : Unit} {j u k : ℕ} {reply : Ar
     all = λ p q n sender f at.
         let h = prepared .all p q n sender f at in
         let w = way-refused p f k image lent state j u (λ z. d (reply-word at ∙ z)) in
-        rw (h .0, h .1 ∙ w .before-is ∙ sym (w .after-is)) (output-leaves at lent long words);
+        rw (h .0, h .1 ∙ w .beforeIs ∙ sym (w .afterIs)) (output-leaves at lent long words);
   }
 
   module _ (yes : reply .answer .result ≡ 0) {area : Area} (own : area ≡ areaAt (reply .state) j) where

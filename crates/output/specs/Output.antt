@@ -23,12 +23,12 @@ use Rattle.plain.specs.Good.{Good}
 use Rattle.refine.specs.Represents.{Represents}
 use Rattle.refine.specs.OnDisc.{OnDisc}
 use Rattle.refine.specs.Writes.{replacedImage, appendedImage, extendedImage}
-use Rattle.unit.specs.Unit.{NumbersOf}
-use Rattle.sharing.specs.declared.AreaReply.{AreaReply}
-use Rattle.sharing.specs.Sharing.{atPosition, areaReply}
+use Rattle.lookup.specs.Unit.{NumbersOf}
+use Rattle.area_users.specs.declared.AreaReply.{AreaReply}
+use Rattle.area_users.specs.Sharing.{atPosition, areaReply}
 use Rattle.refine.specs.Leaves.{Leaves}
-use Rattle.sharing.specs.Seat.{Seat, areaUsers, areaUser}
-use Rattle.steps.specs.Units.{appendSlices}
+use Rattle.area_users.specs.Seat.{Seat, areaUsers, areaUser}
+use Rattle.preservation.specs.Units.{appendSlices}
 
 -- ---- appending
 

@@ -9,9 +9,9 @@ ghost use Rattle.disc.specs.Numbers.{need};
 ghost use Rattle.index.specs.Block.{sliceTotal};
 ghost use Rattle.plain.specs.Transput.{oneIf};
 ghost use Rattle.output.specs.Output.{RoomFor, CanExtend, ExtendedBy, SomePlaced, Prepares, Outputs};
+use area_users::AreaReply;
 use catalog::Unit;
 use index::IndexBlock;
-use sharing::AreaReply;
 use slices::Next;
 use types::Block;
 use types::Sector;
@@ -62,21 +62,21 @@ fn prepare(image: &mut [u16], unit: Unit, state: State, j: usize, u: usize, k: B
     let area = state::area_at(state, j);
     let length = area.length;
     if k.0 < length {
-        return sharing::transferred(state, j, u, k);
+        return area_users::transferred(state, j, u, k);
     }
     if !numbers::bit(15, blocks::attributes_of(image, unit, area.name)) {
-        return sharing::refused_at(state, j, u, 0x0A00, k);
+        return area_users::refused_at(state, j, u, 0x0A00, k);
     }
-    let block = unit::file_block(image, area.index);
+    let block = lookup::file_block(image, area.index);
     let more = more_slices(unit, block, length);
     let word = room_word(image, unit, block, more);
     if word != 0 {
-        return sharing::refused_at(state, j, u, word, k);
+        return area_users::refused_at(state, j, u, word, k);
     }
     let index = extend(image, unit, block, more);
     let moved = state::with_position(area, u, Block(k.0 + 1));
     let next = state::with_live(moved, index, length + 1);
-    sharing::reply(state::with_area(state, j, next), 0, 512, k)
+    area_users::reply(state::with_area(state, j, next), 0, 512, k)
 }
 
 // Output at position k by the user of entry u of area descriptor j.

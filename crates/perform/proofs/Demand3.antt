@@ -29,7 +29,7 @@ use Rattle.refine.proofs.SoundRepresents.{sound-represents}
 use Rattle.refine.proofs.SysStays.{sys-never-shrinks}
 use Rattle.map.proofs.CountLaws.{ones-free}
 use Rattle.refine.proofs.StateLaws.{same-none}
-use Rattle.known.specs.Known.{unknownWord, Known}
+use Rattle.first_question.specs.Known.{unknownWord, Known}
 use Rattle.perform.proofs.ObeyLaws.{known-no, known-yes}
 use Rattle.perform.specs.Perform.{Performs, unknown, unsound, obeyed}
 
@@ -83,7 +83,7 @@ pub one-call : {image : List ℕ} {state : State} {p : Plain} {message : Message
     → (record { answer = r .answer; lent = r .lent } ≡ reply (step p message lent)) × Standing (r .image) (r .state) (step p message lent .unit)
 one-call {image} {state} {p} {message} {lent} {r} s w (unknown unmet u) =
     let e = unknown-step s message lent unmet in
-    (rw (u .answered, u .same-lent) (sym (ap reply e)), rw (u .same-image, u .same-state, e) s)
+    (rw (u .answered, u .sameLent) (sym (ap reply e)), rw (u .sameImage, u .sameState, e) s)
 one-call {image} {state} {p} {message} {lent} {r} s w (unsound known unmet u) = absurd (unmet (sound-represents .sound image state p (s .good) (s .represents)))
 one-call {image} {state} {p} {message} {lent} {r} s w (obeyed known sound f) =
     let o = f p (s .good) (s .represents) in (
@@ -121,11 +121,11 @@ demand-3 = record {
         good = x .1;
         read = x .2;
         only = λ other g o. sound-represents .unique image state p other (x .1) g (x .2) o;
-        sum = omega (arith, ones-free (M q) (held q) end (l .1 .good .limits .slices-high) (r .layout .map) (r .words), adds .sum);
+        sum = omega (arith, ones-free (M q) (held q) end (l .1 .good .limits .slicesHigh) (r .layout .map) (r .words), adds .sum);
         once = adds .once;
         same = l .0;
         represented = r;
-        good-after = l .1 .good;
-        sys-stays = sys-never-shrinks (x .1) (x .2) (l .1 .good) r (never-shrinks calls p);
+        goodAfter = l .1 .good;
+        sysStays = sys-never-shrinks (x .1) (x .2) (l .1 .good) r (never-shrinks calls p);
       };
 }

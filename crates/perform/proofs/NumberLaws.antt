@@ -10,7 +10,7 @@ use Rattle.plain.specs.Good.{Good}
 use Rattle.soundness.specs.Judged.{NumbersBy}
 use Rattle.refine.specs.Represents.{Represents}
 use Rattle.refine.proofs.SoundRepresents.{represents-sound, represents-layers}
-use Rattle.unit.specs.Unit.{NumbersOf}
+use Rattle.lookup.specs.Unit.{NumbersOf}
 
 pub numbers-of : {image : List ℕ} {state : State} {p : Plain} {u : Unit} → Good p → Represents image state p
     → ((unit : SoundUnit image state) → NumbersBy image state unit u) → NumbersOf u p

@@ -27,9 +27,9 @@ use Rattle.state.specs.Areas.{initialized}
 use Rattle.refine.specs.Represents.{Represents}
 use Rattle.refine.specs.Replies.{Replies, refused, written}
 use Rattle.refine.proofs.StateLaws.{same-none}
-use Rattle.steps.proofs.Whole.{on-disc}
-use Rattle.unit.specs.Unit.{NumbersOf, MeantOn, Meant}
-use Rattle.unit.specs.LookUp.{LooksUp}
+use Rattle.preservation.proofs.Whole.{on-disc}
+use Rattle.lookup.specs.Unit.{NumbersOf, MeantOn, Meant}
+use Rattle.lookup.specs.LookUp.{LooksUp}
 use Rattle.refine.specs.Leaves.{Leaves}
 use Rattle.create.specs.Create.{CreateStep, Creates, SetStep, Sets}
 use Rattle.create.proofs.CreateSteps.{create-represents, set-represents}
@@ -43,9 +43,9 @@ use Rattle.areas.proofs.AreaUnits.{create-area-stepped, remove-area-stepped}
 use Rattle.reports.specs.Description.{Describes}
 use Rattle.reports.specs.Listing.{Lists}
 use Rattle.area_messages.specs.AreaMessages.{AreaMessages}
-use Rattle.sharing.specs.declared.AreaReply.{AreaReply}
+use Rattle.area_users.specs.declared.AreaReply.{AreaReply}
 use Rattle.perform.proofs.StateKept.{Kept, state-kept}
-use Rattle.known.specs.Known.{unitMeant, Known}
+use Rattle.first_question.specs.Known.{unitMeant, Known}
 use Rattle.perform.specs.Perform.{performed, Wrote, Obeyed, CanObey, Obeys}
 
 -- "Unit known": the number meant is the state's or not

@@ -17,9 +17,9 @@ use Rattle.types.specs.State.{areaAt}
 use Rattle.disc.specs.Entries.{indexSector}
 use Rattle.state.specs.Areas.{setArea, moved, withLive, released, reserved, entryOf}
 use Rattle.plain.specs.Transput.{isOutput}
-use Rattle.sharing.specs.Sharing.{atPosition, positionReached}
+use Rattle.area_users.specs.Sharing.{atPosition, positionReached}
 use Rattle.plain.specs.Unit.{Plain, File}
-use Rattle.steps.specs.Units.{appendSlices}
+use Rattle.preservation.specs.Units.{appendSlices}
 use Rattle.output.specs.Output.{outputState}
 use Rattle.transput.specs.Transput.{inputState, transputState}
 use Rattle.area_messages.specs.AreaMessages.{reserveWord, userState, operationState, admitted, messageState}

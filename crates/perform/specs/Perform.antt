@@ -17,20 +17,20 @@ use Rattle.sound.specs.Sound.{SoundUnit}
 use Rattle.catalog.specs.declared.Unit.{Unit}
 use Rattle.refine.specs.Represents.{Represents}
 use Rattle.refine.specs.Demands.{Performed}
-use Rattle.unit.specs.Unit.{NumbersOf, Represented}
+use Rattle.lookup.specs.Unit.{NumbersOf, Represented}
 use Rattle.create.specs.Create.{CreateStep, SetStep}
 use Rattle.change.specs.Change.{ChangeStep}
 use Rattle.remove.specs.Remove.{RemoveStep}
 use Rattle.areas.specs.Areas.{CreateAreaStep, RemoveAreaStep}
 use Rattle.area_messages.specs.AreaMessages.{AreaLeaves}
-use Rattle.known.specs.Known.{unknownWord, unsoundWord, Known}
+use Rattle.first_question.specs.Known.{unknownWord, unsoundWord, Known}
 
 -- "The first no decides; nothing changes, returned byte counts are 0".
 pub record Untouched (word : ℕ) (image : List ℕ) (state : State) (lent : List ℕ) (r : Performed) : Type 0 where
   pub answered : r .answer ≡ answer word 0 0 0
-  pub same-image : r .image ≡ image
-  pub same-state : r .state ≡ state
-  pub same-lent : r .lent ≡ lent
+  pub sameImage : r .image ≡ image
+  pub sameState : r .state ≡ state
+  pub sameLent : r .lent ≡ lent
 
 -- Image and state as the call left them, with its answer and lent words.
 abbrev pub performed : List ℕ → State → Answer → List ℕ → Performed

@@ -3,9 +3,9 @@
 ghost use mathlib.Core.Path.{_≡_};
 ghost use Rattle.plain.specs.Questions.{answer};
 ghost use Rattle.perform.specs.Perform.{performed, CanObey, Obeys, Performs};
+use area_users::AreaReply;
 use areas::AreaDone;
 use catalog::Unit;
-use sharing::AreaReply;
 use soundness::Judged;
 use types::Answer;
 use types::Block;
@@ -75,7 +75,7 @@ fn obey(image: &mut [u16], unit: Unit, state: State, message: Message, lent: &mu
             size,
             attributes,
         } => { word_alone(create::create(image, unit, name, size, attributes), state) }
-        Message::LookUp { name } => word_alone(unit::look_up(image, unit, name, lent), state),
+        Message::LookUp { name } => word_alone(lookup::look_up(image, unit, name, lent), state),
         Message::Change { name } => word_alone(
             change::change(image, unit, state, name, lent),
             state,
@@ -109,11 +109,11 @@ pub fn perform(image: &mut [u16], state: State, message: Message, lent: &mut [u1
     ensures { λ r. ⌜ Performs (now (image .entry)) state message (now (lent .entry))
         (performed (now (image .exit)) (r .state) (r .answer) (now (lent .exit))) ⌝ }
 {
-    if !known::known(state, message) {
-        return word_alone(known::unknown_word(message), state);
+    if !first_question::known(state, message) {
+        return word_alone(first_question::unknown_word(message), state);
     }
     let Judged::Sound(unit) = soundness::judge(image, state) else {
-        return word_alone(known::unsound_word(message), state);
+        return word_alone(first_question::unsound_word(message), state);
     };
     obey(image, unit, state, message, lent)
 }

@@ -112,7 +112,7 @@ module _ (p : Plain) (layers : ℕ) where
     pub grown-good : p .layers ≤ layers → stretchCount (p .sys ++ sysTaken p layers) ≤ 127 → Good (grownTo p layers)
     grown-good up few = record {
       limits = g .limits;
-      catalog = takes-good p (g .catalog) layers (omega (arith, g .limits .slice-low)) up few;
+      catalog = takes-good p (g .catalog) layers (omega (arith, g .limits .sliceLow)) up few;
       sysFirst = first-append (p .sys) (sysTaken p layers) (g .sysFirst);
       once = λ k. omega (arith, taken-once p (sysOf p) layers (g .once) room k, held-grown k);
       areaNames = g .areaNames;

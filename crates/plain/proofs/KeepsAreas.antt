@@ -40,7 +40,7 @@ area-beside a f e le = record {
   roles = a .roles;
   each = λ sender u h.
       let b = a .each sender u h in
-      record { opens-low = b .opens-low; opens-high = b .opens-high; inside = omega (arith, b .inside) };
+      record { opensLow = b .opensLow; opensHigh = b .opensHigh; inside = omega (arith, b .inside) };
 }
 
 -- ---- another file in the place of one
@@ -217,7 +217,7 @@ module _ (p : Plain) (n sender : ℕ) (users : Table AreaUser) (g : Good p) (e :
   -- ---- Release
 
   release-good : (u : AreaUser) → tableFind sender users ≡ some u → Good (withAreas p (tablePut n (released sender (u .opens) u users) (p .areas)))
-  release-good u w = go (u .opens) (b .opens-high)
+  release-good u w = go (u .opens) (b .opensHigh)
     where
       b : GoodUser (length (open-area .file .sectors)) u
       b = open-area .each sender u w
@@ -225,7 +225,7 @@ module _ (p : Plain) (n sender : ℕ) (users : Table AreaUser) (g : Good p) (e :
       go : (opens : ℕ) → opens ≤ 65535 → Good (withAreas p (tablePut n (released sender opens u users) (p .areas)))
       go zero le = user-remove-good
       go (suc zero) le = user-remove-good
-      go (suc (suc k)) le = user-change-good u _ w refl (record { opens-low = omega arith; opens-high = omega arith; inside = b .inside })
+      go (suc (suc k)) le = user-change-good u _ w refl (record { opensLow = omega arith; opensHigh = omega arith; inside = b .inside })
 
   pub release-keeps : (u : AreaUser) (lent : List ℕ) → tableFind sender users ≡ some u → Keeps (stepRelease p n sender users u lent)
   unfolding stepRelease
@@ -245,12 +245,12 @@ module _ (p : Plain) (n sender : ℕ) (users : Table AreaUser) (g : Good p) (e :
       go : (o : Option AreaUser) → tableFind sender users ≡ o → T (isSome o || ltb (length users) 3) → T (ltb (opensOf o) 65535)
           → Good (withAreas p (tablePut n (tablePut sender (opened count o) users) (p .areas)))
       go none w t v =
-          user-put-good (opened count none) positive (record { opens-low = omega arith; opens-high = omega arith; inside = omega arith })
+          user-put-good (opened count none) positive (record { opensLow = omega arith; opensHigh = omega arith; inside = omega arith })
           (omega (arith, length-put-new sender (opened count none) users, ltb→lt (length users) 3 t))
           (roles-raised sender count users Sharing (opened count none) refl (a .roles) q₁ q₂ q₃ (λ y. absurd (omega arith)) (λ y. absurd (omega arith)))
       go (some u) w t v =
           let b = a .each sender u w in
-          user-put-good (opened count (some u)) positive (record { opens-low = omega arith; opens-high = omega (arith, ltb→lt (u .opens) 65535 v); inside = b .inside })
+          user-put-good (opened count (some u)) positive (record { opensLow = omega arith; opensHigh = omega (arith, ltb→lt (u .opens) 65535 v); inside = b .inside })
           (omega (arith, length-put-old sender (opened count (some u)) u users w, a .three))
           (roles-raised sender count users (u .role) (opened count (some u)) refl (a .roles) q₁ q₂ q₃
           (λ y. omega (arith, users-found isWriter sender u users w, a .roles .oneWriter))
@@ -277,7 +277,7 @@ module _ (p : Plain) (n sender : ℕ) (users : Table AreaUser) (g : Good p) (e :
   move-good u f k w h le =
       let b = open-area .each sender u w in
       let z : f ≡ open-area .file = some-inj (sym h ∙ open-area .entered) in
-      user-change-good u (atPosition u k) w refl (record { opens-low = b .opens-low; opens-high = b .opens-high; inside = rw (← z) le })
+      user-change-good u (atPosition u k) w refl (record { opensLow = b .opensLow; opensHigh = b .opensHigh; inside = rw (← z) le })
 
   pub position-keeps : (u : AreaUser) (f : File) (block : ℕ) (lent : List ℕ) → tableFind sender users ≡ some u → tableFind n (p .files) ≡ some f
       → Keeps (stepPosition p n sender users u f block lent)

@@ -148,7 +148,7 @@ module _ {p : Plain} (g : Good p) (n : ℕ) {f : File} (found : tableFind n (p .
       rewrite-good (f .slices ++ new-slices) (f .sectors ++ (words ∷ [])) (record {
         entryOnly = extendable-legal (f .attributes) (length (f .slices ++ new-slices)) (old .attributes) ext;
         words = each-append (WordsOf 256) [] (f .sectors) (words ∷ []) (old .sectors) (each-one (WordsOf 256) [] words ok);
-        covered = rw (sectors, slices) (slices-suffice (p .s) f (g .limits .slice-low) (old .covered));
+        covered = rw (sectors, slices) (slices-suffice (p .s) f (g .limits .sliceLow) (old .covered));
         few = few;
         longer = omega arith;
         more = omega arith;

@@ -9,8 +9,8 @@ plain-claims = record {
   keeps = step-keeps;
   adds = λ calls p g w. let after-good = list-keeps calls p g w in (after-good, good-adds (after p calls) after-good);
   refuses = refuses;
-  never-shrinks = never-shrinks;
-  no-more-entry-only = no-more-entry-only;
-  never-unsound = never-unsound;
-  never-unsound-after = never-unsound-after;
+  neverShrinks = never-shrinks;
+  noMoreEntryOnly = no-more-entry-only;
+  neverUnsound = never-unsound;
+  neverUnsoundAfter = never-unsound-after;
 }

@@ -37,7 +37,7 @@ use Rattle.plain.proofs.GrowUnit.{sysTaken}
 -- What the unit q after any answer keeps of p.
 record Kept (p q : Plain) : Type 0 where
   sys : NeverShrinks p q
-  entry-only : NoMoreEntryOnly p q
+  entryOnly : NoMoreEntryOnly p q
 
 -- a file h, with the attributes a only where that of the name n had them, in its place or instead of it under the name m
 module _ (a n : ℕ) (h : File) (files : Table File) (most : oneIf (eqb (h .attributes) a) ≤ weightAt (hasAttributes a) n (tableFind n files)) where
@@ -51,7 +51,7 @@ module _ {p : Plain} where
   -- where layers and SYS's slices stay
   other-files : {files : Table File} {areas : Table (Table AreaUser)} → ((a : ℕ) → T (entryOnly a) → total (hasAttributes a) files ≤ filesWith a p)
       → Kept p (withTables p (p .layers) (p .sys) files areas)
-  other-files fewer = record { sys = record { keys = refl; layers = omega arith; new = []; slices = sym (append-nil (p .sys)) }; entry-only = fewer }
+  other-files fewer = record { sys = record { keys = refl; layers = omega arith; new = []; slices = sym (append-nil (p .sys)) }; entryOnly = fewer }
 
   -- where the files stay too, or one has another length, slices or sectors
   same-sys : {areas : Table (Table AreaUser)} → Kept p (withAreas p areas)
@@ -64,7 +64,7 @@ module _ {p : Plain} where
   -- where SYS has taken its slices for more layers
   more-sys : {layers : ℕ} {files : Table File} {areas : Table (Table AreaUser)} → p .layers ≤ layers → ((a : ℕ) → T (entryOnly a) → total (hasAttributes a) files ≤ filesWith a p)
       → Kept p (withTables p layers (p .sys ++ sysTaken p layers) files areas)
-  more-sys {layers} up fewer = record { sys = record { keys = refl; layers = up; new = sysTaken p layers; slices = refl }; entry-only = fewer }
+  more-sys {layers} up fewer = record { sys = record { keys = refl; layers = up; new = sysTaken p layers; slices = refl }; entryOnly = fewer }
 
   left-kept : {message : Message} {q : Plain} → Left p message q → Kept p q
   left-kept everything = same-sys
@@ -292,4 +292,4 @@ pub no-more-entry-only : (calls : List Call) (p : Plain) → NoMoreEntryOnly p (
 no-more-entry-only [] p a t = omega arith
 no-more-entry-only (c ∷ calls) p a t =
     let q : Plain = step p (c .message) (c .lent) .unit in
-    omega (arith, stays p (c .message) (c .lent) .kept .entry-only a t, no-more-entry-only calls q a t)
+    omega (arith, stays p (c .message) (c .lent) .kept .entryOnly a t, no-more-entry-only calls q a t)

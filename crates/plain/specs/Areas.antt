@@ -9,9 +9,10 @@ use Rattle.types.specs.declared.Name.{Name}
 use Rattle.types.specs.declared.Role.{Role}
 use Rattle.types.specs.declared.Role.the-variants.{Sharing, ExclusiveWriter, ExclusiveUser}
 use Rattle.disc.specs.Numbers.{negative}
-use Rattle.disc.specs.Names.{named, unitIn, isSystem}
+use Rattle.disc.specs.Names.{named, unitIn}
+use Rattle.disc.specs.Catalog.{isReserved}
 use Rattle.plain.specs.Table.{Row, Table, tableFind, tablePut, tableRemove, total, isSome}
-use Rattle.plain.specs.Unit.{Plain, File, AreaUser, entry, withTables, withAreas}
+use Rattle.plain.specs.Unit.{Plain, File, AreaUser, sysOf, entry, withTables, withAreas}
 use Rattle.plain.specs.Questions.{Outcome, asks, given, replies, done, known}
 
 -- "Create area: dummy if open." "Entered? 4800h; not SYS or MAP? 0A00h; already open, or one of eight vacant? 0900h."
@@ -20,7 +21,7 @@ stepCreateArea p name lent =
     let n : ℕ = named name in
     asks (known p (unitIn name)) (replies p 0x0A00 lent)
     (asks (isSome (entry p n)) (replies p 0x4800 lent)
-    (asks (not (isSystem n)) (replies p 0x0A00 lent)
+    (asks (not (isReserved (sysOf p) n)) (replies p 0x0A00 lent)
     (asks (not (isSome (tableFind n (p .areas)))) (done p lent)
     (asks (ltb (length (p .areas)) 8) (replies p 0x0900 lent)
     (done (withAreas p (tablePut n [] (p .areas))) lent)))))
@@ -43,7 +44,7 @@ abbrev pub stepRemoveArea : Plain → Name → List ℕ → Outcome
 stepRemoveArea p name lent =
     let n : ℕ = named name in
     asks (known p (unitIn name)) (replies p 0x0A00 lent)
-    (asks (not (isSystem n)) (replies p 0x0A00 lent)
+    (asks (not (isReserved (sysOf p) n)) (replies p 0x0A00 lent)
     (given (tableFind n (p .areas)) (done p lent) λ users.
     asks (eqb (length users) 0) (done p lent)
     (given (tableFind n (p .files)) (done p lent) λ f.

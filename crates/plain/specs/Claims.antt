@@ -97,7 +97,7 @@ pub record PlainClaims : Type 0 where
   pub adds : (calls : List Call) (p : Plain) → Good p → LentWords calls → Good (after p calls) × Adds (after p calls)
   pub refuses : (p : Plain) (message : Message) (lent : List ℕ) → step p message lent .answer .result ≢ 0
       → Refused p message lent (step p message lent)
-  pub never-shrinks : (calls : List Call) (p : Plain) → NeverShrinks p (after p calls)
-  pub no-more-entry-only : (calls : List Call) (p : Plain) → NoMoreEntryOnly p (after p calls)
-  pub never-unsound : (p : Plain) (message : Message) (lent : List ℕ) → NeverUnsound (step p message lent .answer .result)
-  pub never-unsound-after : (calls : List Call) (p : Plain) → EachNeverUnsound (answers p calls)
+  pub neverShrinks : (calls : List Call) (p : Plain) → NeverShrinks p (after p calls)
+  pub noMoreEntryOnly : (calls : List Call) (p : Plain) → NoMoreEntryOnly p (after p calls)
+  pub neverUnsound : (p : Plain) (message : Message) (lent : List ℕ) → NeverUnsound (step p message lent .answer .result)
+  pub neverUnsoundAfter : (calls : List Call) (p : Plain) → EachNeverUnsound (answers p calls)

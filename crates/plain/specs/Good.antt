@@ -50,8 +50,8 @@ pub record GoodRoles (users : Table AreaUser) : Type 0 where
 
 -- "Open counts 1 to 65,535, positions 0 to the live length."
 pub record GoodUser (len : ℕ) (u : AreaUser) : Type 0 where
-  pub opens-low : 1 ≤ u .opens
-  pub opens-high : u .opens ≤ 65535
+  pub opensLow : 1 ≤ u .opens
+  pub opensHigh : u .opens ≤ 65535
   pub inside : u .position ≤ len
 
 -- "The state's area names are distinct and entered, no SYS or MAP, users distinct and not 0", three at most.

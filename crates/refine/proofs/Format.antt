@@ -53,17 +53,17 @@ module _ (H s F N : ℕ) (lim : Limits H s F N) where
 
   -- SYS has some slices
   pub some-slices : 1 ≤ c
-  some-slices = omega (arith, ceilDiv-some H s (omega (arith, lim .slice-low)) (lim .keys-low))
+  some-slices = omega (arith, ceilDiv-some H s (omega (arith, lim .sliceLow)) (lim .keysLow))
 
   pub length-sys : length (sysSlices H s) ≡ c
   length-sys = length-span 1 c
 
   -- and room for its H sectors
   pub sys-room : H ≤ s * c
-  sys-room = omega (arith, ceil-cover s H c (omega (arith, lim .slice-low)) (omega arith))
+  sys-room = omega (arith, ceil-cover s H c (omega (arith, lim .sliceLow)) (omega arith))
 
   pub fresh-once : InRangeOnce m (sysSlices H s)
-  fresh-once = span-once m c (lim .slices-low)
+  fresh-once = span-once m c (lim .slicesLow)
 
   -- the slices that SYS does not have are free
   pub free-slices : freeCount m (sysSlices H s) + c ≡ m
@@ -74,7 +74,7 @@ module _ (H s F N : ℕ) (lim : Limits H s F N) where
   data-sectors = mul-div-le (N - F) s
 
   pub sys-sectors : s * c ≤ N - F
-  sys-sectors = omega (arith, data-sectors, mul-le-mul-left s (lim .slices-low))
+  sys-sectors = omega (arith, data-sectors, mul-le-mul-left s (lim .slicesLow))
 
   pub free-sectors : freshFree H s F N ≤ N - F
   free-sectors =
@@ -82,7 +82,7 @@ module _ (H s F N : ℕ) (lim : Limits H s F N) where
 
   -- SYS's sectors lie in the image
   pub sys-end : F + H ≤ N
-  sys-end = omega (arith, sys-room, sys-sectors, lim .some-data)
+  sys-end = omega (arith, sys-room, sys-sectors, lim .someData)
 
   first-one : (n : ℕ) → 1 ≤ n → firstOf (span 1 n) ≡ 1
   first-one zero h = absurd (omega arith)
@@ -141,7 +141,7 @@ module _ (image : List ℕ) (unit H s F N k6 k7 : ℕ) (lim : Limits H s F N) (s
   place-index : (l : List ℕ) (t w : ℕ) → t < count → P l t w ≡ getD l (start + 16 * t + w) 0
   place-index l t w x =
       let q : sectorIn F s (sysSlices H s) (t / 16 + sysFrom) ≡ F + t / 16 =
-      sector-of-span F s 1 (ceilDiv H s) (t / 16 + sysFrom) (omega (arith, lim .slice-low)) (omega arith) (omega (arith, sys-room H s F N lim)) ∙ omega arith in
+      sector-of-span F s 1 (ceilDiv H s) (t / 16 + sysFrom) (omega (arith, lim .sliceLow)) (omega arith) (omega (arith, sys-room H s F N lim)) ∙ omega arith in
       let e : (F + t / 16) * 256 + (t % 16 * 16 + w) ≡ start + 16 * t + w = omega arith in
       ap (λ (r : ℕ). word l r (t % 16 * 16 + w)) q ∙ ap (λ (i : ℕ). getD l i 0) e
 
@@ -207,10 +207,10 @@ module _ (image : List ℕ) (unit H s F N k6 k7 : ℕ) (lim : Limits H s F N) (s
   mapT = mapAt image H s F N k6 k7
 
   sys-inside : sysT < count
-  sys-inside = omega (arith, key-lt H SYS (lim .keys-low))
+  sys-inside = omega (arith, key-lt H SYS (lim .keysLow))
 
   map-inside : mapT < count
-  map-inside = omega (arith, key-lt H MAP (lim .keys-low), map-place image H s F N k6 k7)
+  map-inside = omega (arith, key-lt H MAP (lim .keysLow), map-place image H s F N k6 k7)
 
   -- the sector of a key below H
   key-of : (t k : ℕ) → t / 16 ≡ k → k < H → t / 16 % H ≡ k
@@ -223,7 +223,7 @@ module _ (image : List ℕ) (unit H s F N k6 k7 : ℕ) (lim : Limits H s F N) (s
   sys-entered = catalog-put no-entries (record { name = λ n e h. absurd (some≢none (sym h)); zero = refl }) (P first) onlySys SYS sysT sys-inside
       (put-off blank sysT sysE refl sys-inside) not-sys
       sysE sys-only refl (omega arith) (put-in blank sysT sysE refl sys-inside (length-cleared image H s F N k6 k7))
-      (key-of sysT (keyOf H SYS) (omega arith) (key-lt H SYS (lim .keys-low)))
+      (key-of sysT (keyOf H SYS) (omega arith) (key-lt H SYS (lim .keysLow)))
       (λ t x e. absurd (absent no-entries SYS refl (omega arith) t x e)) (λ q. name-zero (P blank) sysT (clear sysT sys-inside))
 
   -- MAP's place is another one
@@ -253,7 +253,7 @@ module _ (image : List ℕ) (unit H s F N k6 k7 : ℕ) (lim : Limits H s F N) (s
   map-entered = catalog-put sys-entered named-sys (P last) (entry p) MAP mapT map-inside
       (put-off first mapT mapEntry refl map-inside) entry-not-map
       mapEntry (entry-map p) refl (omega arith) (put-in first mapT mapEntry refl map-inside (length-with-sys image H s F N k6 k7))
-      (key-of mapT (keyOf H MAP) (omega (arith, map-place image H s F N k6 k7)) (key-lt H MAP (lim .keys-low)))
+      (key-of mapT (keyOf H MAP) (omega (arith, map-place image H s F N k6 k7)) (key-lt H MAP (lim .keysLow)))
       (λ t x e. absurd (absent sys-entered MAP (not-sys MAP (omega arith)) (omega arith) t x e)) (λ q. name-zero (P first) mapT map-unused)
 
   -- ---- the layout
@@ -262,14 +262,14 @@ module _ (image : List ℕ) (unit H s F N k6 k7 : ℕ) (lim : Limits H s F N) (s
   image′ = formatted image H s F N k6 k7
 
   long : 2560 ≤ length image
-  long = omega (arith, lim .first, lim .some-data)
+  long = omega (arith, lim .first, lim .someData)
 
   sys-held : held p ≡ sysSlices H s
   sys-held = append-nil (sysSlices H s)
 
   fresh-kit : Kit image′ H s N (freeSectors p) F
   fresh-kit =
-      let k = formatted-8 image H s F N k6 k7 (lim .keys-low) (lim .first) long in record {
+      let k = formatted-8 image H s F N k6 k7 (lim .keysLow) (lim .first) long in record {
         keys = k .at 0 (omega arith) (omega arith);
         slice = k .at 1 (omega arith) (omega arith);
         sectors = k .at 2 (omega arith) (omega arith);
@@ -282,7 +282,7 @@ module _ (image : List ℕ) (unit H s F N k6 k7 : ℕ) (lim : Limits H s F N) (s
   fresh-map k a b =
       omega (
         arith,
-        map-of-words image′ (M p) (sysSlices H s) (fresh-once H s F N lim) (formatted-map image H s F N k6 k7 (lim .keys-low) (lim .first) long) k a b,
+        map-of-words image′ (M p) (sysSlices H s) (fresh-once H s F N lim) (formatted-map image H s F N k6 k7 (lim .keysLow) (lim .first) long) k a b,
         ap (occurrences k) sys-held,
       )
 
@@ -297,8 +297,8 @@ module _ (image : List ℕ) (unit H s F N k6 k7 : ℕ) (lim : Limits H s F N) (s
     size = length-formatted image H s F N k6 k7 ∙ size;
     kit = fresh-kit;
     map = fresh-map;
-    sys = record { index = rw fresh-index (formatted-6 image H s F N k6 k7 (lim .keys-low) (lim .first) long); places = rw (formatted-stores image H s F N k6 k7) map-entered };
-    mapIndex = formatted-7 image H s F N k6 k7 (lim .keys-low) (lim .first) long;
+    sys = record { index = rw fresh-index (formatted-6 image H s F N k6 k7 (lim .keysLow) (lim .first) long); places = rw (formatted-stores image H s F N k6 k7) map-entered };
+    mapIndex = formatted-7 image H s F N k6 k7 (lim .keysLow) (lim .first) long;
     files = λ n f h. absurd (some≢none (sym h));
   }
 
@@ -307,7 +307,7 @@ module _ (image : List ℕ) (unit H s F N k6 k7 : ℕ) (lim : Limits H s F N) (s
   fresh-words : Words image → k6 < 65536 → k7 < 65536 → Words image′
   fresh-words w a b =
       let n = lim .sectors in
-      let f = lim .some-data in
+      let f = lim .someData in
       let sysSize : s * ceilDiv H s < 65536 = omega (arith, sys-sectors H s F N lim) in
       let zeros : (l : List ℕ) → Words l → Words (0 ∷ 0 ∷ 0 ∷ l) = λ l x. words-cons 0 _ (omega arith) (words-cons 0 _ (omega arith) (words-cons 0 l (omega arith) x)) in
       let entry : (x y z len index reserved : ℕ) → x < 65536 → y < 65536 → z < 65536 → len < 65536 → index < 65536 → reserved < 65536
@@ -317,10 +317,10 @@ module _ (image : List ℕ) (unit H s F N k6 k7 : ℕ) (lim : Limits H s F N) (s
       (words-cons len _ hl (words-cons index _ hi (words-cons reserved _ hr (zeros _ (zeros _ words-none))))))))) in
       words-formatted image H s F N k6 k7 w
       (words-cons 1 _ (omega arith) (words-cons (s * ceilDiv H s) _ sysSize (words-cons F _ (omega arith) words-none)))
-      (words-cons H _ (omega (arith, lim .keys-high)) (words-cons s _ (omega (arith, lim .slice-high)) (words-cons N _ (omega arith)
+      (words-cons H _ (omega (arith, lim .keysHigh)) (words-cons s _ (omega (arith, lim .sliceHigh)) (words-cons N _ (omega arith)
       (words-cons (freshFree H s F N) _ (omega (arith, free-sectors H s F N lim)) (words-cons F _ (omega arith) (words-cons N _ (omega arith)
       (words-cons k6 _ a (words-cons k7 _ b words-none))))))))
-      (entry 0x5359 0x5300 0 (H * 1) 6 (s * length (sysSlices H s)) (omega arith) (omega arith) (omega arith) (omega (arith, lim .keys-high)) (omega arith)
+      (entry 0x5359 0x5300 0 (H * 1) 6 (s * length (sysSlices H s)) (omega arith) (omega arith) (omega arith) (omega (arith, lim .keysHigh)) (omega arith)
       (omega (arith, ap (λ (x : ℕ). s * x) (length-sys H s F N lim))))
       (entry 0x4D41 0x5000 0 1 7 1 (omega arith) (omega arith) (omega arith) (omega arith) (omega arith) (omega arith))
 

@@ -41,7 +41,7 @@ ground p g = record {
   limits = g .limits;
   once = g .once;
   names = g .catalog .names;
-  sysCover = omega (arith, catalog-cover (g .catalog) (omega (arith, g .limits .slice-low)));
+  sysCover = omega (arith, catalog-cover (g .catalog) (omega (arith, g .limits .sliceLow)));
   cover = λ n f h. g .catalog .files n f h .covered;
 }
 
@@ -68,11 +68,11 @@ module _ (p : Plain) (g : Good p) (n : ℕ) (e : List ℕ) (entered : entry p n 
 
 module _ (p : Plain) (g : Ground p) where
   pub positive : 0 < p .s
-  positive = omega (arith, g .limits .slice-low)
+  positive = omega (arith, g .limits .sliceLow)
 
   -- the data sectors end at N
   pub top : p .F + M p * p .s ≤ p .N
-  top = omega (arith, div-mul-le-self (p .N - p .F) (p .s), g .limits .some-data)
+  top = omega (arith, div-mul-le-self (p .N - p .F) (p .s), g .limits .someData)
 
   pub part-file : (m : ℕ) (a : File) → tableFind m (p .files) ≡ some a → (k : ℕ) → occurrences k (a .slices) ≤ occurrences k (held p)
   part-file m a e k = omega (arith, occurrences-held k (p .sys) (p .files), total-one (holds k) m a (p .files) e)

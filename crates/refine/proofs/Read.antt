@@ -62,7 +62,7 @@ module _ {image : List ℕ} {state : State} {H s F N layers : ℕ} {sys : List �
   -- ---- map and slices
 
   pos : 0 < s
-  pos = omega (arith, so .limits .slice-low)
+  pos = omega (arith, so .limits .sliceLow)
 
   held-same : (k : ℕ) → occurrences k (held readUnit) ≡ occurrences k (allSlices image state H s F c)
   held-same k =
@@ -159,8 +159,8 @@ module _ {image : List ℕ} {state : State} {H s F N layers : ℕ} {sys : List �
         sectors = sector-words n f h;
         covered = covered n f h;
         few = rw (← read) (few-from image F s (indexOf state P t) (sf .legal .index));
-        bookedLow = rw (← read) (rw len (sh .length-low));
-        bookedSlicesLow = rw (← read) (sh .slices-low);
+        bookedLow = rw (← read) (rw len (sh .lengthLow));
+        bookedSlicesLow = rw (← read) (sh .slicesLow);
         bookedCovered = rw (← read) (sh .covered);
         closed = λ e.
             let c = sh .closed (ap (openArea state) (w .name) ∙ not-open image state H s F c (so .catalog .entries) (so .shaped) (so .areas) n e) in
@@ -171,7 +171,7 @@ module _ {image : List ℕ} {state : State} {H s F N layers : ℕ} {sys : List �
 
   read-kit : Kit image H s N (freeSectors readUnit) F
   read-kit =
-      let ones : onesInMap image ≡ freeSlices readUnit = ones-free (M readUnit) (held readUnit) image (so .limits .slices-high) read-map (so .words) in
+      let ones : onesInMap image ≡ freeSlices readUnit = ones-free (M readUnit) (held readUnit) image (so .limits .slicesHigh) read-map (so .words) in
       rw ones at (so .kit)
 
   read-good : Good readUnit

@@ -117,8 +117,8 @@ module _ (image : List ℕ) (state : State) (F s : ℕ) (P : ℕ → ℕ → ℕ
   pub record Shown (t : ℕ) : Type 0 where
     pub reserved : s * (P t 9 / s) ≡ P t 9
     pub index : indexSector F s (P t 9 / s) (slicesOf image state F s P t) ≡ P t 8
-    pub length-low : P t 7 ≤ lengthOf state P t
-    pub slices-low : P t 9 / s ≤ length (slicesOf image state F s P t)
+    pub lengthLow : P t 7 ≤ lengthOf state P t
+    pub slicesLow : P t 9 / s ≤ length (slicesOf image state F s P t)
     pub covered : need s (P t 7) ≤ P t 9 / s
     pub closed : openArea state (nameAt P t) ≡ none → (P t 7 ≡ lengthOf state P t) × (P t 9 / s ≡ length (slicesOf image state F s P t))
 
@@ -136,8 +136,8 @@ module _ (image : List ℕ) (state : State) (F s : ℕ) (P : ℕ → ℕ → ℕ
         record {
           reserved = ap (λ (x : ℕ). s * x) n ∙ sym r;
           index = ap (λ (x : ℕ). indexSector F s x slices) n ∙ index-from image F s (indexOf state P t) own ∙ i;
-          length-low = omega arith;
-          slices-low = omega arith;
+          lengthLow = omega arith;
+          slicesLow = omega arith;
           covered = rw (← l, n) (sf .legal .covered);
           closed = λ h. (sym l, n);
         }
@@ -149,9 +149,9 @@ module _ (image : List ℕ) (state : State) (F s : ℕ) (P : ℕ → ℕ → ℕ
         let n : P t 9 / s ≡ b .slices = div-eq-of-eq-mul-right pos (b .sectors) in
         record {
           reserved = ap (λ (x : ℕ). s * x) n ∙ sym (b .sectors);
-          index = ap (λ (x : ℕ). indexSector F s x slices) n ∙ index-booked image F s (b .slices) (indexOf state P t) own (b .slices-low) ∙ sym (b .at);
-          length-low = b .length-low;
-          slices-low = omega (arith, b .slices-low);
+          index = ap (λ (x : ℕ). indexSector F s x slices) n ∙ index-booked image F s (b .slices) (indexOf state P t) own (b .slicesLow) ∙ sym (b .at);
+          lengthLow = b .lengthLow;
+          slicesLow = omega (arith, b .slicesLow);
           covered = rw n (b .covered);
           closed = λ h. absurd (let z : _≡_ {A = ℕ} 0 1 = cc in omega arith);
         }

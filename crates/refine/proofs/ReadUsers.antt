@@ -126,7 +126,7 @@ module _ (a : Area) (three : length (a .users) ≡ 3) (ok : LegalUsers a) where
       let x = user-there (a .users) sender v e in
       let inside : x .entry < 3 = omega (arith, x .inside) in
       rw (← x .is) (record {
-        opens-low = ok .opens-low (x .entry) inside (x .taken);
-        opens-high = ok .opens-high (x .entry) inside (x .taken);
+        opensLow = ok .opensLow (x .entry) inside (x .taken);
+        opensHigh = ok .opensHigh (x .entry) inside (x .taken);
         inside = ok .inside (x .entry) inside (x .taken);
       })

@@ -21,7 +21,8 @@ use Rattle.plain.specs.Table.{Table, tableFind, tablePut, SortedFrom, isSome}
 use Rattle.plain.specs.Unit.{Plain, File, AreaUser, withAreas}
 use Rattle.plain.proofs.TableLaws.{find-put, find-put-other, some-inj, some≢none}
 use Rattle.state.specs.declared.Found.the-variants.{At, Absent}
-use Rattle.state.specs.Areas.{countOf, isVacant, isNamed, areaNamed, vacantAreaOf, packed, setArea, areaClosed}
+use Rattle.disc.specs.Names.{packed}
+use Rattle.state.specs.Areas.{countOf, isVacant, isNamed, areaNamed, vacantAreaOf, setArea, areaClosed}
 use Rattle.state.proofs.SearchLaws.{first-at, first-nowhere, firstThat, that-at, that-nowhere, that-set, that-set-other, that-set-none, count-none, none-count, count-full, count-room}
 use Rattle.state.proofs.DistinctLaws.{Distinct, keyed-test, keyed-key, keyed-other, distinct-first, distinct-rest, distinct-set}
 use Rattle.sound.specs.State.{Shaped, areaName, firstOpen, openArea, DistinctAreas}

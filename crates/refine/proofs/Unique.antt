@@ -104,7 +104,7 @@ module _ (image : List ℕ) (p : Plain) (L : ℕ) (fs : Table File) (a : Is imag
   layers-unique : L ≡ p .layers
   layers-unique =
       let e : p .H * p .layers ≡ p .H * L = sym (atA .holds 7 (omega arith)) ∙ ap (λ (t : ℕ). P t 7) same-place ∙ atB .holds 7 (omega arith) in
-      let h = a .good .limits .keys-low in
+      let h = a .good .limits .keysLow in
       below-or (p .layers) L
       (λ l. absurd (omega (arith, mul-le-mul-left (p .H) l)))
       (λ l. below-or L (p .layers) (λ m. absurd (omega (arith, mul-le-mul-left (p .H) m))) (λ m. omega arith))

@@ -71,8 +71,8 @@ module _ {image : List ℕ} {state : State} {p : Plain} (g : Good p) (r : Repres
     legal-users : LegalUsers a
     legal-users = record {
       distinct = λ u v x y t e. distinct .only u v x y t e;
-      opens-low = λ u x t. good .each (userAt a u .id) (plainUser (userAt a u)) (in-table u x t) .opens-low;
-      opens-high = λ u x t. good .each (userAt a u .id) (plainUser (userAt a u)) (in-table u x t) .opens-high;
+      opensLow = λ u x t. good .each (userAt a u .id) (plainUser (userAt a u)) (in-table u x t) .opensLow;
+      opensHigh = λ u x t. good .each (userAt a u .id) (plainUser (userAt a u)) (in-table u x t) .opensHigh;
       inside = λ u x t. omega (arith, good .each (userAt a u .id) (plainUser (userAt a u)) (in-table u x t) .inside, length-file);
       alone = λ u v x y t s role. same-or u v (λ e. e) (λ d. absurd (
           let one : isExclusive (userAt a u .role) ≡ 1 = ap isExclusive role in

@@ -192,8 +192,8 @@ module _ {image : List ℕ} {state : State} {p : Plain} (g : Good p) (r : Repres
         booked = λ a e. rw (slices-of, length-of, index-of, size-at, index-at, reserved-at) (record {
           slices = f .bookedSlices;
           sectors = refl;
-          length-low = fg .bookedLow;
-          slices-low = fg .bookedSlicesLow;
+          lengthLow = fg .bookedLow;
+          slicesLow = fg .bookedSlicesLow;
           covered = fg .bookedCovered;
           at = booked-index (f .bookedSlices) (fg .bookedSlicesLow);
         });

@@ -39,7 +39,7 @@ module _ {image : List ℕ} {state : State} {p : Plain} (g : Good p) (r : Repres
   -- the free word is s times the ones
   pub kit-ones : Kit image (p .H) (p .s) (p .N) (p .s * onesInMap image) (p .F)
   kit-ones =
-      let ones : onesInMap image ≡ Rattle.plain.specs.Unit.freeSlices p = ones-free (M p) (held p) image (g .limits .slices-high) (r .layout .map) (r .words) in
+      let ones : onesInMap image ≡ Rattle.plain.specs.Unit.freeSlices p = ones-free (M p) (held p) image (g .limits .slicesHigh) (r .layout .map) (r .words) in
       rw ones (r .layout .kit)
 
   -- ---- entries
@@ -74,7 +74,7 @@ module _ {image : List ℕ} {state : State} {p : Plain} (g : Good p) (r : Repres
   pub sound-map : SoundMap image (M p) (allSlices image state (p .H) (p .s) (p .F) (sysOf p))
   sound-map = record {
     marked = λ k a b.
-        let e = r .layout .map k a (omega (arith, g .limits .slices-high)) in
+        let e = r .layout .map k a (omega (arith, g .limits .slicesHigh)) in
         let one = inUnit-in (M p) k a b in
         let held-same = all-held g r k in
         ((λ z. omega arith), (λ z. omega arith));

@@ -185,7 +185,7 @@ relabel {i} {p} {v} {w} {h} {k} {E} {D} r e t d = record {
 
 module _ {i : List ℕ} {p : Plain} {v : ℕ} {h : List ℕ} {E : ℕ → Option (List ℕ)} (g : Ground p) (r : Layout i p v h E) where
   pub long : 2560 ≤ length i
-  long = omega (arith, r .size, g .limits .first, g .limits .some-data)
+  long = omega (arith, r .size, g .limits .first, g .limits .someData)
 
   -- ---- writes below the data
 
@@ -217,10 +217,10 @@ module _ {i : List ℕ} {p : Plain} {v : ℕ} {h : List ℕ} {E : ℕ → Option
   write-freed l k once left =
       map-write (allFree i l) k
       (marked-outside-map 1 i l (omega arith) (in-map l (λ x. omega (arith, left x, once x, few x))) long)
-      (map-freed (M p) l k h i (g .limits .slices-high) long (r .map) once (λ x. omega (arith, left x)))
+      (map-freed (M p) l k h i (g .limits .slicesHigh) long (r .map) once (λ x. omega (arith, left x)))
     where
       few : (x : ℕ) → inUnit (M p) x ≤ inUnit 4096 x
-      few x = inUnit-mono (M p) 4096 x (g .limits .slices-high)
+      few x = inUnit-mono (M p) 4096 x (g .limits .slicesHigh)
 
   -- slices l marked used: k is held then
   pub write-used : (l k : List ℕ) → InRangeOnce (M p) k → ((x : ℕ) → occurrences x k ≡ occurrences x l + occurrences x h) → Layout (allUsed i l) p v k E
@@ -230,13 +230,13 @@ module _ {i : List ℕ} {p : Plain} {v : ℕ} {h : List ℕ} {E : ℕ → Option
       (λ x a b.
       omega (
         arith,
-        map-taken (M p) l h i (g .limits .slices-high) long (r .map) (λ y. omega (arith, both y, once y, occurrences-append y l h)) x a b,
+        map-taken (M p) l h i (g .limits .slicesHigh) long (r .map) (λ y. omega (arith, both y, once y, occurrences-append y l h)) x a b,
         occurrences-append x l h,
         both x,
       ))
     where
       few : (x : ℕ) → inUnit (M p) x ≤ inUnit 4096 x
-      few x = inUnit-mono (M p) 4096 x (g .limits .slices-high)
+      few x = inUnit-mono (M p) 4096 x (g .limits .slicesHigh)
 
   -- ---- a place of SYS
 

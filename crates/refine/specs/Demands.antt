@@ -77,9 +77,9 @@ pub record Demand3After (image : List ℕ) (state : State) (calls : List Call) (
   -- "Entries, files and open areas at the end are the plain unit's too."
   pub represented : Represents end stop (after start calls)
   -- the plain unit at the end keeps the rules of a sound unit, too
-  pub good-after : Good (after start calls)
+  pub goodAfter : Good (after start calls)
   -- "[SYS] never shrinks."
-  pub sys-stays : SysNeverShrinks image state end stop
+  pub sysStays : SysNeverShrinks image state end stop
 
 -- "One claim holds for every list, the empty one too": from "any image that is sound by document 01, with no area process
 -- open, and the state that Init left on accepting it just before".

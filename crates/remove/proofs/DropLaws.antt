@@ -20,11 +20,11 @@ use Rattle.plain.proofs.KeepsCatalog.{removed-good}
 use Rattle.refine.specs.Writes.{countedFree, emptyPlace, removedImage}
 use Rattle.refine.proofs.Ground.{Ground, ground, top, part-file}
 use Rattle.refine.proofs.Writers.{long}
-use Rattle.steps.proofs.RemoveStep.{freed-layout, freed-words}
-use Rattle.unit.specs.Files.{BlockOf}
-use Rattle.unit.proofs.UnitLaws.{on-catalog}
-use Rattle.unit.proofs.FindLaws.{place-room}
-use Rattle.unit.proofs.FileLaws.{block-is, block-total, total-fits, live-index}
+use Rattle.preservation.proofs.RemoveStep.{freed-layout, freed-words}
+use Rattle.lookup.specs.Files.{BlockOf}
+use Rattle.lookup.proofs.UnitLaws.{on-catalog}
+use Rattle.lookup.proofs.FindLaws.{place-room}
+use Rattle.lookup.proofs.FileLaws.{block-is, block-total, total-fits, live-index}
 use Rattle.slices.specs.Give.{CanCutFrom, CanCut, Freed}
 use Rattle.slices.proofs.BlockLaws.{unit-file}
 use Rattle.slices.proofs.ZeroLaws.{count-fits}
@@ -80,7 +80,7 @@ module _ {image : List ℕ} {o : Unit} {place : Place} {p : Plain} {n : ℕ} {f 
             let good = removed-good p n (can .on .good) (can .closed) in
             rw (given-is, can .numbers .slice) (
               long gr layout,
-              count-fits (p .F) (p .s) (M p) (held (withFiles p (tableRemove n (p .files)))) freed (gr .limits .slices-high) (omega (arith, top p gr, gr .limits .sectors)) (layout .map) (good .once) words,
+              count-fits (p .F) (p .s) (M p) (held (withFiles p (tableRemove n (p .files)))) freed (gr .limits .slicesHigh) (omega (arith, top p gr, gr .limits .sectors)) (layout .map) (good .once) words,
             )
 
         pub dropped : {after : List ℕ} → after ≡ countedFree given (o .slice) → after ≡ removedImage p (sysOf p) image (can .at .number) f

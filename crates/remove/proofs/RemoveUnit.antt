@@ -13,9 +13,9 @@ use Rattle.plain.specs.Catalog.{stepRemove}
 use Rattle.refine.specs.Represents.{Represents}
 use Rattle.refine.specs.OnDisc.{OnDisc}
 use Rattle.refine.specs.Replies.{Replies, refused, written}
-use Rattle.steps.proofs.Whole.{on-disc, represents}
-use Rattle.steps.proofs.RemoveStep.{remove-on}
-use Rattle.steps.proofs.AreaSteps.{remove-areas}
+use Rattle.preservation.proofs.Whole.{on-disc, represents}
+use Rattle.preservation.proofs.RemoveStep.{remove-on}
+use Rattle.preservation.proofs.AreaSteps.{remove-areas}
 use Rattle.refine.specs.Leaves.{Leaves}
 use Rattle.refine.proofs.LeavesLaws.{leaves}
 use Rattle.remove.specs.Remove.{Removed, RemoveStep}

@@ -1,7 +1,7 @@
 // Remove, from question 3 on: a name and its file are dropped.
 
 ghost use Rattle.disc.specs.Names.{unitIn};
-ghost use Rattle.unit.specs.Unit.{Meant};
+ghost use Rattle.lookup.specs.Unit.{Meant};
 ghost use Rattle.remove.specs.Remove.{CanDrop, Dropped, Removes};
 use catalog::Found;
 use catalog::Place;
@@ -16,7 +16,7 @@ fn drop_file(image: &mut [u16], unit: Unit, place: Place)
     ensures { λ _. ⌜ Dropped (now (image .entry)) unit place (now (image .exit)) ⌝ }
 {
     let index = catalog::entry_word(image, place, 8);
-    let block = unit::file_block(image, Sector(index));
+    let block = lookup::file_block(image, Sector(index));
     let total = index::slice_total(block, unit.slice);
     catalog::clear_place(image, place);
     slices::free_slices(image, block, unit.first, unit.slice, 0, total);
@@ -29,13 +29,13 @@ pub fn remove(image: &mut [u16], unit: Unit, state: State, name: Name) -> u16
     ensures { λ r. ⌜ Removes (now (image .entry)) unit state name (now (image .exit)) r ⌝ }
 {
     let n = names::stored(name);
-    let Found::At(place) = unit::find_name(image, unit, n) else {
+    let Found::At(place) = lookup::find_name(image, unit, n) else {
         return 0x5000;
     };
     if names::is_system(n) {
         return 0x1200;
     }
-    if unit::is_open(state, n) {
+    if lookup::is_open(state, n) {
         return 0x1200;
     }
     let attributes = catalog::entry_word(image, place, 6);

@@ -10,8 +10,8 @@ use Rattle.catalog.specs.declared.Unit.{Unit}
 use Rattle.plain.specs.Questions.{answer}
 use Rattle.plain.specs.Reports.{description, stepDescription}
 use Rattle.plain.proofs.QuestionLaws.{asks-yes, asks-no}
-use Rattle.unit.specs.Unit.{MeantOn}
-use Rattle.unit.proofs.MeantLaws.{meant-on-known}
+use Rattle.lookup.specs.Unit.{MeantOn}
+use Rattle.lookup.proofs.MeantLaws.{meant-on-known}
 use Rattle.reports.specs.Description.{described, Describes}
 
 module _ {image : List ℕ} (o : Unit) (u bytes : ℕ) (lent : List ℕ) (meant : MeantOn image o u) where

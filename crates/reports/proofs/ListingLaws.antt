@@ -23,7 +23,7 @@ use Rattle.plain.specs.Questions.{answer, fill}
 use Rattle.plain.specs.Reports.{joined, stepListing}
 use Rattle.plain.proofs.QuestionLaws.{and-right, asks-yes, asks-no}
 use Rattle.plain.proofs.UnitLaws.{sorted-entries}
-use Rattle.entries.proofs.PlaceLaws.{legal-first}
+use Rattle.sound_entries.proofs.PlaceLaws.{legal-first}
 use Rattle.sound.specs.Places.{Unused}
 use Rattle.catalog.specs.declared.Catalog.{Catalog}
 use Rattle.catalog.specs.declared.Unit.{Unit}
@@ -34,8 +34,8 @@ use Rattle.refine.specs.OnDisc.{OnDisc}
 use Rattle.refine.proofs.CatalogLaws.{Named, name-zero}
 use Rattle.refine.proofs.Ground.{Ground, ground, entry-named, entry-legal, entry-length, positive, top, joined-in, sys-ground, catalog-data, catalog-slices}
 use Rattle.refine.proofs.PlaceFiles.{rowOf, rowAt, positive-name, one-place, collected}
-use Rattle.unit.specs.Unit.{NumbersOf, UnitOn, unitPlaces}
-use Rattle.unit.proofs.UnitLaws.{on-catalog, sys-once}
+use Rattle.lookup.specs.Unit.{NumbersOf, UnitOn, unitPlaces}
+use Rattle.lookup.proofs.UnitLaws.{on-catalog, sys-once}
 use Rattle.order.specs.Records.{recordAt, recordOf}
 use Rattle.order.specs.ByName.{CanOrder, ByName}
 use Rattle.reports.specs.Listing.{inTurn, slotStart, entryRecord, slotRecord, slotRecords, catalogSector, blockRecords, Readable, CountOf, Lists}

@@ -58,7 +58,7 @@ module _ {image : List ℕ} {T : Table (List ℕ)} {r s : ℕ → ℕ} (all : Re
   moved-once : EachOnce T (recordGroup image s)
   moved-once = record {
     each = λ t x.
-        let g = all .once .each (m .from t) (m .from-inside t x) in
+        let g = all .once .each (m .from t) (m .fromInside t x) in
         record {
           words = g .words;
           entered = ap (λ (k : ℕ). tableFind k T) (moved-name t x) ∙ g .entered;
@@ -66,17 +66,17 @@ module _ {image : List ℕ} {T : Table (List ℕ)} {r s : ℕ → ℕ} (all : Re
         };
     there = λ n e h.
         let u = all .once .there n e h in
-        (m .into (u .0), m .into-inside (u .0) (u .1), moved-name (m .into (u .0)) (m .into-inside (u .0) (u .1)) ∙ ap (nameAt (recordGroup image r)) (m .from-into (u .0) (u .1)) ∙ u .2);
+        (m .into (u .0), m .intoInside (u .0) (u .1), moved-name (m .into (u .0)) (m .intoInside (u .0) (u .1)) ∙ ap (nameAt (recordGroup image r)) (m .fromInto (u .0) (u .1)) ∙ u .2);
     alone = λ t u x y q.
-        let e = all .once .alone (m .from t) (m .from u) (m .from-inside t x) (m .from-inside u y) (sym (moved-name t x) ∙ q ∙ moved-name u y) in
-        sym (m .into-from t x) ∙ ap (m .into) e ∙ m .into-from u y;
+        let e = all .once .alone (m .from t) (m .from u) (m .fromInside t x) (m .fromInside u y) (sym (moved-name t x) ∙ q ∙ moved-name u y) in
+        sym (m .intoFrom t x) ∙ ap (m .into) e ∙ m .intoFrom u y;
   }
 
   records-moved : RecordsOf image T s
   records-moved = record {
     once = moved-once;
-    named = λ t x. ap (λ (z : ℕ). charactersOf z * 256) (m .same t x) ∙ all .named (m .from t) (m .from-inside t x) ∙ sym (moved-name t x);
-    inside = λ t x. rw (m .same t x) (all .inside (m .from t) (m .from-inside t x));
+    named = λ t x. ap (λ (z : ℕ). charactersOf z * 256) (m .same t x) ∙ all .named (m .from t) (m .fromInside t x) ∙ sym (moved-name t x);
+    inside = λ t x. rw (m .same t x) (all .inside (m .from t) (m .fromInside t x));
   }
 
 -- ---- the records noted, place after place

@@ -9,7 +9,7 @@ use Rattle.catalog.specs.declared.Unit.{Unit}
 use Rattle.plain.specs.Unit.{Plain}
 use Rattle.plain.specs.Reports.{stepDescription}
 use Rattle.refine.specs.OnDisc.{OnDisc}
-use Rattle.unit.specs.Unit.{NumbersOf}
+use Rattle.lookup.specs.Unit.{NumbersOf}
 
 -- "0, unit, 0, 20, 'UNIT' unit 0, five zeros, H, s, N, free": the record's words, N and the free sectors as the kit has them.
 abbrev pub described : List ℕ → Unit → ℕ → List ℕ

@@ -14,7 +14,7 @@ use Rattle.plain.specs.Unit.{Plain}
 use Rattle.plain.specs.Questions.{known}
 use Rattle.plain.specs.Reports.{stepListing}
 use Rattle.refine.specs.OnDisc.{OnDisc}
-use Rattle.unit.specs.Unit.{NumbersOf, MeantOn}
+use Rattle.lookup.specs.Unit.{NumbersOf, MeantOn}
 
 -- f 0, f 1 and so on, n lists one after the other.
 unfoldable pub inTurn : (ℕ → List ℕ) → ℕ → List ℕ

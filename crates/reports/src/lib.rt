@@ -5,7 +5,7 @@ ghost use Prim.Native.Nat.{_+_, _*_, _≤_, _<_};
 ghost use lib.ListN.{length};
 ghost use Rattle.words.specs.Store.{store};
 ghost use Rattle.plain.specs.Questions.{answer};
-ghost use Rattle.unit.specs.Unit.{MeantOn};
+ghost use Rattle.lookup.specs.Unit.{MeantOn};
 ghost use Rattle.reports.specs.Description.{described, Describes};
 ghost use Rattle.reports.specs.Listing.{slotRecord, slotRecords, blockRecords, Readable, CountOf, Noted, CanList, Lists};
 use catalog::Catalog;

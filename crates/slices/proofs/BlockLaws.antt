@@ -98,16 +98,16 @@ pub unit-file : {H s F N : ℕ} (image block slices : List ℕ) → Limits H s F
     → FileBlock image block F s (sliceCount s F N) slices
 unit-file {s = s} {F = F} {N = N} image block slices l size words few once =
     let m : ℕ = sliceCount s F N in
-    let top : F + s * m ≤ N = omega (arith, div-mul-le-self (N - F) s, l .some-data, mul-comm s m) in
+    let top : F + s * m ≤ N = omega (arith, div-mul-le-self (N - F) s, l .someData, mul-comm s m) in
     record {
       own = record {
-        size = l .slice-low;
-        most = l .slices-high;
+        size = l .sliceLow;
+        most = l .slicesHigh;
         top = omega (arith, l .sectors);
         words = words;
         few = few;
         once = once;
       };
-      long = omega (arith, l .first, l .some-data);
+      long = omega (arith, l .first, l .someData);
       sectors = omega arith;
     }

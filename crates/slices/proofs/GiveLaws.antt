@@ -16,7 +16,7 @@ use Rattle.map.proofs.MarkLaws.{length-all-marked}
 use Rattle.index.specs.Block.{wholeIndex, sliceNumber, jointSector, cutTo}
 use Rattle.index.proofs.ChangeLaws.{cut-whole}
 use Rattle.refine.specs.Writes.{cutImage}
-use Rattle.steps.proofs.ResizeLaws.{cut-none, cut-all, cut-some}
+use Rattle.preservation.proofs.ResizeLaws.{cut-none, cut-all, cut-some}
 use Rattle.slices.specs.Give.{CanCutFrom, Freed}
 use Rattle.slices.proofs.BlockLaws.{positive, slice-in, block-number, first-told, first-room}
 

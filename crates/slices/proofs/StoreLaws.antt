@@ -13,8 +13,8 @@ use Rattle.words.specs.Store.{store}
 use Rattle.map.proofs.MarkLaws.{length-all-marked}
 use Rattle.index.specs.Block.{wholeIndex, jointSector}
 use Rattle.refine.specs.Writes.{takenImage}
-use Rattle.steps.proofs.WriteLaws.{taken-size, taken-none}
-use Rattle.steps.proofs.ResizeLaws.{taken-some}
+use Rattle.preservation.proofs.WriteLaws.{taken-size, taken-none}
+use Rattle.preservation.proofs.ResizeLaws.{taken-some}
 use Rattle.slices.specs.FileBlock.{FileBlock}
 use Rattle.slices.specs.Take.{CanTakeFrom, CanTake, Taken, TakenFrom, CanLengthenFrom}
 use Rattle.slices.proofs.BlockLaws.{first-told, first-room, file-with}

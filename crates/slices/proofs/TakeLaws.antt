@@ -205,56 +205,56 @@ took-one {image} {block} {F} {s} can {k} e a b =
 -- ---- several slices: what is left to take gives what was to be taken
 
 pub record Left (image₀ image block : List ℕ) (F s m n r : ℕ) (held slices : List ℕ) : Type 0 where
-  pub now-held : List ℕ
-  pub now-slices : List ℕ
-  pub can : CanTakeFrom image block F s m r now-held now-slices
-  pub same-image : allUsed image (taken m now-held (lastOf now-slices) r) ≡ allUsed image₀ (taken m held (lastOf slices) n)
-  pub same-slices : now-slices ++ taken m now-held (lastOf now-slices) r ≡ slices ++ taken m held (lastOf slices) n
+  pub nowHeld : List ℕ
+  pub nowSlices : List ℕ
+  pub can : CanTakeFrom image block F s m r nowHeld nowSlices
+  pub sameImage : allUsed image (taken m nowHeld (lastOf nowSlices) r) ≡ allUsed image₀ (taken m held (lastOf slices) n)
+  pub sameSlices : nowSlices ++ taken m nowHeld (lastOf nowSlices) r ≡ slices ++ taken m held (lastOf slices) n
 
 pub left-start : {image block : List ℕ} {F s m n : ℕ} {held slices : List ℕ} → CanTakeFrom image block F s m n held slices → Left image image block F s m n n held slices
-left-start {held = held} {slices = slices} can = record { now-held = held; now-slices = slices; can = can; same-image = refl; same-slices = refl }
+left-start {held = held} {slices = slices} can = record { nowHeld = held; nowSlices = slices; can = can; sameImage = refl; sameSlices = refl }
 
 module _ {image₀ image block : List ℕ} {F s m n r : ℕ} {held slices : List ℕ} (left : Left image₀ image block F s m n (suc r) held slices) where
   abbrev k : ℕ
-  k = choose m (left .now-held) (lastOf (left .now-slices))
+  k = choose m (left .nowHeld) (lastOf (left .nowSlices))
 
   abbrev rest : List ℕ
-  rest = taken m (k ∷ left .now-held) k r
+  rest = taken m (k ∷ left .nowHeld) k r
 
-  one : CanTakeFrom image block F s m 1 (left .now-held) (left .now-slices)
+  one : CanTakeFrom image block F s m 1 (left .nowHeld) (left .nowSlices)
   one = can-fewer (left .can) (omega arith)
 
   pub left-one : CanTake image block F s m 1
-  left-one = record { held = left .now-held; slices = left .now-slices; can = one }
+  left-one = record { held = left .nowHeld; slices = left .nowSlices; can = one }
 
   module _ {after new : List ℕ} {b : Bool} (took : Taken image block F s m 1 after new b) where
     pub left-next : b ≡ true → Left image₀ after new F s m n r held slices
     unfolding allMarked
     left-next e =
-        let t = took .all (left .now-held) (left .now-slices) one in
+        let t = took .all (left .nowHeld) (left .nowSlices) one in
         let own = longer-own one (t .fits .yes e) refl in
         rw (t .marked e, t .words e) (record {
-          now-held = k ∷ left .now-held;
-          now-slices = left .now-slices ++ (k ∷ []);
-          can = can-after 1 r (can-fewer (left .can) (omega arith)) own (λ j. omega (arith, occurrences-append j (left .now-slices) (k ∷ []), left .can .part j));
-          same-image = rw (last-snoc (left .now-slices) k) (left .same-image);
-          same-slices = rw (last-snoc (left .now-slices) k, append-assoc (left .now-slices) (k ∷ []) rest) (left .same-slices);
+          nowHeld = k ∷ left .nowHeld;
+          nowSlices = left .nowSlices ++ (k ∷ []);
+          can = can-after 1 r (can-fewer (left .can) (omega arith)) own (λ j. omega (arith, occurrences-append j (left .nowSlices) (k ∷ []), left .can .part j));
+          sameImage = rw (last-snoc (left .nowSlices) k) (left .sameImage);
+          sameSlices = rw (last-snoc (left .nowSlices) k, append-assoc (left .nowSlices) (k ∷ []) rest) (left .sameSlices);
         })
 
     -- one slice has no room: then all have none
     pub left-full : b ≡ false → stretchCount (slices ++ taken m held (lastOf slices) n) ≤ 127 → ⊥
     left-full e few =
-        let t = took .all (left .now-held) (left .now-slices) one in
-        let longer : List ℕ = left .now-slices ++ (k ∷ []) in
-        t .fits .not e (omega (arith, count-prefix longer rest, ap stretchCount (append-assoc (left .now-slices) (k ∷ []) rest ∙ left .same-slices)))
+        let t = took .all (left .nowHeld) (left .nowSlices) one in
+        let longer : List ℕ = left .nowSlices ++ (k ∷ []) in
+        t .fits .not e (omega (arith, count-prefix longer rest, ap stretchCount (append-assoc (left .nowSlices) (k ∷ []) rest ∙ left .sameSlices)))
 
 pub left-done : {image₀ image block : List ℕ} {F s m n : ℕ} {held slices : List ℕ} → Left image₀ image block F s m n 0 held slices
     → TakenFrom image₀ F s m n held slices image block true
 unfolding allMarked
 left-done {F = F} {s = s} left =
-    let e = sym (append-nil (left .now-slices)) ∙ left .same-slices in
+    let e = sym (append-nil (left .nowSlices)) ∙ left .sameSlices in
     record {
       fits = holds (rw e at (left .can .own .few));
-      marked = λ _. left .same-image;
+      marked = λ _. left .sameImage;
       words = λ _. left .can .own .words ∙ ap (wholeIndex F s) e;
     }

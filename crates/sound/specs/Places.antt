@@ -58,8 +58,8 @@ indexIf (suc n) q = q
 pub record Booked (s size index reserved len q count : ℕ) : Type 0 where
   pub slices : ℕ
   pub sectors : reserved ≡ s * slices
-  pub length-low : size ≤ len
-  pub slices-low : slices ≤ count
+  pub lengthLow : size ≤ len
+  pub slicesLow : slices ≤ count
   pub covered : need s size ≤ slices
   pub at : index ≡ indexIf slices q
 

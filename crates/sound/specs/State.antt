@@ -48,8 +48,8 @@ IsTaken a u = userAt a u .id ≡ 0 → ⊥
 -- user, and at most one is exclusive writer." An entry with identification 0 is vacant and has no rule.
 pub record LegalUsers (a : Area) : Type 0 where
   pub distinct : (u v : ℕ) → u < 3 → v < 3 → IsTaken a u → userAt a u .id ≡ userAt a v .id → u ≡ v
-  pub opens-low : (u : ℕ) → u < 3 → IsTaken a u → 1 ≤ userAt a u .opens
-  pub opens-high : (u : ℕ) → u < 3 → IsTaken a u → userAt a u .opens ≤ 65535
+  pub opensLow : (u : ℕ) → u < 3 → IsTaken a u → 1 ≤ userAt a u .opens
+  pub opensHigh : (u : ℕ) → u < 3 → IsTaken a u → userAt a u .opens ≤ 65535
   pub inside : (u : ℕ) → u < 3 → IsTaken a u → userAt a u .position .0 ≤ a .length
   pub alone : (u v : ℕ) → u < 3 → v < 3 → IsTaken a u → IsTaken a v → userAt a u .role ≡ ExclusiveUser → u ≡ v
   pub oneWriter : (u v : ℕ) → u < 3 → v < 3 → IsTaken a u → IsTaken a v → userAt a u .role ≡ ExclusiveWriter

@@ -12,11 +12,11 @@ use Rattle.catalog.specs.declared.Found.{Found}
 use Rattle.catalog.specs.declared.Found.the-variants.{At, Nothing}
 use Rattle.catalog.specs.Catalog.{NamePlace}
 use Rattle.kit.specs.declared.Geometry.{Geometry}
-use Rattle.entries.specs.Sys.{placesIn}
-use Rattle.entries.proofs.FindLaws.{sys-at, sys-none}
-use Rattle.entries.proofs.NamesLaws.{named-used}
-use Rattle.entries.proofs.PlaceLaws.{legal-first}
-use Rattle.alone.specs.Scan.{LegalSys}
+use Rattle.sound_entries.specs.Sys.{placesIn}
+use Rattle.sound_entries.proofs.FindLaws.{sys-at, sys-none}
+use Rattle.sound_entries.proofs.NamesLaws.{named-used}
+use Rattle.sound_entries.proofs.PlaceLaws.{legal-first}
+use Rattle.sound_names.specs.Scan.{LegalSys}
 use Rattle.soundness.specs.Areas.{OrdinaryEntered}
 
 module _ {image : List ℕ} {g : Geometry} {c : Catalog} (sys : LegalSys image g c) where

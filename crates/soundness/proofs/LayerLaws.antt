@@ -17,9 +17,9 @@ use Rattle.disc.proofs.DecideLaws.{true≢false, fails}
 use Rattle.sound.specs.Sound.{SoundMap}
 use Rattle.sound.specs.Parts.{MarksOf, Marking}
 use Rattle.kit.specs.declared.Geometry.{Geometry}
-use Rattle.entries.specs.Sys.{sysSlices, placesIn, sysWith, SysNames}
-use Rattle.entries.proofs.NamesLaws.{sound-legal}
-use Rattle.files.specs.Walk.{SysKnown, NamesKnown, SysFiles, sysHeld}
+use Rattle.sound_entries.specs.Sys.{sysSlices, placesIn, sysWith, SysNames}
+use Rattle.sound_entries.proofs.NamesLaws.{sound-legal}
+use Rattle.sound_files.specs.Walk.{SysKnown, NamesKnown, SysFiles, sysHeld}
 use Rattle.soundness.specs.Areas.{AreasEntered}
 use Rattle.soundness.specs.Layers.{SoundLayers, unitSlices}
 

@@ -19,8 +19,8 @@ use Rattle.kit.specs.Geometry.{UnitOf}
 use Rattle.marks.specs.declared.Indexed.{Indexed}
 use Rattle.marks.specs.Marked.{Marked}
 use Rattle.marks.specs.Indexed.{IndexMarking}
-use Rattle.entries.specs.Sys.{sysSlices, SysOf}
-use Rattle.entries.specs.Names.{LayersOf}
+use Rattle.sound_entries.specs.Sys.{sysSlices, SysOf}
+use Rattle.sound_entries.specs.Names.{LayersOf}
 use Rattle.soundness.specs.Layers.{SysMarking}
 
 -- an index block describes some slice, and the first one is a slice of the unit
@@ -53,7 +53,7 @@ module _ {image : List ℕ} {g : Geometry} {before after : List ℕ} {sys : Inde
 
     first-one : sys .start .0 ≡ g .first .0 → firstOf (sysSlices image g) ≡ 1
     first-one e =
-        starts-first (g .first .0) (g .slice) (firstOf (sysSlices image g)) (omega (arith, unit .limits .slice-low))
+        starts-first (g .first .0) (g .slice) (firstOf (sysSlices image g)) (omega (arith, unit .limits .sliceLow))
         (first-some (g .first .0) (g .slice) (g .slices) (sysSlices image g) (read .0 .pairs) (read .0 .some) (read .1))
         (omega (arith, e, marked .start good))
 

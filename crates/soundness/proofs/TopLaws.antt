@@ -22,8 +22,8 @@ use Rattle.kit.specs.declared.Geometry.{Geometry}
 use Rattle.kit.specs.Geometry.{GeometryOf, UnitOf, SoundByKit}
 use Rattle.kit.proofs.KitLaws.{sound-unit}
 use Rattle.marks.specs.Marked.{Marked}
-use Rattle.entries.specs.Sys.{sysSlices, sysWith}
-use Rattle.files.specs.Walk.{SysKnown, sysHeld}
+use Rattle.sound_entries.specs.Sys.{sysSlices, sysWith}
+use Rattle.sound_files.specs.Walk.{SysKnown, sysHeld}
 use Rattle.soundness.specs.declared.Judged.{Judged}
 use Rattle.soundness.specs.declared.Judged.the-variants.{Sound, Unsound}
 use Rattle.soundness.specs.Layers.{SysSound, SysMarking, SoundLayers}
@@ -51,7 +51,7 @@ module _ {image : List ℕ} {g : Geometry} (is : GeometryOf image g) where
       → SysKnown image g marks (g .keys * L)
   sys-known {L = L} kit s marked =
       let unit : UnitOf image g = sound-unit is kit in
-      let least = ceilDiv-le (g .keys * L) (g .slice) (length (sysSlices image g)) (omega (arith, unit .limits .slice-low)) in
+      let least = ceilDiv-le (g .keys * L) (g .slice) (length (sysSlices image g)) (omega (arith, unit .limits .sliceLow)) in
       let room = least .0 (omega (arith, s .count)) in
       record { unit = unit; index = s .index; marked = marked; room = omega (arith, room) }
 

@@ -12,8 +12,8 @@ use Rattle.sound.specs.Places.{IndexBlock}
 use Rattle.sound.specs.Sound.{SoundMap, allSlices}
 use Rattle.kit.specs.declared.Geometry.{Geometry}
 use Rattle.marks.specs.Marked.{Marked}
-use Rattle.entries.specs.Sys.{sysSlices, placesIn, sysWith, SysNames}
-use Rattle.files.specs.Walk.{SysFiles}
+use Rattle.sound_entries.specs.Sys.{sysSlices, placesIn, sysWith, SysNames}
+use Rattle.sound_files.specs.Walk.{SysFiles}
 use Rattle.soundness.specs.Areas.{AreasEntered}
 
 -- "SYS has length H times L and H times L / s slices, rounded up, slice 1 first", its index as it must be.

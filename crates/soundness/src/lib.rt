@@ -7,12 +7,12 @@ ghost use Rattle.disc.specs.Decide.{Decides};
 ghost use Rattle.disc.specs.Names.{packed};
 ghost use Rattle.disc.specs.Entries.{placeCount};
 ghost use Rattle.catalog.specs.Catalog.{sysValue};
-ghost use Rattle.entries.specs.Sys.{placesIn};
-ghost use Rattle.alone.specs.Scan.{LegalSys};
+ghost use Rattle.sound_entries.specs.Sys.{placesIn};
+ghost use Rattle.sound_names.specs.Scan.{LegalSys};
 ghost use Rattle.sound.specs.Sound.{SoundUnit};
 ghost use Rattle.kit.specs.Geometry.{UnitOf};
 ghost use Rattle.marks.specs.Marked.{Marked};
-ghost use Rattle.files.specs.Walk.{SysKnown};
+ghost use Rattle.sound_files.specs.Walk.{SysKnown};
 ghost use Rattle.soundness.specs.Areas.{OrdinaryEntered, AreasEntered};
 ghost use Rattle.soundness.specs.Layers.{SysMarking, SoundLayers};
 ghost use Rattle.soundness.specs.Judged.{Judges};
@@ -77,7 +77,7 @@ fn mark_sys(image: &[u16], g: Geometry, marks: &mut [u8; 4096]) -> u16
     if start.0 != first.0 {
         return 0;
     }
-    entries::find_layers(image, g)
+    sound_entries::find_layers(image, g)
 }
 
 // Whether names, areas, files and map are those of a sound unit with this SYS.
@@ -91,13 +91,13 @@ fn layers_sound(
     requires { ⌜ SysKnown (now image) g (now marks) (g .keys * sys .layers) × (sys ≡ sysValue (g .keys) (sys .layers)) ⌝ }
     ensures { λ r. ⌜ Decides r (SoundLayers (now (image .entry)) state g (sys .layers)) ⌝ }
 {
-    if !alone::names_sound(image, g, sys) {
+    if !sound_names::names_sound(image, g, sys) {
         return false;
     }
     if !areas_entered(image, g, sys, state) {
         return false;
     }
-    if !files::files_sound(image, state, g, sys, marks) {
+    if !sound_files::files_sound(image, state, g, sys, marks) {
         return false;
     }
     marks::map_agrees(image, marks, g)
@@ -107,7 +107,7 @@ fn layers_sound(
 pub fn judge(image: &[u16], state: State) -> Judged
     ensures { λ r. ⌜ Judges (now (image .entry)) state r ⌝ }
 {
-    if !users::users_sound(state) {
+    if !sound_users::users_sound(state) {
         return Judged::Unsound;
     }
     if !kit::kit_sound(image) {

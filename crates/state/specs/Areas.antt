@@ -14,7 +14,7 @@ use Rattle.types.specs.declared.User.{User}
 use Rattle.types.specs.declared.Area.{Area}
 use Rattle.types.specs.declared.State.{State}
 use Rattle.types.specs.State.{vacantUser, vacantArea, userAt, isOpen}
-pub use Rattle.disc.specs.Names.{packed}
+use Rattle.disc.specs.Names.{packed}
 use Rattle.state.specs.declared.Found.{Found}
 use Rattle.state.specs.declared.Found.the-variants.{At, Absent}
 use Rattle.state.specs.declared.Kind.{Kind}

@@ -17,7 +17,8 @@ use Rattle.disc.specs.Numbers.{negative}
 use Rattle.disc.specs.Attributes.{writeProtected}
 use Rattle.catalog.specs.declared.Unit.{Unit}
 use Rattle.state.specs.declared.Kind.the-variants.{Writer}
-use Rattle.state.specs.Areas.{packed, anyOther}
+use Rattle.disc.specs.Names.{packed}
+use Rattle.state.specs.Areas.{anyOther}
 use Rattle.plain.specs.Table.{Table, tableFind}
 use Rattle.plain.specs.Unit.{Plain, File, AreaUser}
 use Rattle.plain.specs.Questions.{Outcome, fill}
@@ -27,17 +28,17 @@ use Rattle.plain.proofs.QuestionLaws.{end-law, true-yes, false-no, either-yes, 
 use Rattle.refine.specs.Represents.{Represents}
 use Rattle.refine.proofs.LeavesLaws.{leaves}
 use Rattle.refine.proofs.StateLaws.{named-name}
-use Rattle.steps.proofs.Whole.{on-disc, represents}
-use Rattle.steps.proofs.AreaMessages.{area-other}
-use Rattle.steps.proofs.OutputUnit.{Allowed, input-allowed, output-allowed, transputAt, input-past, input-done, transput-bytes, transput-short, transput-writer, transput-protected, transput-here, transput-negative, transput-past, transput-there}
-use Rattle.steps.proofs.OutputMessage.{input-filled}
-use Rattle.unit.specs.Unit.{NumbersOf, Searchable}
-use Rattle.unit.proofs.UnitLaws.{searchable}
-use Rattle.sharing.specs.declared.AreaReply.{AreaReply}
-use Rattle.sharing.specs.Sharing.{areaReply, atPosition, positionWord, positionReached}
+use Rattle.preservation.proofs.Whole.{on-disc, represents}
+use Rattle.preservation.proofs.AreaMessages.{area-other}
+use Rattle.preservation.proofs.OutputUnit.{Allowed, input-allowed, output-allowed, transputAt, input-past, input-done, transput-bytes, transput-short, transput-writer, transput-protected, transput-here, transput-negative, transput-past, transput-there}
+use Rattle.preservation.proofs.OutputMessage.{input-filled}
+use Rattle.lookup.specs.Unit.{NumbersOf, Searchable}
+use Rattle.lookup.proofs.UnitLaws.{searchable}
+use Rattle.area_users.specs.declared.AreaReply.{AreaReply}
+use Rattle.area_users.specs.Sharing.{areaReply, atPosition, positionWord, positionReached}
 use Rattle.refine.specs.Leaves.{Leaves}
-use Rattle.sharing.specs.Seat.{Seat, areaUsers, areaUser}
-use Rattle.sharing.proofs.ShareLaws.{seat-size, position-inside, moved-good, moved-represents, own-position, reached-low}
+use Rattle.area_users.specs.Seat.{Seat, areaUsers, areaUser}
+use Rattle.area_users.proofs.ShareLaws.{seat-size, position-inside, moved-good, moved-represents, own-position, reached-low}
 use Rattle.blocks.specs.Blocks.{AttributesOf, BlockRead}
 use Rattle.output.specs.Output.{Placed, SomePlaced, outputImage, outputState, Outputs}
 use Rattle.output.proofs.OutputLaws.{own-size, own-from, own-attributes, image-refused, state-refused}

@@ -10,18 +10,19 @@ use Rattle.types.specs.declared.State.{State}
 use Rattle.disc.specs.Attributes.{writeProtected}
 use Rattle.catalog.specs.declared.Unit.{Unit}
 use Rattle.state.specs.declared.Kind.the-variants.{Writer}
-use Rattle.state.specs.Areas.{packed, anyOther}
+use Rattle.disc.specs.Names.{packed}
+use Rattle.state.specs.Areas.{anyOther}
 use Rattle.plain.specs.Table.{tableFind}
 use Rattle.plain.specs.Unit.{Plain, File}
 use Rattle.plain.specs.Questions.{Outcome, either}
 use Rattle.plain.specs.Areas.{moved}
 use Rattle.plain.specs.Transput.{isOutput, input, output, stepTransput}
 use Rattle.refine.specs.OnDisc.{OnDisc}
-use Rattle.unit.specs.Unit.{NumbersOf}
-use Rattle.sharing.specs.declared.AreaReply.{AreaReply}
-use Rattle.sharing.specs.Sharing.{atPosition}
+use Rattle.lookup.specs.Unit.{NumbersOf}
+use Rattle.area_users.specs.declared.AreaReply.{AreaReply}
+use Rattle.area_users.specs.Sharing.{atPosition}
 use Rattle.refine.specs.Leaves.{Leaves}
-use Rattle.sharing.specs.Seat.{Seat, areaUsers, areaUser}
+use Rattle.area_users.specs.Seat.{Seat, areaUsers, areaUser}
 use Rattle.output.specs.Output.{Placed, outputImage, outputState}
 
 -- ---- the questions before the position is moved

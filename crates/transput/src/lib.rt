@@ -4,11 +4,11 @@ ghost use mathlib.Core.Path.{_≡_};
 ghost use Prim.Native.Nat.{_≤_};
 ghost use lib.ListN.{length};
 ghost use Rattle.plain.specs.Transput.{isOutput, isRandom, endWord};
-ghost use Rattle.unit.specs.Unit.{Searchable};
+ghost use Rattle.lookup.specs.Unit.{Searchable};
 ghost use Rattle.output.specs.Output.{SomePlaced};
 ghost use Rattle.transput.specs.Transput.{RefusalFor, Inputs, TransputsAt, Seated, Transputs};
+use area_users::AreaReply;
 use catalog::Unit;
-use sharing::AreaReply;
 use state::Kind;
 use types::Area;
 use types::Block;
@@ -94,10 +94,10 @@ fn input(
     let area = state::area_at(state, j);
     if area.length <= k.0 {
         let word = end_word(blocks::attributes_of(image, unit, area.name));
-        return sharing::refused_at(state, j, u, word, k);
+        return area_users::refused_at(state, j, u, word, k);
     }
     blocks::read(image, area.index, k, lent);
-    sharing::transferred(state, j, u, k)
+    area_users::transferred(state, j, u, k)
 }
 
 // Input or output at position k.
@@ -143,15 +143,15 @@ pub fn transput(
     let count = lent.len();
     let word = refusal(image, unit, area, sender, operation, bytes, count);
     if word != 0 {
-        return sharing::refused_at(state, j, u, word, user.position);
+        return area_users::refused_at(state, j, u, word, user.position);
     }
     if !is_random(operation) {
         return transput_at(image, unit, state, j, u, operation, user.position, lent);
     }
-    let refused = sharing::position_word(area.length, block);
-    let reached = sharing::position_reached(area.length, block);
+    let refused = area_users::position_word(area.length, block);
+    let reached = area_users::position_reached(area.length, block);
     if refused != 0 {
-        return sharing::refused_at(state, j, u, refused, Block(reached));
+        return area_users::refused_at(state, j, u, refused, Block(reached));
     }
     transput_at(image, unit, state, j, u, operation, Block(block), lent)
 }

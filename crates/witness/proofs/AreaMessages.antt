@@ -20,7 +20,7 @@ use Rattle.state.specs.Areas.{areaNamed, entryOf, anyOther}
 use Rattle.plain.specs.Unit.{Plain, M, sysOf}
 use Rattle.plain.specs.Step.{isKnown}
 use Rattle.catalog.specs.Value.{valueOf}
-use Rattle.unit.specs.Unit.{NumbersOf, Meant}
+use Rattle.lookup.specs.Unit.{NumbersOf, Meant}
 use Rattle.transput.specs.Transput.{Seated}
 use Rattle.area_messages.specs.AreaMessages.{reserveWord, UserSteps, CanOperate, Operates, AreaMessages}
 use Rattle.area_messages.proofs.MessageLaws.{step-release, step-position, step-sense, step-other, step-transput, operate-reserve, operate-stranger, operate-seated, operate-user, message-shut, message-reserved, message-nobody, message-strange, message-can, message-asked}

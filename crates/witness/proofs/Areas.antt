@@ -28,9 +28,9 @@ use Rattle.plain.proofs.QuestionLaws.{not-some}
 use Rattle.refine.specs.Represents.{Represents}
 use Rattle.refine.specs.Writes.{bookedImage}
 use Rattle.refine.proofs.StateLaws.{same-absent, same-full}
-use Rattle.steps.proofs.Whole.{on-disc}
-use Rattle.steps.proofs.WriteLaws.{words-file-entry}
-use Rattle.unit.proofs.FileLaws.{name-open, name-absent}
+use Rattle.preservation.proofs.Whole.{on-disc}
+use Rattle.preservation.proofs.WriteLaws.{words-file-entry}
+use Rattle.lookup.proofs.FileLaws.{name-open, name-absent}
 use Rattle.areas.proofs.RemoveLaws.{none-left}
 use Rattle.areas.specs.Areas.{AreaCreated, dummyCreate, made, AreaRemoved, dummyRemove, books}
 use Rattle.witness.proofs.Ends.{Effect, Ends, ask, turn, finish, give}

@@ -18,7 +18,7 @@ use Rattle.examples.specs.Paper.{paperUnit}
 use Rattle.sound.specs.State.{Shaped}
 use Rattle.sound.specs.Sound.{SoundUnit}
 use Rattle.refine.specs.Represents.{Represents}
-use Rattle.known.specs.Known.{Known}
+use Rattle.first_question.specs.Known.{Known}
 use Rattle.format.specs.declared.Formatted.{Formatted}
 use Rattle.format.specs.Format.{Formattable, formattedBy, uninitialized, FormatAnswer, written}
 use Rattle.format.proofs.FormatUnit.{format-unit, format-sound}
@@ -31,7 +31,7 @@ use Rattle.witness.specs.Witness.{Begun}
 -- ---- the record and the fresh state
 
 limits : Limits 1 2 10 20
-limits = record { keys-low = omega arith; keys-high = omega arith; slice-low = omega arith; slice-high = omega arith; first = omega arith; some-data = omega arith; sectors = omega arith; whole = refl; slices-high = omega arith; slices-low = omega arith }
+limits = record { keysLow = omega arith; keysHigh = omega arith; sliceLow = omega arith; sliceHigh = omega arith; first = omega arith; someData = omega arith; sectors = omega arith; whole = refl; slicesHigh = omega arith; slicesLow = omega arith }
 
 vacant : (j : ℕ) → j < 8 → areaAt (freshState 0) j ≡ vacantArea
 vacant j h = getD-replicate 8 j vacantArea pastArea h
@@ -73,10 +73,10 @@ module _ (disc : List ℕ) (words : Words disc) (size : length disc ≡ 5120) wh
         formatted = image;
         format = left;
         formats = formats;
-        format-done = refl;
+        formatDone = refl;
         init = performed image (initialized (left .state)) (answer 0 0 0 0) [];
         inits = inits;
-        init-done = refl;
+        initDone = refl;
         sound = a .2;
         accepted = a .1;
       }

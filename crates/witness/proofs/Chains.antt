@@ -13,9 +13,9 @@ use Rattle.sound.specs.Places.{Unused}
 use Rattle.refine.specs.Represents.{PlaceOf}
 use Rattle.refine.proofs.CatalogLaws.{name-zero}
 use Rattle.refine.proofs.PlaceCount.{used-full, sys-entries}
-use Rattle.unit.specs.Unit.{CatalogOn, unitPlaces}
-use Rattle.unit.specs.Find.{FirstUnused}
-use Rattle.unit.proofs.UnitLaws.{unit-named}
+use Rattle.lookup.specs.Unit.{CatalogOn, unitPlaces}
+use Rattle.lookup.specs.Find.{FirstUnused}
+use Rattle.lookup.proofs.UnitLaws.{unit-named}
 
 module _ {image : List ℕ} {p : Plain} (on : CatalogOn image p) (k : ℕ) where
   abbrev P : ℕ → ℕ → ℕ

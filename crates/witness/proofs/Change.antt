@@ -29,10 +29,10 @@ use Rattle.plain.proofs.UnitLaws.{entry-of}
 use Rattle.refine.specs.OnDisc.{OnDisc}
 use Rattle.refine.specs.Writes.{emptyPlace, resizedImage, changedImage, renamedImage}
 use Rattle.refine.specs.Replies.{refused, written}
-use Rattle.steps.specs.Units.{grownUnit}
-use Rattle.steps.proofs.RenameStep.{rename-emptied}
-use Rattle.unit.specs.Unit.{CatalogOn, unitPlaces}
-use Rattle.unit.specs.Find.{FirstUnused}
+use Rattle.preservation.specs.Units.{grownUnit}
+use Rattle.preservation.proofs.RenameStep.{rename-emptied}
+use Rattle.lookup.specs.Unit.{CatalogOn, unitPlaces}
+use Rattle.lookup.specs.Find.{FirstUnused}
 use Rattle.grow.specs.Grow.{GrownFrom}
 use Rattle.change.specs.Rewrite.{stayed, moved}
 use Rattle.change.specs.Change.{sizeThen, attributesThen, fileAfter, layersThen, ChangedOn, Changed, stays, grows, ChangeDone}
@@ -78,7 +78,7 @@ module _ {p : Plain} (g : Good p) (n : ℕ) {f : File} (file : tableFind n (p .f
         let without : Plain = withFiles grown (tableRemove n (grown .files)) in
         let bare : CatalogOn (emptyPlace grown (sysOf grown) (resizedImage grown i f f′) (stands .0)) without =
         record { good = removed-good grown n (on .good) shut; size = l .size; sys = l .sys } in
-        let u = first-unused bare (keyOf (grown .H) m) (mod-lt _ (g .limits .keys-low)) fits in
+        let u = first-unused bare (keyOf (grown .H) m) (mod-lt _ (g .limits .keysLow)) fits in
         (u .0, record { inside = u .1 .inside; key = u .1 .key; unused = u .1 .unused; earlier = u .1 .earlier })
 
     rewrites : (after : List ℕ) × ChangedOn grown i n f lent after

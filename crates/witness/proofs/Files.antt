@@ -23,11 +23,11 @@ use Rattle.plain.proofs.TakingLaws.{layers-stay, layers-grow}
 use Rattle.plain.proofs.CreateUnit.{unitAfter, Yes, sys-room, sys-few, unit-grown, unit-stays}
 use Rattle.refine.specs.OnDisc.{OnDisc}
 use Rattle.refine.specs.Writes.{createdImage, removedImage, grownSys}
-use Rattle.steps.specs.Units.{layerSlices, grownUnit, newFileOf}
-use Rattle.steps.proofs.GrowStep.{grow-on}
-use Rattle.unit.specs.Unit.{unitPlaces}
-use Rattle.unit.specs.Find.{FirstUnused}
-use Rattle.unit.proofs.UnitLaws.{on-catalog}
+use Rattle.preservation.specs.Units.{layerSlices, grownUnit, newFileOf}
+use Rattle.preservation.proofs.GrowStep.{grow-on}
+use Rattle.lookup.specs.Unit.{unitPlaces}
+use Rattle.lookup.specs.Find.{FirstUnused}
+use Rattle.lookup.proofs.UnitLaws.{on-catalog}
 use Rattle.grow.specs.Grow.{GrownFrom}
 use Rattle.create.specs.Create.{Created, stays, grows}
 use Rattle.remove.specs.Remove.{Removed}
@@ -43,7 +43,7 @@ creates p image n size attributes optional tail = writes image (Created p image 
 
 -- the first unused place of a name's key
 pub first-place : {image : List ℕ} {p : Plain} → OnDisc image p → (n : ℕ) → placesTaken (p .H) (keyOf (p .H) n) (sysOf p) (p .files) < 16 * p .layers → (u : ℕ) × FirstUnused image p (sysOf p) (keyOf (p .H) n) u
-first-place {p = p} on n room = first-unused (on-catalog on) (keyOf (p .H) n) (mod-lt _ (on .good .limits .keys-low)) room
+first-place {p = p} on n room = first-unused (on-catalog on) (keyOf (p .H) n) (mod-lt _ (on .good .limits .keysLow)) room
 
 -- ---- SYS grows by a layer
 

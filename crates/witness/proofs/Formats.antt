@@ -19,9 +19,9 @@ limits-or : (H s F N : ℕ) {C : Type 0} → (Limits H s F N → C) → ((Limits
 limits-or H s F N f h =
     at-most 1 H (λ a. at-most H 64 (λ b. at-most 2 s (λ c. at-most s 64 (λ d. at-most 10 F (λ e. below-or F N (λ g. at-most N 32767 (λ i.
     same-or ((N - F) % s) 0 (λ j. at-most (sliceCount s F N) 4096 (λ k. at-most (ceilDiv H s) (sliceCount s F N) (λ l.
-    f (record { keys-low = a; keys-high = b; slice-low = c; slice-high = d; first = e; some-data = g; sectors = i; whole = j; slices-high = k; slices-low = l }))
-    (λ n. h (λ m. n (m .slices-low)))) (λ n. h (λ m. n (m .slices-high)))) (λ n. h (λ m. n (m .whole)))) (λ n. h (λ m. n (m .sectors))))
-    (λ n. h (λ m. omega (arith, m .some-data)))) (λ n. h (λ m. n (m .first)))) (λ n. h (λ m. n (m .slice-high)))) (λ n. h (λ m. n (m .slice-low)))) (λ n. h (λ m. n (m .keys-high)))) (λ n. h (λ m. n (m .keys-low)))
+    f (record { keysLow = a; keysHigh = b; sliceLow = c; sliceHigh = d; first = e; someData = g; sectors = i; whole = j; slicesHigh = k; slicesLow = l }))
+    (λ n. h (λ m. n (m .slicesLow)))) (λ n. h (λ m. n (m .slicesHigh)))) (λ n. h (λ m. n (m .whole)))) (λ n. h (λ m. n (m .sectors))))
+    (λ n. h (λ m. omega (arith, m .someData)))) (λ n. h (λ m. n (m .first)))) (λ n. h (λ m. n (m .sliceHigh)))) (λ n. h (λ m. n (m .sliceLow)))) (λ n. h (λ m. n (m .keysHigh)))) (λ n. h (λ m. n (m .keysLow)))
 
 record-or : (bytes : ℕ) (lent : List ℕ) {C : Type 0} → (RecordLent bytes lent → C) → ((RecordLent bytes lent → ⊥) → C) → C
 record-or bytes lent f h =

@@ -8,9 +8,9 @@ use Rattle.types.specs.declared.Message.{Message}
 use Rattle.types.specs.State.{areaAt, isOpen, IsOpen, UnitKnown}
 use Rattle.disc.proofs.Compare.{same-or, below-or}
 use Rattle.disc.proofs.DecideLaws.{true≢false}
-use Rattle.known.specs.declared.Class.{Class}
-use Rattle.known.specs.declared.Class.the-variants as class
-use Rattle.known.specs.Known.{classified, unitMeant, Ready, Known}
+use Rattle.first_question.specs.declared.Class.{Class}
+use Rattle.first_question.specs.declared.Class.the-variants as class
+use Rattle.first_question.specs.Known.{classified, unitMeant, Ready, Known}
 
 pub at-most : (a b : ℕ) {C : Type 0} → (a ≤ b → C) → ((a ≤ b → ⊥) → C) → C
 at-most a b f h = below-or b a (λ x. h (λ y. omega arith)) f

@@ -17,8 +17,8 @@ use Rattle.sound.specs.Sound.{SoundUnit}
 use Rattle.refine.specs.Represents.{Represents}
 use Rattle.refine.specs.Demands.{Performed, empty, then}
 use Rattle.refine.proofs.SoundRepresents.{sound-represents}
-use Rattle.steps.proofs.Whole.{on-disc}
-use Rattle.known.specs.Known.{unknownWord, unsoundWord, Known}
+use Rattle.preservation.proofs.Whole.{on-disc}
+use Rattle.first_question.specs.Known.{unknownWord, unsoundWord, Known}
 use Rattle.format.specs.Format.{FormatAnswer}
 use Rattle.perform.specs.Perform.{performed, Obeyed, Performs, unknown, unsound, obeyed}
 use Rattle.perform.proofs.ObeyLaws.{meant, stays, create-by, set-by, remove-by, change-by, create-area-by, remove-area-by, area-message-obeyed, init-obeyed}
@@ -75,13 +75,13 @@ module _ (image : List ℕ) (state : State) (message : Message) (lent : List ℕ
   unfoldable pub no-unit : (Known state message → ⊥) → ResultOf Performs image state message lent
   no-unit n = record {
     result = performed image state (answer (unknownWord message) 0 0 0) lent;
-    given = unknown n (record { answered = refl; same-image = refl; same-state = refl; same-lent = refl });
+    given = unknown n (record { answered = refl; sameImage = refl; sameState = refl; sameLent = refl });
   }
 
   unfoldable pub not-sound : Known state message → (SoundUnit image state → ⊥) → ResultOf Performs image state message lent
   not-sound k n = record {
     result = performed image state (answer (unsoundWord message) 0 0 0) lent;
-    given = unsound k n (record { answered = refl; same-image = refl; same-state = refl; same-lent = refl });
+    given = unsound k n (record { answered = refl; sameImage = refl; sameState = refl; sameLent = refl });
   }
 
   -- the unit that is obeyed is the only one

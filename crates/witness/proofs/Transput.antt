@@ -17,10 +17,10 @@ use Rattle.plain.proofs.TableLaws.{some-inj}
 use Rattle.refine.proofs.SoundRepresents.{sound-represents}
 use Rattle.refine.proofs.StateLaws.{named-name}
 use Rattle.refine.proofs.UserLaws.{entry-id}
-use Rattle.unit.specs.Unit.{NumbersOf}
-use Rattle.sharing.specs.declared.AreaReply.{AreaReply}
-use Rattle.sharing.specs.Sharing.{atPosition, positionWord}
-use Rattle.sharing.specs.Seat.{Seat, areaUsers, areaUser}
+use Rattle.lookup.specs.Unit.{NumbersOf}
+use Rattle.area_users.specs.declared.AreaReply.{AreaReply}
+use Rattle.area_users.specs.Sharing.{atPosition, positionWord}
+use Rattle.area_users.specs.Seat.{Seat, areaUsers, areaUser}
 use Rattle.output.specs.Output.{Placed, OutputLeaves, Outputs}
 use Rattle.output.proofs.OutputLaws.{output-leaves}
 use Rattle.transput.specs.Transput.{refusalWord, InputLeaves, Inputs, TransputsAt, TransputLeaves, Transputs}

@@ -22,7 +22,7 @@ use Rattle.examples.specs.Cases.{callsOf, answersIn, Shows}
 use Rattle.examples.specs.Paper.{paperUnit}
 use Rattle.sound.specs.Sound.{SoundUnit}
 use Rattle.refine.specs.Demands.{Contract, Run, empty, then}
-use Rattle.known.specs.Known.{Known}
+use Rattle.first_question.specs.Known.{Known}
 use Rattle.format.specs.Format.{FormatAnswer}
 use Rattle.perform.specs.Perform.{Performs}
 use Rattle.demands.specs.FormatContract.{FormatContract}
@@ -60,7 +60,7 @@ module _ (disc : List ℕ) (words : Words disc) (size : length disc ≡ 5120) wh
       let b = begun disc words size in
       let u = begun-unit disc words size in
       let r = total .list (b .init .image) (b .init .state) (callsOf witnessCases) (b .sound) lent-words in
-      let d = the-demands .after-init .holds (b .inits) (b .init-done) lent-words (r .run) in
+      let d = the-demands .afterInit .holds (b .inits) (b .initDone) lent-words (r .run) in
       record {
         begun = b;
         words = lent-words;
@@ -75,7 +75,7 @@ another-unit : Known (freshState 0) (Init 1) → ⊥
 another-unit k = omega (arith, k .unit .number)
 
 no-words : SoundUnit [] (freshState 0) → ⊥
-no-words s = omega (arith, s .rules .size, s .rules .limits .some-data)
+no-words s = omega (arith, s .rules .size, s .rules .limits .someData)
 
 pub met : Met Performs FormatAnswer
 unfolding no-unit not-sound
@@ -83,7 +83,7 @@ met = record {
   discs = witness;
   zeros = witness (zeroWords (256 * 20)) (words-zeroWords (256 * 20)) (length-zeroWords (256 * 20));
   another = no-unit [] (freshState 0) (Init 1) [] another-unit;
-  another-word = refl;
+  anotherWord = refl;
   unsound = not-sound [] (freshState 0) (Init 0) [] known no-words;
-  unsound-word = refl;
+  unsoundWord = refl;
 }

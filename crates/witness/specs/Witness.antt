@@ -26,10 +26,10 @@ pub record Begun (C : Contract) (F : FormatContract) (disc : List ℕ) : Type 0 
   pub formatted : List ℕ
   pub format : Formatted
   pub formats : F disc (freshState 0) 18 (paperRecord 0 0) formatted format
-  pub format-done : format .result ≡ 0
+  pub formatDone : format .result ≡ 0
   pub init : Performed
   pub inits : C formatted (format .state) (Init 0) [] init
-  pub init-done : init .answer .result ≡ 0
+  pub initDone : init .answer .result ≡ 0
   pub sound : SoundUnit (init .image) (init .state)
   pub accepted : AcceptedState (init .state)
 
@@ -60,6 +60,6 @@ pub record Met (C : Contract) (F : FormatContract) : Type 0 where
   pub zeros : Witness C F (zeroWords (256 * 20))
   -- the first two questions have the answer no, too: Init of another unit, and Init on an image of no words
   pub another : ResultOf C [] (freshState 0) (Init 1) []
-  pub another-word : another .result .answer .result ≡ 0x1200
+  pub anotherWord : another .result .answer .result ≡ 0x1200
   pub unsound : ResultOf C [] (freshState 0) (Init 0) []
-  pub unsound-word : unsound .result .answer .result ≡ 0x9000
+  pub unsoundWord : unsound .result .answer .result ≡ 0x9000

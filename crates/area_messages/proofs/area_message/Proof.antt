@@ -4,8 +4,9 @@ use mathlib.Core.Path.{_≡_, sym, _∙_}
 use mathlib.Core.Bool.{false}
 use borrow.Author.Tests.{not-true, not-false}
 use Rattle.state.specs.declared.Kind.the-variants.{Exclusive}
-use Rattle.state.specs.Areas.{packed, anyOther}
-use Rattle.steps.proofs.AreaMessages.{area-low}
+use Rattle.disc.specs.Names.{packed}
+use Rattle.state.specs.Areas.{anyOther}
+use Rattle.preservation.proofs.AreaMessages.{area-low}
 use Rattle.area_messages.proofs.MessageLaws.{message-shut, message-reserved, message-nobody, message-strange, message-can, message-asked}
 use Rattle.area_messages.proofs.area_message.Statement.{statement}
 use Rattle.area_messages.proofs.area_message.Tie as tie

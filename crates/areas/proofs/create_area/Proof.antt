@@ -1,8 +1,8 @@
 -- `areas::create_area` meets its contract. Assumes nothing.
 use mathlib.Core.Path.{sym, _∙_}
 use borrow.Author.Needs.{needs}
-use Rattle.unit.proofs.UnitLaws.{searchable}
-use Rattle.unit.proofs.FileLaws.{represented-on}
+use Rattle.lookup.proofs.UnitLaws.{searchable}
+use Rattle.lookup.proofs.FileLaws.{represented-on}
 use Rattle.areas.proofs.CreateLaws.{creates-none, creates-system, creates-open, creates-full, creates-done}
 use Rattle.areas.proofs.create_area.Statement.{statement}
 use Rattle.areas.proofs.create_area.Tie as tie

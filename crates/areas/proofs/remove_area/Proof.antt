@@ -1,8 +1,8 @@
 -- `areas::remove_area` meets its contract. Assumes nothing.
 use mathlib.Core.Path.{sym, _∙_}
 use borrow.Author.Needs.{needs}
-use Rattle.unit.proofs.UnitLaws.{searchable}
-use Rattle.unit.proofs.FileLaws.{represented-on}
+use Rattle.lookup.proofs.UnitLaws.{searchable}
+use Rattle.lookup.proofs.FileLaws.{represented-on}
 use Rattle.areas.proofs.RemoveLaws.{removes-system, removes-none, area-inside, removes-used, removes-lost, can-book, removes-done}
 use Rattle.areas.proofs.remove_area.Statement.{statement}
 use Rattle.areas.proofs.remove_area.Tie as tie

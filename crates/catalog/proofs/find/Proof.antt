@@ -3,7 +3,7 @@ use mathlib.Core.Path.{_≡_, ap}
 use Prim.Native.Nat.{ℕ, _-_}
 use native.Mathlib.Nat.{sub-zero}
 use borrow.Author.Needs.{needs}
-use Rattle.disc.specs.Names.{pack}
+use Rattle.disc.specs.Names.{packed}
 use Rattle.catalog.specs.Catalog.{keySector, slotNamed, placeFrom, placeNamed}
 use Rattle.catalog.proofs.AnswerLaws.{name-place}
 use Rattle.catalog.proofs.WalkLaws.{place-here, place-next, place-none}
@@ -12,7 +12,7 @@ use Rattle.catalog.proofs.find.Tie as tie
 
 abbrev Inv-loop : tie.InvT-loop
 Inv-loop image c name key layer₀ layer =
-    let n = pack (name .0) (name .1) (name .2) in
+    let n = packed name in
     placeFrom (slotNamed image n) (keySector image c key) (c .layers - layer) layer ≡ placeNamed image c n
 
 abbrev μ-loop : tie.MeasureT-loop
@@ -24,7 +24,7 @@ key-requires c κs = c .before .pre
 loop-holds : tie.Need-loop-holds Inv-loop μ-loop
 loop-holds c =
     let a = c .before .before .args in
-    let n = pack (a .name .0) (a .name .1) (a .name .2) in
+    let n = packed (a .name) in
     rw sub-zero (ap (λ (k : ℕ). placeFrom (slotNamed (a .image .now) n) (keySector (a .image .now) (a .c) k) (a .c .layers) 0) (c .key .ensures))
 
 returns : tie.Need-returns Inv-loop μ-loop
@@ -33,7 +33,7 @@ returns c =
     let turn = key-sector .before in
     let l = turn .before .before in
     let a = l .before .before .before .args in
-    let test = slotNamed (a .image .now) (pack (a .name .0) (a .name .1) (a .name .2)) in
+    let test = slotNamed (a .image .now) (packed (a .name)) in
     name-place
     (place-here test (keySector (a .image .now) (a .c) (l .before .key .result)) (a .c .layers) (l .loop .layer)
     (key-sector .key-sector .result .0) (c .before .slot-named .result)
@@ -45,7 +45,7 @@ loop-again c =
     let turn = key-sector .before in
     let l = turn .before .before in
     let a = l .before .before .before .args in
-    let test = slotNamed (a .image .now) (pack (a .name .0) (a .name .1) (a .name .2)) in
+    let test = slotNamed (a .image .now) (packed (a .name)) in
     place-next test (keySector (a .image .now) (a .c) (l .before .key .result)) (a .c .layers) (l .loop .layer)
     (key-sector .key-sector .result .0) (c .before .slot-named .result)
     (l .loop .inv) (turn .if1 .taken) (key-sector .key-sector .ensures) (c .before .slot-named .ensures) (c .if2 .left)
@@ -54,7 +54,7 @@ returns-2 : tie.Need-returns-2 Inv-loop μ-loop
 returns-2 c =
     let l = c .before .before in
     let a = l .before .before .before .args in
-    let test = slotNamed (a .image .now) (pack (a .name .0) (a .name .1) (a .name .2)) in
+    let test = slotNamed (a .image .now) (packed (a .name)) in
     name-place
     (place-none test (keySector (a .image .now) (a .c) (l .before .key .result)) (a .c .layers) (l .loop .layer) (l .loop .inv) (c .if1 .left))
 

@@ -2,8 +2,8 @@
 use mathlib.Core.Path.{sym, _∙_}
 use native.Mathlib.Omega.{arith}
 use borrow.Author.Needs.{needs}
-use Rattle.unit.proofs.UnitLaws.{searchable}
-use Rattle.unit.proofs.FileLaws.{represented-on}
+use Rattle.lookup.proofs.UnitLaws.{searchable}
+use Rattle.lookup.proofs.FileLaws.{represented-on}
 use Rattle.change.proofs.ChangeLaws.{changes-none, changes-short, changes-entry-only, changes-system, changes-open, can-change-file, changes-file}
 use Rattle.change.proofs.change.Statement.{statement}
 use Rattle.change.proofs.change.Tie as tie

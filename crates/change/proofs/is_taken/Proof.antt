@@ -2,7 +2,7 @@
 use mathlib.Core.Path.{refl}
 use borrow.Author.Needs.{needs}
 use Rattle.disc.proofs.DecideLaws.{was-false, was-true}
-use Rattle.unit.proofs.UnitLaws.{searchable}
+use Rattle.lookup.proofs.UnitLaws.{searchable}
 use Rattle.change.proofs.LayerLaws.{taken-kept, taken-at, taken-not}
 use Rattle.change.proofs.is_taken.Statement.{statement}
 use Rattle.change.proofs.is_taken.Tie as tie

@@ -4,7 +4,7 @@ use native.Mathlib.Omega.{arith}
 use native.Mathlib.Nat.{mod-lt}
 use borrow.Author.Needs.{needs}
 use Rattle.disc.proofs.DecideLaws.{was-false, was-true}
-use Rattle.unit.proofs.UnitLaws.{searchable}
+use Rattle.lookup.proofs.UnitLaws.{searchable}
 use Rattle.change.proofs.LayerLaws.{some-layers, layers-kept, layers-same, layers-found, layers-more}
 use Rattle.change.proofs.layers_for.Statement.{statement}
 use Rattle.change.proofs.layers_for.Tie as tie

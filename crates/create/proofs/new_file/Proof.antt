@@ -2,7 +2,7 @@
 use borrow.Author.Needs.{needs}
 use native.Mathlib.Omega.{arith}
 use Rattle.disc.specs.Words.{Words}
-use Rattle.unit.proofs.UnitLaws.{searchable}
+use Rattle.lookup.proofs.UnitLaws.{searchable}
 use Rattle.create.proofs.MessageLaws.{refused-legal, refused-name, place-from, grow-for, key-below}
 use Rattle.create.proofs.new_file.Statement.{statement}
 use Rattle.create.proofs.new_file.Tie as tie

@@ -1,7 +1,7 @@
 -- `export::format_step` meets its contract. Assumes nothing.
 use borrow.Author.Needs.{needs}
 use denote.Struct.Laws as LL
-use Rattle.users.proofs.ShapeLaws.{shaped}
+use Rattle.sound_users.proofs.ShapeLaws.{shaped}
 use Rattle.format.proofs.Formatted as F
 use Rattle.format.proofs.Formatted.Laws as F′
 use Rattle.export.proofs.ShapeLaws.{arrays}

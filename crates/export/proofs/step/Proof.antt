@@ -2,7 +2,7 @@
 use mathlib.Core.Path.{refl, sym, _∙_}
 use borrow.Author.Needs.{needs}
 use denote.Struct.Laws as LL
-use Rattle.users.proofs.ShapeLaws.{shaped}
+use Rattle.sound_users.proofs.ShapeLaws.{shaped}
 use Rattle.perform.proofs.Outcome as O
 use Rattle.perform.proofs.Outcome.Laws as O′
 use Rattle.export.specs.Calls.{call, noSuchCall}
@@ -13,7 +13,7 @@ use Rattle.export.proofs.step.Tie as tie
 
 returns : tie.Need-returns
 returns c =
-    noSuchCall (sym (c .before .before .asked-of .ensures) ∙ c .enum-told .given .1) (record { answered = refl; same-image = refl; same-mirror = refl; same-lent = refl })
+    noSuchCall (sym (c .before .before .asked-of .ensures) ∙ c .enum-told .given .1) (record { answered = refl; sameImage = refl; sameMirror = refl; sameLent = refl })
 
 returns-2 : tie.Need-returns-2
 returns-2 c =

@@ -29,7 +29,7 @@ accepts-spec =
     (λ c κs. search needs)
     (λ c. fails (λ f. refutes _ (c .before .within-limits .ensures) (c .if2 .taken) (f .limits)))
     (λ c. search needs)
-    (λ c. omega (arith, limits (c .before .before) .some-data))
+    (λ c. omega (arith, limits (c .before .before) .someData))
     (λ c. fails (λ f. c .if3 .taken (f .free)))
     (λ c. search needs)
     (λ c. fails (λ f. c .if4 .taken (f .top)))

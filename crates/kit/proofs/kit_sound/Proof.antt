@@ -61,7 +61,7 @@ mul-result-2 c =
     let else2 = c .before .before .before .before .before .before .before .before in
     let u = unit else2 in
     let few : c .count-free .result ≤ 65535 = omega arith in
-    omega (arith, mul-le-mul (u .limits .slice-high) few)
+    omega (arith, mul-le-mul (u .limits .sliceHigh) few)
 
 returns-5 : tie.Need-returns-5
 returns-5 c =

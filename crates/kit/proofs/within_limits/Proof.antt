@@ -50,18 +50,18 @@ returns-10 c =
     decides-le (a .keys) d
     (λ h.
     record {
-      keys-low = omega arith;
-      keys-high = omega arith;
-      slice-low = omega arith;
-      slice-high = omega arith;
+      keysLow = omega arith;
+      keysHigh = omega arith;
+      sliceLow = omega arith;
+      sliceHigh = omega arith;
       first = omega arith;
-      some-data = omega arith;
+      someData = omega arith;
       sectors = omega arith;
       whole = product-whole d (a .slice) whole;
-      slices-high = omega arith;
-      slices-low = enough (a .keys) (a .slice) d (omega arith) whole h;
+      slicesHigh = omega arith;
+      slicesLow = enough (a .keys) (a .slice) d (omega arith) whole h;
     })
-    (λ l. enough-only (a .keys) (a .slice) d (omega arith) (l .slices-low))
+    (λ l. enough-only (a .keys) (a .slice) d (omega arith) (l .slicesLow))
 
 pub within-limits-spec : {M : Type 1} → statement M
 within-limits-spec =

@@ -88,7 +88,7 @@ add-slices : tie.Need-add-slices Inv-loop μ-loop
 add-slices c =
     let s = entry c in
     let few = passed-few (s .args .image .now) (s .args .g) (s .args .q .0) (s .pre .1) (next c) in
-    omega (arith, s .pre .0 .slices, s .pre .0 .limits .slices-high)
+    omega (arith, s .pre .0 .slices, s .pre .0 .limits .slicesHigh)
 
 add-t26 : tie.Need-add-t26 Inv-loop μ-loop
 add-t26 c =

@@ -75,7 +75,7 @@ returns-6 c =
     let k = found m in
     let fits = m .before .before .before .if4 .left in
     refuse-pair _ _ _ (λ held marked whole once.
-    run-marking _ _ (omega (arith, from-is k, fits, s .pre .1, s .pre .0 .slices-high)) (run m) (s .args .g .slices) held (omega (arith, from-is k, fits)) marked .not (not-true _ (c .if6 .taken)) tt once)
+    run-marking _ _ (omega (arith, from-is k, fits, s .pre .1, s .pre .0 .slicesHigh)) (run m) (s .args .g .slices) held (omega (arith, from-is k, fits)) marked .not (not-true _ (c .if6 .taken)) tt once)
 
 returns-7 : tie.Need-returns-7
 returns-7 c =
@@ -90,7 +90,7 @@ returns-7 c =
     let at : a .start .0 ≡ sliceStart (a .g .first .0) (a .g .slice) (k .slice-of .result .0) = grants _ (else2 .before .starts-at .ensures) (else2 .if2 .left) in
     let back : (a .start .0 - a .g .first .0) / a .g .slice * a .g .slice ≡ a .start .0 - a .g .first .0 = ap (λ (n : ℕ). n * a .g .slice) (sym (from-is k)) ∙ (let e : (k .slice-of .result .0 - 1) * a .g .slice ≡ a .start .0 - a .g .first .0 = omega arith in e) in
     mark-pair (a .g) (a .sectors) (a .start .0) (s .pre .0) (s .pre .1) (k .before .if1 .left) back (else3 .if3 .left) fits
-    (not-false _ (c .if6 .left)) (run-marking _ _ (omega (arith, fits, s .pre .1, s .pre .0 .slices-high)) (run m))
+    (not-false _ (c .if6 .left)) (run-marking _ _ (omega (arith, fits, s .pre .1, s .pre .0 .slicesHigh)) (run m))
 
 pub mark-pair-spec : {M : Type 1} → statement M
 mark-pair-spec =

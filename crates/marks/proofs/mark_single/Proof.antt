@@ -21,14 +21,14 @@ abbrev File : tie.Start → Type 0
 File s = let a = s .args in SingleFile (a .image .now) (a .g) (a .q .0) (a .sectors) (a .marks .now)
 
 few : (s : tie.Start) → s .args .reciprocal ≤ 32769
-few s = omega (arith, s .pre .1, quotient-lt 65536 (s .args .g .slice) 32769 (s .pre .0 .limits .slice-low) (omega arith))
+few s = omega (arith, s .pre .1, quotient-lt 65536 (s .args .g .slice) 32769 (s .pre .0 .limits .sliceLow) (omega arith))
 
 -- the guesses are right for a file in one stretch
 guessed-slice : (c : tie.After-slice-by) → File (entry c) → let a = entry c .args in c .slice-by .result .0 ≡ (a .q .0 - a .g .first .0) / a .g .slice + 1
 guessed-slice c file =
     let s = entry c in
     let a = s .args in
-    c .slice-by .ensures .1 (a .g .slice) ((a .q .0 - a .g .first .0) / a .g .slice + 1) (s .pre .0 .limits .slice-low) (s .pre .1) (omega arith)
+    c .slice-by .ensures .1 (a .g .slice) ((a .q .0 - a .g .first .0) / a .g .slice + 1) (s .pre .0 .limits .sliceLow) (s .pre .1) (omega arith)
     (single-starts (a .image .now) (a .g) (a .q .0) (a .sectors) (s .pre .0) file)
 
 abbrev slice : tie.After-slices-by → tie.After-slice-by
@@ -38,7 +38,7 @@ guessed-count : (c : tie.After-slices-by) → File (entry (slice c)) → let a =
 guessed-count c file =
     let s = entry (slice c) in
     let a = s .args in
-    c .slices-by .ensures .1 (a .g .slice) (a .sectors / a .g .slice) (s .pre .0 .limits .slice-low) (s .pre .1)
+    c .slices-by .ensures .1 (a .g .slice) (a .sectors / a .g .slice) (s .pre .0 .limits .sliceLow) (s .pre .1)
     (single-count (a .image .now) (a .g) (a .q .0) (a .sectors) (s .pre .0) file .0)
 
 -- once all numbers are tested
@@ -81,7 +81,7 @@ slices-by-requires c κs = few (entry (c .before .before))
 mul-if3 : tie.Need-mul-if3
 mul-if3 c =
     let n = c .before in
-    omega (arith, mul-le-mul (n .slices-by .ensures .0 .1) (entry (slice n) .pre .0 .limits .slice-high))
+    omega (arith, mul-le-mul (n .slices-by .ensures .0 .1) (entry (slice n) .pre .0 .limits .sliceHigh))
 
 returns-3 : tie.Need-returns-3
 returns-3 c =

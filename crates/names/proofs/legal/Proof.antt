@@ -3,7 +3,7 @@ use mathlib.Core.Path.{_≡_, sym, ap, _∙_}
 use mathlib.Core.Bool.{Bool}
 use Prim.Native.Nat.{ℕ}
 use borrow.Author.Needs.{needs}
-use Rattle.disc.specs.Names.{pack, legalName}
+use Rattle.disc.specs.Names.{legalName, packed}
 use Rattle.disc.proofs.DecideLaws.{was-true, was-false}
 use Rattle.names.proofs.LegalLaws.{rest1, rest2, rest3, rest4, begins, begins-not, goes-1, goes-2, goes-3, goes-4, stops-1, stops-2, stops-3, stops-4}
 use Rattle.names.proofs.legal.Statement.{statement}
@@ -14,7 +14,7 @@ abbrev number1 : tie.Else1 → ℕ
 number1 c = c .before .before .packed .result
 
 abbrev whole1 : tie.Else1 → Bool
-whole1 c = let name = c .before .before .before .args .name in legalName (pack (name .0) (name .1) (name .2))
+whole1 c = let name = c .before .before .before .args .name in legalName (packed name)
 
 abbrev number2 : tie.Else2 → ℕ
 number2 c = number1 (c .before .before)

@@ -25,8 +25,8 @@ read c =
     let start = test .before .before in
     let name = start .args .name in
     record {
-      second-word = omega arith;
-      third-word = omega arith;
+      secondWord = omega arith;
+      thirdWord = omega arith;
       first = letter-one (name .0 / 256) (test .if1 .left) (omega (arith, initial (c .before), c .if2 .left));
       one = start .pre .each (name .0 % 256) (omega arith);
       two = start .pre .each (name .1 / 256) (omega arith);

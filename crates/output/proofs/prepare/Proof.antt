@@ -5,7 +5,7 @@ use mathlib.Core.Bool.{true}
 use native.Mathlib.Omega.{arith}
 use borrow.Author.Tests.{not-true, not-false}
 use Rattle.disc.specs.Attributes.{extendable}
-use Rattle.sharing.specs.Seat.{areaUsers}
+use Rattle.area_users.specs.Seat.{areaUsers}
 use Rattle.output.proofs.OutputLaws.{searches, room-asks, position-asks, more-asks, prepares-below, prepares-fixed, prepares-full, can-extend, prepares-extended}
 use Rattle.output.proofs.prepare.Statement.{statement}
 use Rattle.output.proofs.prepare.Tie as tie

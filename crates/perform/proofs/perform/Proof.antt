@@ -15,9 +15,9 @@ returns : tie.Need-returns
 returns c =
     unknown (refutes _ (c .before .before .before .known .ensures) (c .before .before .if1 .taken)) (record {
       answered = c .word-alone .ensures .0 ∙ ap (λ (n : ℕ). answer n 0 0 0) (c .before .unknown-word .ensures);
-      same-image = refl;
-      same-state = c .word-alone .ensures .1;
-      same-lent = refl;
+      sameImage = refl;
+      sameState = c .word-alone .ensures .1;
+      sameLent = refl;
     })
 
 returns-2 : tie.Need-returns-2
@@ -27,9 +27,9 @@ returns-2 c =
     let else1 = judged .before .before in
     unsound (grants _ (else1 .before .known .ensures) (else1 .if1 .left)) (judged-unsound (judged .judge .ensures) (told .enum-told .given .1)) (record {
       answered = c .word-alone2 .ensures .0 ∙ ap (λ (n : ℕ). answer n 0 0 0) (c .before .unsound-word .ensures);
-      same-image = refl;
-      same-state = c .word-alone2 .ensures .1;
-      same-lent = refl;
+      sameImage = refl;
+      sameState = c .word-alone2 .ensures .1;
+      sameLent = refl;
     })
 
 obey-requires : tie.Need-obey-requires

@@ -2,8 +2,8 @@
 use mathlib.Core.Path.{sym, ap, _∙_}
 use borrow.Author.Needs.{needs}
 use Rattle.disc.specs.Numbers.{bit}
-use Rattle.unit.proofs.UnitLaws.{searchable}
-use Rattle.unit.proofs.FileLaws.{represented-on}
+use Rattle.lookup.proofs.UnitLaws.{searchable}
+use Rattle.lookup.proofs.FileLaws.{represented-on}
 use Rattle.remove.proofs.RemoveLaws.{removes-none, removes-system, removes-open, removes-permanent, can-drop, removes-done}
 use Rattle.remove.proofs.remove.Statement.{statement}
 use Rattle.remove.proofs.remove.Tie as tie

@@ -1,6 +1,6 @@
 -- `reports::describe` meets its contract. Assumes nothing.
 use borrow.Author.Needs.{needs}
-use Rattle.unit.proofs.MeantLaws.{known-low}
+use Rattle.lookup.proofs.MeantLaws.{known-low}
 use Rattle.reports.proofs.DescriptionLaws.{describes-bytes, describes-short, describes-done}
 use Rattle.reports.proofs.describe.Statement.{statement}
 use Rattle.reports.proofs.describe.Tie as tie

@@ -10,7 +10,7 @@ use Rattle.types.specs.State.{areaAt, IsOpen}
 use Rattle.sound.specs.State.{areaName}
 use Rattle.disc.specs.Entries.{placeCount}
 use Rattle.disc.proofs.DecideLaws.{holds, fails, refutes, grants, true≢false}
-use Rattle.entries.specs.Sys.{placesIn}
+use Rattle.sound_entries.specs.Sys.{placesIn}
 use Rattle.soundness.specs.Areas.{OrdinaryEntered}
 use Rattle.soundness.proofs.areas_entered.Statement.{statement}
 use Rattle.soundness.proofs.areas_entered.Tie as tie

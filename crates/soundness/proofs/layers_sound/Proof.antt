@@ -1,8 +1,8 @@
 -- `soundness::layers_sound` meets its contract. Assumes nothing.
 use borrow.Author.Tests.{not-false}
 use Rattle.disc.proofs.DecideLaws.{fails, refutes, grants}
-use Rattle.entries.specs.Sys.{SysIn}
-use Rattle.files.proofs.SysLaws.{known-sys}
+use Rattle.sound_entries.specs.Sys.{SysIn}
+use Rattle.sound_files.proofs.SysLaws.{known-sys}
 use Rattle.soundness.proofs.LayerLaws.{names-known, files-refused, map-decides}
 use Rattle.soundness.proofs.layers_sound.Statement.{statement}
 use Rattle.soundness.proofs.layers_sound.Tie as tie

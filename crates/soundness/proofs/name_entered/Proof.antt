@@ -3,8 +3,8 @@ use mathlib.Core.Path.{sym, _∙_}
 use native.Mathlib.Omega.{arith}
 use borrow.Author.Needs.{needs}
 use Rattle.disc.proofs.DecideLaws.{holds, fails}
-use Rattle.entries.proofs.PlaceLaws.{T-of, T-not}
-use Rattle.entries.proofs.FindLaws.{some-key}
+use Rattle.sound_entries.proofs.PlaceLaws.{T-of, T-not}
+use Rattle.sound_entries.proofs.FindLaws.{some-key}
 use Rattle.soundness.proofs.AreaLaws.{entered-first, entered-found, found-entered}
 use Rattle.soundness.proofs.name_entered.Statement.{statement}
 use Rattle.soundness.proofs.name_entered.Tie as tie

@@ -1,0 +1,11 @@
+-- `area_users::at_position` meets its contract. Assumes nothing.
+use borrow.Author.Needs.{needs}
+use Rattle.area_users.proofs.at_position.Statement.{statement}
+use Rattle.area_users.proofs.at_position.Tie as tie
+
+returns : tie.Need-returns
+returns c = simp (c .with-area .ensures, c .before .with-position .ensures, c .before .before .area-at .ensures)
+
+pub at-position-spec : {M : Type 1} → statement M
+at-position-spec =
+    tie.close (tie.spec (λ c κs. search needs) (λ c κs. search needs) (λ c κs. search needs) returns)
