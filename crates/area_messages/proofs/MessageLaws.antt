@@ -39,10 +39,10 @@ use Rattle.preservation.proofs.AreaUnit.{area-shut, area-reserved, area-nobody,
 use Rattle.lookup.specs.Unit.{NumbersOf, Meant}
 use Rattle.lookup.proofs.MeantLaws.{meant-known}
 use Rattle.area_users.specs.declared.AreaReply.{AreaReply}
-use Rattle.area_users.specs.Sharing.{areaReply, atPosition, positionWord, positionReached, reservedReply, releasedReply, positionReply}
+use Rattle.area_users.specs.AreaUsers.{areaReply, atPosition, positionWord, positionReached, reservedReply, releasedReply, positionReply}
 use Rattle.refine.specs.Leaves.{Leaves}
 use Rattle.area_users.specs.Seat.{Seat, areaUsers, areaUser}
-use Rattle.area_users.proofs.ShareLaws.{seat-size, reserve-leaves, release-leaves, moved-good, moved-represents, reached-low, Positioned, positioned-by}
+use Rattle.area_users.proofs.UserLaws.{seat-size, reserve-leaves, release-leaves, moved-good, moved-represents, reached-low, Positioned, positioned-by}
 use Rattle.transput.specs.Transput.{Transputs, Seated}
 use Rattle.transput.proofs.TransputLaws.{kept-image}
 use Rattle.area_messages.specs.AreaMessages.{knownCount, knownTransput, reserveWord, messageImage, userState, operationState, admitted, messageState, UserSteps, OperatesFrom, CanOperate, Operates, AreaMessages}

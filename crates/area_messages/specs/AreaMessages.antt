@@ -29,7 +29,7 @@ use Rattle.plain.specs.Good.{Good}
 use Rattle.refine.specs.Represents.{Represents}
 use Rattle.lookup.specs.Unit.{NumbersOf}
 use Rattle.area_users.specs.declared.AreaReply.{AreaReply}
-use Rattle.area_users.specs.Sharing.{atPosition, positionReached}
+use Rattle.area_users.specs.AreaUsers.{atPosition, positionReached}
 use Rattle.refine.specs.Leaves.{Leaves}
 use Rattle.area_users.specs.Seat.{Seat, areaUsers, areaUser}
 use Rattle.transput.specs.Transput.{transputImage, transputState}

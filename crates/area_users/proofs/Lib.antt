@@ -1,1 +1,1 @@
-pub mod ShareLaws
+pub mod UserLaws

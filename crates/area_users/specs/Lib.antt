@@ -1,2 +1,2 @@
-pub mod Sharing
+pub mod AreaUsers
 pub mod Seat

@@ -2,8 +2,8 @@
 
 ghost use mathlib.Core.Path.{_≡_};
 ghost use Prim.Native.Nat.{_+_, _<_};
-ghost use Rattle.area_users.specs.Sharing.{areaReply, atPosition, positionWord, positionReached};
-ghost use Rattle.area_users.specs.Sharing.{reservedReply, releasedReply, positionReply};
+ghost use Rattle.area_users.specs.AreaUsers.{areaReply, atPosition, positionWord, positionReached};
+ghost use Rattle.area_users.specs.AreaUsers.{reservedReply, releasedReply, positionReply};
 use types::Answer;
 use types::Block;
 use types::State;

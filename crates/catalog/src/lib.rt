@@ -1,4 +1,5 @@
-// The places of a catalog: found by name, found unused, read, written and cleared. The catalog is a parameter; SYS is one.
+// A catalog and a unit as values; the words of an entry; the places of a catalog: found by name, found unused, read, written and cleared.
+// The catalog is a parameter; SYS is one.
 
 ghost use mathlib.Core.Path.{_≡_};
 ghost use mathlib.Core.List.{_++_};

@@ -11,7 +11,6 @@ use Rattle.disc.specs.Numbers.{need, negative}
 use Rattle.disc.specs.Words.{Words}
 use Rattle.disc.specs.Names.{legalName, keyOf, named, unitIn}
 use Rattle.disc.specs.Attributes.{legalAttributes, givesEntryOnly}
-use Rattle.disc.specs.Slices.{taken}
 use Rattle.disc.specs.Stretches.{stretchCount}
 use Rattle.catalog.specs.declared.Place.{Place}
 use Rattle.catalog.specs.declared.Unit.{Unit}

@@ -35,9 +35,9 @@ use Rattle.refine.specs.Represents.{Represents}
 use Rattle.refine.proofs.StateLaws.{same-absent}
 use Rattle.preservation.proofs.AreaMessages.{area-set-same, reserve-refused, area-found, area-other, reserve-outcome, sender-absent, sender-found, area-file}
 use Rattle.preservation.proofs.AreaUnit.{area-shut, area-reserved, area-nobody, area-strange, area-asked, operation-reserve, operation-stranger, operation-user, user-release}
-use Rattle.area_users.specs.Sharing.{atPosition, positionWord, positionReached}
+use Rattle.area_users.specs.AreaUsers.{atPosition, positionWord, positionReached}
 use Rattle.area_users.specs.Seat.{Seat, areaUsers, areaUser}
-use Rattle.area_users.proofs.ShareLaws.{own-position, positioned-by}
+use Rattle.area_users.proofs.UserLaws.{own-position, positioned-by}
 use Rattle.transput.specs.Transput.{transputState}
 use Rattle.transput.proofs.TransputLaws.{kept-image, kept-state}
 use Rattle.area_messages.specs.AreaMessages.{reserveWord, messageImage, userState, operationState, messageState}

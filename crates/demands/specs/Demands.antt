@@ -21,7 +21,7 @@ use Rattle.sound.specs.State.{Shaped}
 use Rattle.sound.specs.Sound.{SoundUnit}
 use Rattle.refine.specs.Represents.{Represents}
 use Rattle.refine.specs.Demands.{Performed, Contract, Run, AcceptedState, Demand3After, Demand3}
-use Rattle.area_users.specs.Sharing.{atPosition}
+use Rattle.area_users.specs.AreaUsers.{atPosition}
 use Rattle.first_question.specs.Known.{unknownWord, unsoundWord, Known}
 use Rattle.format.specs.declared.Formatted.{Formatted}
 use Rattle.format.specs.Format.{FormatAnswer}

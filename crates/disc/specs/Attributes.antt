@@ -1,7 +1,7 @@
 -- "Attributes a caller may set: bits 1, 11 permanent, 12 write protected, 13 entry only, 15 extendable". Bit 13 is withdrawn by R-9 of
 -- document 02: an entry of before may have it, and no message may give it.
 use mathlib.Core.Bool.{Bool, true, false, not, _&&_}
-use Prim.Native.Nat.{ℕ, _+_, _<_}
+use Prim.Native.Nat.{ℕ, _+_}
 use lib.Dec.{eqb, ltb}
 use Rattle.disc.specs.Numbers.{bit, bitWord, negative}
 

@@ -1,6 +1,6 @@
 -- Entries and their places: "Entry, 16 words: 0-2 name, 3-5 optional, 6 attributes, 7 length, 8 index sector (0 if
 -- none), 9 reserved = s times slices, 10-15 tail."
-use mathlib.Core.List.{List, [], _∷_, _++_}
+use mathlib.Core.List.{List, _∷_, _++_}
 use Prim.Native.Nat.{ℕ, zero, suc, _+_, _*_, _/_, _%_}
 use lib.ListN.{length, take, drop, replicate}
 use Rattle.disc.specs.Numbers.{sliceStart}

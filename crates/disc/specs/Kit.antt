@@ -2,7 +2,7 @@
 -- top = N", and its limits.
 use mathlib.Core.Path.{_≡_}
 use mathlib.Core.List.{List}
-use Prim.Native.Nat.{ℕ, _-_, _/_, _%_, _≤_, _<_}
+use Prim.Native.Nat.{ℕ, _-_, _%_, _≤_, _<_}
 use Rattle.disc.specs.Numbers.{ceilDiv, sliceCount}
 use Rattle.disc.specs.Words.{word}
 

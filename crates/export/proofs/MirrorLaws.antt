@@ -17,7 +17,7 @@ use Rattle.types.specs.State.{vacantUser, pastArea, areaAt, userAt}
 use Rattle.disc.proofs.Compare.{same-or}
 use Rattle.sound.specs.State.{Shaped}
 use Rattle.state.specs.Areas.{movedUser, moved}
-use Rattle.area_users.specs.Sharing.{atPosition}
+use Rattle.area_users.specs.AreaUsers.{atPosition}
 use Rattle.export.specs.declared.UserState.{UserState}
 use Rattle.export.specs.declared.AreaState.{AreaState}
 use Rattle.export.specs.declared.UnitState.{UnitState}

@@ -73,7 +73,7 @@ pub record UnitDemand1 (C : UnitContract) (F : UnitFormatContract) : Type 0 wher
   pub formatDetermined : {image : List ℕ} {state : UnitState} {bytes : ℕ} {lent : List ℕ} {r q : UnitFormatted}
       → F image state bytes lent r → F image state bytes lent q → r ≡ q
 
--- ---- demand 2: as `Demand2`, of the states that the mirrors stand for
+-- ---- demand 2: as `Demand2`, of the states that the mirrors stand for; what a refused Init leaves is `UnitDemand1.refused`
 
 pub record UnitDemand2 (C : UnitContract) (F : UnitFormatContract) : Type 0 where
   -- "Init, on a known unit with no area process, accepts exactly the images that meet document 01's rules of a sound unit"

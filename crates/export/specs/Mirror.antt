@@ -12,7 +12,7 @@ use Rattle.types.specs.declared.Area.{Area}
 use Rattle.types.specs.declared.State.{State}
 use Rattle.types.specs.State.{areaAt, userAt}
 use Rattle.sound.specs.State.{Shaped}
-use Rattle.area_users.specs.Sharing.{atPosition}
+use Rattle.area_users.specs.AreaUsers.{atPosition}
 use Rattle.export.specs.declared.UserState.{UserState}
 use Rattle.export.specs.declared.AreaState.{AreaState}
 use Rattle.export.specs.declared.UnitState.{UnitState}

@@ -1,7 +1,7 @@
 -- SYS's growth: "With all 16 times L places taken by other names, SYS first grows by H zeroed sectors."
 use mathlib.Core.Path.{_≡_}
 use mathlib.Core.List.{List, _++_}
-use Prim.Native.Nat.{ℕ, suc, _+_, _*_, _≤_, _<_}
+use Prim.Native.Nat.{ℕ, suc, _+_, _≤_, _<_}
 use Rattle.disc.specs.Names.{SYS}
 use Rattle.disc.specs.Stretches.{stretchCount}
 use Rattle.disc.specs.Entries.{nameAt}

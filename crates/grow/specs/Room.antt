@@ -11,7 +11,6 @@ use Rattle.plain.specs.Table.{Table}
 use Rattle.plain.specs.Unit.{Plain, File, held}
 use Rattle.plain.specs.Taking.{Taking, taking, enough}
 use Rattle.grow.specs.Catalog.{CatalogIn}
-use Rattle.lookup.specs.Unit.{NumbersOf}
 
 -- The questions are asked of a catalog of a unit and of a file, whose index block is given; a new file has no slices.
 pub record AskedOf (image : List ℕ) (o : Unit) (block : List ℕ) (p : Plain) (c : Catalog) (slices : List ℕ) : Type 0 where

@@ -1,4 +1,4 @@
-// Index blocks: read in place or as a value, changed as a value, and stored whole.
+// Index blocks: read in place or as a value, lengthened in their words, cut as a value, and stored whole.
 
 ghost use mathlib.Core.Path.{_≡_};
 ghost use Prim.Native.Nat.{_+_, _-_, _*_, _≤_, _<_, min};

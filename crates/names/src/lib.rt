@@ -1,4 +1,4 @@
-// Names: their number, the five characters and the unit character, legal names, SYS and MAP. All comparing of names is here.
+// Names: their number, the five characters and the unit character, legal names, SYS and MAP. Names are compared here.
 
 ghost use mathlib.Core.Path.{_≡_};
 ghost use mathlib.Core.Bool.{_||_};

@@ -63,7 +63,7 @@ module _ {image : List ℕ} {p : Plain} (on : OnDisc image p) (n : ℕ) {f : Fil
     unfolding roomWord nextAsked
     room-some d = rw (one-most (ltb (length (f .slices)) (need (p .s) (suc (length (f .sectors))))) d) refl
 
-    can-take : CanTakeFrom image words (p .F) (p .s) (M p) 0 (held p) (f .slices)
+    pub can-take : CanTakeFrom image words (p .F) (p .s) (M p) 0 (held p) (f .slices)
     can-take = unit-take on (file-block e) (omega arith) (part-file p (ground p (on .good)) n f file)
 
 -- ---- the room for an append, by what the code finds

@@ -26,7 +26,7 @@ use Rattle.catalog.specs.declared.Unit.{Unit}
 use Rattle.disc.specs.Names.{packed}
 use Rattle.state.specs.Areas.{setArea, moved, withLive}
 use Rattle.plain.specs.Table.{tableFind}
-use Rattle.plain.specs.Unit.{Plain, File, freeSlices}
+use Rattle.plain.specs.Unit.{Plain, File, freeSlices, held}
 use Rattle.plain.specs.Areas as plain
 use Rattle.plain.specs.Transput.{oneIf, slicesToTake, refusedAt, output, rewritten, withFile}
 use Rattle.plain.proofs.TableLaws.{find-put}
@@ -45,16 +45,17 @@ use Rattle.preservation.proofs.OutputMessage.{replaced-on, appended-on, appends
 use Rattle.lookup.specs.Unit.{Searchable}
 use Rattle.lookup.specs.Files.{BlockOf}
 use Rattle.lookup.proofs.UnitLaws.{searchable}
+use Rattle.slices.specs.Take.{CanTake}
 use Rattle.area_users.specs.declared.AreaReply.{AreaReply}
-use Rattle.area_users.specs.Sharing.{areaReply, atPosition}
+use Rattle.area_users.specs.AreaUsers.{areaReply, atPosition}
 use Rattle.refine.specs.Leaves.{Leaves}
 use Rattle.area_users.specs.Seat.{areaUsers, areaUser}
-use Rattle.area_users.proofs.ShareLaws.{seat-size, seat-low}
+use Rattle.area_users.proofs.UserLaws.{seat-size, seat-low}
 use Rattle.blocks.specs.Blocks.{AttributesOf, BlockFrom, SomeBlock, BlockReplaced}
 use Rattle.blocks.proofs.BlockLaws.{file-attributes}
 use Rattle.preservation.specs.Units.{appendSlices}
 use Rattle.output.specs.Output.{roomWord, RoomFor, CanExtendFrom, ExtendedBy, Placed, SomePlaced, outputWord, outputImage, outputState, preparedImage, outputReply, Prepares, OutputLeaves, Outputs}
-use Rattle.output.proofs.FileLaws.{total-small, more-is}
+use Rattle.output.proofs.FileLaws.{total-small, more-is, can-take}
 use Rattle.output.proofs.AppendLaws.{appends}
 
 -- ---- the three ways of Output
@@ -245,13 +246,6 @@ module _ {image : List ℕ} {state : State} {o : Unit} {j u k : ℕ} (some : Som
   pub searches : Searchable image o
   searches = searchable (record { unit = some .p; on = placed-on (some .placed); numbers = some .placed .numbers })
 
-  pub room-asks : (2 ≤ o .slice) × (o .slices ≤ 4096) × (2560 ≤ length image)
-  room-asks =
-      let at = some .placed in
-      let on = placed-on at in
-      let l = on .good .limits in
-      (omega (arith, l .sliceLow, at .numbers .slice), omega (arith, l .slicesHigh, at .numbers .slices), omega (arith, on .layout .size, l .first, l .someData))
-
   pub position-asks : (j < 8) × (k < 65535)
   position-asks =
       let at = some .placed in
@@ -289,6 +283,15 @@ module _ {image : List ℕ} {state : State} {o : Unit} {j u k : ℕ} {area : Are
         let on = placed-on at in
         let fits : sliceTotal (o .slice) words 0 < 65536 = rw (at .numbers .slice) (total-small on (some .n) (at .seat .file) (own-block at b)) in
         (omega (arith, on .good .limits .sliceLow, at .numbers .slice), fits, omega (arith, own-size at, length-small (some .p) (ground (some .p) (on .good)) (some .n) (some .f) (at .seat .file)))
+
+    pub room-asks : {words : List ℕ} → BlockOf image (area .index .0) words → CanTake image words (o .first .0) (o .slice) (o .slices) 0
+    room-asks b =
+        let at = some .placed in
+        record {
+          held = held (some .p);
+          slices = some .f .slices;
+          can = rw (at .numbers .first, at .numbers .slice, at .numbers .slices) (can-take (placed-on at) (some .n) (at .seat .file) (own-block at b));
+        }
 
     pub block-there : k < area .length → SomeBlock image (area .index .0) k
     block-there x = record { p = some .p; n = some .n; f = some .f; from = own-from (some .placed) x }

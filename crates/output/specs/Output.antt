@@ -25,7 +25,7 @@ use Rattle.refine.specs.OnDisc.{OnDisc}
 use Rattle.refine.specs.Writes.{replacedImage, appendedImage, extendedImage}
 use Rattle.lookup.specs.Unit.{NumbersOf}
 use Rattle.area_users.specs.declared.AreaReply.{AreaReply}
-use Rattle.area_users.specs.Sharing.{atPosition, areaReply}
+use Rattle.area_users.specs.AreaUsers.{atPosition, areaReply}
 use Rattle.refine.specs.Leaves.{Leaves}
 use Rattle.area_users.specs.Seat.{Seat, areaUsers, areaUser}
 use Rattle.preservation.specs.Units.{appendSlices}

@@ -8,6 +8,7 @@ ghost use lib.ListN.{length};
 ghost use Rattle.disc.specs.Numbers.{need};
 ghost use Rattle.index.specs.Block.{sliceTotal};
 ghost use Rattle.plain.specs.Transput.{oneIf};
+ghost use Rattle.slices.specs.Take.{CanTake};
 ghost use Rattle.output.specs.Output.{RoomFor, CanExtend, ExtendedBy, SomePlaced, Prepares, Outputs};
 use area_users::AreaReply;
 use catalog::Unit;
@@ -30,7 +31,7 @@ fn more_slices(unit: Unit, block: IndexBlock, length: u16) -> u16
 
 // Whether the file whose index block is given can take `more` slices, one or none: 0, or the word of the first no.
 fn room_word(image: &[u16], unit: Unit, block: IndexBlock, more: u16) -> u16
-    requires { ⌜ (2 ≤ unit .slice) × (unit .slices ≤ 4096) × (2560 ≤ length (now image)) ⌝ }
+    requires { ⌜ CanTake (now image) (block .words) (unit .first .0) (unit .slice) (unit .slices) 0 ⌝ }
     ensures { λ r. ⌜ RoomFor (now (image .entry)) unit (block .words) more r ⌝ }
 {
     if more == 0 {

@@ -17,7 +17,7 @@ use Rattle.types.specs.State.{areaAt}
 use Rattle.disc.specs.Entries.{indexSector}
 use Rattle.state.specs.Areas.{setArea, moved, withLive, released, reserved, entryOf}
 use Rattle.plain.specs.Transput.{isOutput}
-use Rattle.area_users.specs.Sharing.{atPosition, positionReached}
+use Rattle.area_users.specs.AreaUsers.{atPosition, positionReached}
 use Rattle.plain.specs.Unit.{Plain, File}
 use Rattle.preservation.specs.Units.{appendSlices}
 use Rattle.output.specs.Output.{outputState}

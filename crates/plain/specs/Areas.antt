@@ -1,6 +1,6 @@
 -- Area create and remove, and the messages to an area process but transput.
-use mathlib.Core.Bool.{Bool, true, false, not, _&&_, _||_, cond}
-use mathlib.Core.List.{List, [], _∷_}
+use mathlib.Core.Bool.{Bool, not, _&&_, _||_, cond}
+use mathlib.Core.List.{List, []}
 use mathlib.Core.Option.{Option, none, some}
 use Prim.Native.Nat.{ℕ, zero, suc}
 use lib.ListN.{length}
@@ -11,7 +11,7 @@ use Rattle.types.specs.declared.Role.the-variants.{Sharing, ExclusiveWriter, Ex
 use Rattle.disc.specs.Numbers.{negative}
 use Rattle.disc.specs.Names.{named, unitIn}
 use Rattle.disc.specs.Catalog.{isReserved}
-use Rattle.plain.specs.Table.{Row, Table, tableFind, tablePut, tableRemove, total, isSome}
+use Rattle.plain.specs.Table.{Table, tableFind, tablePut, tableRemove, total, isSome}
 use Rattle.plain.specs.Unit.{Plain, File, AreaUser, sysOf, entry, withTables, withAreas}
 use Rattle.plain.specs.Questions.{Outcome, asks, given, replies, done, known}
 

@@ -1,6 +1,6 @@
 -- The catalog messages, each with the questions 1 and 3 to 8 that concern it (question 2 is never answered no here).
 use mathlib.Core.Bool.{Bool, not, _&&_, _||_, cond}
-use mathlib.Core.List.{List, [], _++_}
+use mathlib.Core.List.{List, _++_}
 use Prim.Native.Nat.{ℕ, _-_}
 use lib.ListN.{length, take, getD, replicate}
 use lib.Dec.{leb, eqb}

@@ -15,7 +15,7 @@ use Rattle.disc.specs.Slices.{InRangeOnce, firstOf}
 use Rattle.disc.specs.Stretches.{stretchCount}
 use Rattle.disc.specs.Kit.{Limits}
 use Rattle.disc.specs.Catalog.{Catalog, isReserved, slicesNeeded}
-use Rattle.plain.specs.Table.{Row, Table, tableFind, SortedFrom, Every}
+use Rattle.plain.specs.Table.{Table, tableFind, SortedFrom, Every}
 use Rattle.plain.specs.Unit.{Plain, File, AreaUser, sysOf, M, held}
 use Rattle.plain.specs.Taking.{placesTaken}
 use Rattle.plain.specs.Areas.{usersOf, isWriter, isExclusive}

@@ -1,6 +1,6 @@
 -- The places of a catalog, and what a message takes: "SYS takes before the file takes or gives back, so slices given back by
 -- the same message don't serve SYS."
-use mathlib.Core.Bool.{Bool, cond}
+use mathlib.Core.Bool.{cond}
 use mathlib.Core.List.{List, [], _∷_, _++_}
 use Prim.Native.Nat.{ℕ, suc, _+_, _*_, _-_, compare}
 use lib.ListN.{length, replicate}
@@ -9,7 +9,7 @@ use Rattle.disc.specs.Names.{keyOf}
 use Rattle.disc.specs.Slices.{oneIfSame, taken, lastOf}
 use Rattle.disc.specs.Stretches.{stretchCount}
 use Rattle.disc.specs.Catalog.{Catalog, slicesNeeded}
-use Rattle.plain.specs.Table.{Row, Table, total}
+use Rattle.plain.specs.Table.{Table, total}
 use Rattle.plain.specs.Unit.{Plain, File, M, held, freeSlices, withTables}
 use Rattle.plain.specs.Questions.{Outcome, asks, replies, done}
 

@@ -3,14 +3,13 @@
 use mathlib.Core.List.{List, [], _∷_, _++_}
 use mathlib.Core.Option.{Option}
 use Prim.Native.Nat.{ℕ, _*_}
-use lib.ListN.{length}
 use Rattle.types.specs.declared.Role.{Role}
 use Rattle.disc.specs.Numbers.{sliceCount}
 use Rattle.disc.specs.Names.{SYS, MAP}
 use Rattle.disc.specs.Slices.{freeCount}
 use Rattle.disc.specs.Entries.{entryWords, indexSector, sysEntry, mapEntry}
 use Rattle.disc.specs.Catalog.{Catalog, sysCatalog}
-use Rattle.plain.specs.Table.{Row, Table, tableFind, tablePut, tableMap}
+use Rattle.plain.specs.Table.{Table, tableFind, tablePut, tableMap}
 
 pub record File : Type 0 where
   pub attributes : ℕ

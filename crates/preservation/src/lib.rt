@@ -1,1 +1,1 @@
-// The steps of the messages: the image that each writes is again that of the plain unit. Definitions in specs/, proofs in proofs/.
+// What each message writes is again the image of the plain unit after the message, which is good. Definitions in specs/, proofs in proofs/.

@@ -1,10 +1,9 @@
 -- `Represents image state plain`: the words of the image and the state are those of the plain unit.
 use mathlib.Core.Path.{_≡_}
-use mathlib.Core.Bool.{Bool}
 use mathlib.Core.List.{List, [], _∷_}
 use mathlib.Core.Logic.{_⊎_}
 use mathlib.Core.Option.{Option, none, some}
-use Prim.Native.Nat.{ℕ, zero, suc, _+_, _*_, _/_, _%_, _≤_, _<_}
+use Prim.Native.Nat.{ℕ, zero, suc, _*_, _/_, _%_, _<_}
 use lib.ListN.{length, getD}
 use Rattle.types.specs.declared.User.{User}
 use Rattle.types.specs.declared.Area.{Area}

@@ -1,7 +1,7 @@
 -- The writes of the messages on an image: each changes one part of the layout. A message's image is a sequence of these.
 use mathlib.Core.Bool.{cond}
 use mathlib.Core.List.{List, [], _∷_, _++_}
-use Prim.Native.Nat.{ℕ, zero, suc, _+_, _*_, _-_, _/_, _%_}
+use Prim.Native.Nat.{ℕ, zero, suc, _+_, _*_, _-_, _%_}
 use lib.Dec.{leb}
 use lib.ListN.{length, take, drop}
 use Rattle.disc.specs.Stretches.{blockSector, sectorIn, fileFrom}

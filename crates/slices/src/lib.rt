@@ -31,7 +31,7 @@ pub struct Growth {
 
 // The slice that the file with this index block takes next: the next after its last if that is free, else the lowest free.
 pub fn next_slice(image: &[u16], words: &[u16], first: Sector, s: u16, slices: u16) -> Next
-    requires { ⌜ (2 ≤ s) × (slices ≤ 4096) × (2560 ≤ length (now image)) ⌝ }
+    requires { ⌜ CanTake (now image) (now words) (first .0) s slices 0 ⌝ }
     ensures { λ r. ⌜ Chosen (now (image .entry)) (now (words .entry)) (first .0) s slices r ⌝ }
 {
     let last = index::last_slice_at(words, Sector(0), first, s);

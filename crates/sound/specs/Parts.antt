@@ -4,7 +4,6 @@ use mathlib.Core.Bool.{Bool, true, false}
 use mathlib.Core.List.{List, [], _∷_, _++_}
 use Prim.Native.Nat.{ℕ, _*_, _-_, _≤_, _<_}
 use lib.ListN.{length, getD}
-use lib.Dec.{T}
 use Rattle.types.specs.declared.State.{State}
 use Rattle.types.specs.State.{areaAt, IsOpen}
 use Rattle.disc.specs.Words.{Holds}

@@ -1,13 +1,12 @@
 -- What the places of SYS hold, by the words of the image.
 use mathlib.Core.Path.{_≡_}
-use mathlib.Core.Bool.{Bool, cond}
-use mathlib.Core.List.{List, [], _++_}
+use mathlib.Core.List.{List, []}
 use Prim.Native.Nat.{ℕ, zero, suc, _≤_, _<_, _*_, _/_, _%_}
 use lib.ListN.{length, getD}
 use lib.Dec.{T}
 use Rattle.disc.specs.Numbers.{sliceStart, need}
 use Rattle.disc.specs.Words.{word, Holds}
-use Rattle.disc.specs.Names.{legalName, isSystem, keyOf}
+use Rattle.disc.specs.Names.{legalName, keyOf}
 use Rattle.disc.specs.Attributes.{legalAttributes, legalWith}
 use Rattle.disc.specs.Slices.{firstOf}
 use Rattle.disc.specs.Stretches.{indexWords, slicesAt}

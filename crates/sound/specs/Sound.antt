@@ -1,6 +1,6 @@
 -- A sound unit: the section of document 01 with that name, over the words of the image and the state, in its order.
 use mathlib.Core.Path.{_≡_}
-use mathlib.Core.Bool.{Bool, cond}
+use mathlib.Core.Bool.{cond}
 use mathlib.Core.List.{List, [], _∷_, _++_}
 use mathlib.Core.Option.{none, some}
 use mathlib.Core.Logic.{_↔_}

@@ -7,8 +7,6 @@ use Prim.Native.Nat.{ℕ, _≤_, _<_}
 use lib.ListN.{length}
 use lib.Dec.{eqb}
 use Rattle.types.specs.declared.Role.the-variants.{ExclusiveWriter, ExclusiveUser}
-use Rattle.types.specs.declared.Name.{Name}
-use Rattle.types.specs.declared.User.{User}
 use Rattle.types.specs.declared.Area.{Area}
 use Rattle.types.specs.declared.State.{State}
 use Rattle.types.specs.State.{areaAt, userAt, isOpen, IsOpen}

@@ -1,4 +1,4 @@
-// The state by value: area descriptors found, opened and closed; users found, reserved, released and moved.
+// The state by value: initialized or not; area descriptors found, opened and closed; users found, reserved, released and moved.
 
 ghost use mathlib.Core.Path.{_≡_};
 ghost use Prim.Native.Nat.{_<_};

@@ -35,10 +35,10 @@ use Rattle.preservation.proofs.OutputMessage.{input-filled}
 use Rattle.lookup.specs.Unit.{NumbersOf, Searchable}
 use Rattle.lookup.proofs.UnitLaws.{searchable}
 use Rattle.area_users.specs.declared.AreaReply.{AreaReply}
-use Rattle.area_users.specs.Sharing.{areaReply, atPosition, positionWord, positionReached}
+use Rattle.area_users.specs.AreaUsers.{areaReply, atPosition, positionWord, positionReached}
 use Rattle.refine.specs.Leaves.{Leaves}
 use Rattle.area_users.specs.Seat.{Seat, areaUsers, areaUser}
-use Rattle.area_users.proofs.ShareLaws.{seat-size, position-inside, moved-good, moved-represents, own-position, reached-low}
+use Rattle.area_users.proofs.UserLaws.{seat-size, position-inside, moved-good, moved-represents, own-position, reached-low}
 use Rattle.blocks.specs.Blocks.{AttributesOf, BlockRead}
 use Rattle.output.specs.Output.{Placed, SomePlaced, outputImage, outputState, Outputs}
 use Rattle.output.proofs.OutputLaws.{own-size, own-from, own-attributes, image-refused, state-refused}

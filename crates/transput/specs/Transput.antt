@@ -20,7 +20,7 @@ use Rattle.plain.specs.Transput.{isOutput, input, output, stepTransput}
 use Rattle.refine.specs.OnDisc.{OnDisc}
 use Rattle.lookup.specs.Unit.{NumbersOf}
 use Rattle.area_users.specs.declared.AreaReply.{AreaReply}
-use Rattle.area_users.specs.Sharing.{atPosition}
+use Rattle.area_users.specs.AreaUsers.{atPosition}
 use Rattle.refine.specs.Leaves.{Leaves}
 use Rattle.area_users.specs.Seat.{Seat, areaUsers, areaUser}
 use Rattle.output.specs.Output.{Placed, outputImage, outputState}

@@ -19,7 +19,7 @@ use Rattle.refine.proofs.StateLaws.{named-name}
 use Rattle.refine.proofs.UserLaws.{entry-id}
 use Rattle.lookup.specs.Unit.{NumbersOf}
 use Rattle.area_users.specs.declared.AreaReply.{AreaReply}
-use Rattle.area_users.specs.Sharing.{atPosition, positionWord}
+use Rattle.area_users.specs.AreaUsers.{atPosition, positionWord}
 use Rattle.area_users.specs.Seat.{Seat, areaUsers, areaUser}
 use Rattle.output.specs.Output.{Placed, OutputLeaves, Outputs}
 use Rattle.output.proofs.OutputLaws.{output-leaves}

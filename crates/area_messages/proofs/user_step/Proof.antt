@@ -1,6 +1,6 @@
 -- `area_messages::user_step` meets its contract. Assumes nothing.
 use borrow.Author.Needs.{needs}
-use Rattle.area_users.proofs.ShareLaws.{seat-low}
+use Rattle.area_users.proofs.UserLaws.{seat-low}
 use Rattle.area_messages.proofs.MessageLaws.{step-release, step-position, step-sense, step-transput, step-other}
 use Rattle.area_messages.proofs.user_step.Statement.{statement}
 use Rattle.area_messages.proofs.user_step.Tie as tie

@@ -48,8 +48,10 @@ more-slices-requires c κs =
 
 room-word-requires : tie.Need-room-word-requires
 room-word-requires c κs =
-    let start = c .before .before .before .before .before .before .before .before .before .before .before .before in
-    room-asks (start .pre)
+    let block = c .before .before in
+    let a = block .before .before .before .before .before .before .before .before in
+    let start = a .before .before in
+    room-asks (a .area-at .ensures) (start .pre) (block .file-block .ensures .1)
 
 refused-at-requires-2 : tie.Need-refused-at-requires-2
 refused-at-requires-2 c κs =

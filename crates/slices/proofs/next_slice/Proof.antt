@@ -8,6 +8,14 @@ use Rattle.slices.proofs.TakeLaws.{next-none, next-crowded, next-at}
 use Rattle.slices.proofs.next_slice.Statement.{statement}
 use Rattle.slices.proofs.next_slice.Tie as tie
 
+last-slice-at-requires : tie.Need-last-slice-at-requires
+last-slice-at-requires c κs = c .before .before .pre .can .own .size
+
+choose-slice-requires : tie.Need-choose-slice-requires
+choose-slice-requires c κs =
+    let can = c .before .before .before .pre .can in
+    (can .own .most, can .long)
+
 returns : tie.Need-returns
 returns c =
     let choice = c .before .before in
@@ -45,8 +53,8 @@ pub next-slice-spec : {M : Type 1} → statement M
 next-slice-spec =
     tie.close
     (tie.spec
-    (λ c κs. search needs)
-    (λ c κs. search needs)
+    last-slice-at-requires
+    choose-slice-requires
     (λ c. search needs)
     (λ c. search needs)
     returns

@@ -13,6 +13,11 @@ use Rattle.slices.proofs.TakeLaws.{can-fewer, next-inside, one-at, one-
 use Rattle.slices.proofs.take_one.Statement.{statement}
 use Rattle.slices.proofs.take_one.Tie as tie
 
+next-slice-requires : tie.Need-next-slice-requires
+next-slice-requires c κs =
+    let pre = c .before .before .before .before .pre in
+    record { held = pre .held; slices = pre .slices; can = can-fewer (pre .can) (omega arith) }
+
 returns : tie.Need-returns
 returns c = record {
   all = λ held slices can.
@@ -54,7 +59,7 @@ pub take-one-spec : {M : Type 1} → statement M
 take-one-spec =
     tie.close
     (tie.spec
-    (λ c κs. search needs)
+    next-slice-requires
     (λ c. search needs)
     (λ c. search needs)
     (λ c. search needs)

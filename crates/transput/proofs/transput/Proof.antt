@@ -7,7 +7,7 @@ use Rattle.types.specs.declared.Area.{Area}
 use Rattle.types.specs.declared.User.{User}
 use Rattle.types.specs.State.{areaAt, userAt}
 use Rattle.plain.specs.Transput.{isRandom}
-use Rattle.area_users.proofs.ShareLaws.{seat-low}
+use Rattle.area_users.proofs.UserLaws.{seat-low}
 use Rattle.transput.proofs.TransputLaws.{seated-searches, transputs-refused, some-own, transputs-own, transputs-past, some-first, transputs-first}
 use Rattle.transput.proofs.transput.Statement.{statement}
 use Rattle.transput.proofs.transput.Tie as tie

@@ -33,7 +33,7 @@ use Rattle.preservation.proofs.Whole.{on-disc, represents}
 use Rattle.preservation.proofs.AreaMessages.{area-set-same, area-low, area-found, reserve-outcome, reserve-areas, sender-found, release-areas, move-areas, position-low, reserve-on, release-on, move-on}
 use Rattle.preservation.proofs.OutputUnit.{positioned-negative, positioned-past, positioned-done}
 use Rattle.preservation.proofs.AreaUnit.{user-release}
-use Rattle.area_users.specs.Sharing.{atPosition, positionWord, positionReached}
+use Rattle.area_users.specs.AreaUsers.{atPosition, positionWord, positionReached}
 use Rattle.area_users.specs.Seat.{Seat}
 
 -- ---- Reserve
