@@ -25,8 +25,9 @@ use Rattle.lookup.specs.Files.{BlockOf}
 use Rattle.lookup.proofs.UnitLaws.{on-catalog}
 use Rattle.lookup.proofs.FindLaws.{place-room}
 use Rattle.lookup.proofs.FileLaws.{block-is, block-total, total-fits, live-index}
-use Rattle.slices.specs.Give.{CanCutFrom, CanCut, Freed}
+use Rattle.slices.specs.Give.{CanFreeFrom, CanCutFrom, CanFree, Freed}
 use Rattle.slices.proofs.BlockLaws.{unit-file}
+use Rattle.slices.proofs.GiveLaws.{free-from}
 use Rattle.slices.proofs.ZeroLaws.{count-fits}
 use Rattle.remove.specs.Remove.{CanDropFrom}
 
@@ -54,23 +55,24 @@ module _ {image : List ℕ} {o : Unit} {place : Place} {p : Plain} {n : ℕ} {f 
       cleared-is : cleared ≡ emptyPlace p (sysOf p) image (can .at .number)
       cleared-is = empty ∙ ap₂ (λ (q t : ℕ). store image (q * 256 + t * 16) (zeroWords 16)) (can .at .is .sector) (can .at .is .slot)
 
-      can-cut : CanCutFrom cleared block (p .F) (p .s) (M p) total (f .slices)
-      can-cut =
+      can-from : CanFreeFrom cleared block (p .F) (p .s) total (f .slices)
+      can-from =
           let g = can .on .good in
           let once : InRangeOnce (M p) (f .slices) = λ k. omega (arith, g .once k, part-file p gr n f (can .file) k) in
-          record {
+          let cut : CanCutFrom cleared block (p .F) (p .s) (M p) total (f .slices) = record {
             file = unit-file cleared block (f .slices) (g .limits) (ap length empty ∙ length-store image _ _ ∙ can .on .layout .size) (block-is (can .on) (can .numbers) n f (can .file) of own) (g .catalog .files n f (can .file) .few) once;
             count = omega (arith, block-total (can .on) (can .numbers) n f (can .file) of own);
-          }
+          } in
+          free-from cut
 
-      pub can-give-all : CanCut cleared block (o .first .0) (o .slice) total
-      can-give-all = rw (can .numbers .first, can .numbers .slice) (record { m = M p; slices = f .slices; can = can-cut })
+      pub can-give-all : CanFree cleared block (o .first .0) (o .slice) total
+      can-give-all = rw (can .numbers .first, can .numbers .slice) (record { slices = f .slices; can = can-from })
 
       module _ {given : List ℕ} (back : Freed cleared block (o .first .0) (o .slice) 0 total given) where
         given-is : given ≡ freed
         given-is =
             let b : Freed cleared block (p .F) (p .s) 0 total given = rw (can .numbers .first, can .numbers .slice) at back in
-            b .all (M p) (f .slices) can-cut ∙ ap (λ (l : List ℕ). allFree l (f .slices)) cleared-is
+            b .all (f .slices) can-from ∙ ap (λ (l : List ℕ). allFree l (f .slices)) cleared-is
 
         pub can-count : (2560 ≤ length given) × (o .slice * onesInMap given < 65536)
         can-count =

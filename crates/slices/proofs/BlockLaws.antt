@@ -13,9 +13,9 @@ use Rattle.disc.specs.Kit.{Limits}
 use Rattle.disc.specs.Entries.{indexSector}
 use Rattle.disc.proofs.Geometry.{in-range}
 use Rattle.disc.proofs.WalkLaws.{sector-inside}
-use Rattle.index.specs.Block.{wholeIndex, pairCount, sliceTotal, lastSlice, stretchesWith, jointSector, sliceNumber, sectorFrom}
+use Rattle.index.specs.Block.{wholeIndex, pairCount, sliceTotal, lastSlice, stretchesWith, jointSector, sectorFrom}
 use Rattle.index.proofs.BlockLaws.{length-wholeIndex, holds-wholeIndex}
-use Rattle.index.proofs.ReadLaws.{read-count, read-total, read-last, read-with, read-sector, read-number}
+use Rattle.index.proofs.ReadLaws.{read-count, read-total, read-last, read-with, read-sector}
 use Rattle.slices.specs.FileBlock.{SliceBlock, FileBlock}
 
 -- ---- the block's own words
@@ -52,9 +52,6 @@ module _ {block : List ℕ} {F s m : ℕ} {slices : List ℕ} (own : SliceBlock 
   -- the numbers of slices, and of their sectors, are words
   pub start-small : (k : ℕ) → k ≤ m → sliceStart F s k < 65536
   start-small k x = let h : k - 1 ≤ m = omega arith in omega (arith, own .top, mul-le-mul-right s h, mul-comm s m)
-
-  pub block-number : (j : ℕ) → j < length slices → sliceNumber F s j block 0 ≡ getD slices j 0
-  block-number j x = read-number block F s 0 slices (own .few) holds positive above j x (start-small (getD slices j 0) (slice-in j x .1))
 
   sector-below : (b : ℕ) → b < s * length slices → sectorIn F s slices b < F + s * m
   sector-below b x = omega (arith, sector-inside F s m slices positive (own .once) b x .1, mul-comm s m)

@@ -14,35 +14,55 @@ use Rattle.words.specs.Store.{store}
 use Rattle.map.specs.Marks.{allMarked, allFree, markedFree}
 use Rattle.map.proofs.MarkLaws.{length-all-marked}
 use Rattle.index.specs.Block.{wholeIndex, sliceNumber, jointSector, cutTo}
+use Rattle.index.proofs.BlockLaws.{holds-wholeIndex}
+use Rattle.index.proofs.ReadLaws.{read-number}
 use Rattle.index.proofs.ChangeLaws.{cut-whole}
 use Rattle.refine.specs.Writes.{cutImage}
 use Rattle.preservation.proofs.ResizeLaws.{cut-none, cut-all, cut-some}
-use Rattle.slices.specs.Give.{CanCutFrom, Freed}
-use Rattle.slices.proofs.BlockLaws.{positive, slice-in, block-number, first-told, first-room}
+use Rattle.slices.specs.Give.{CanFreeFrom, CanCutFrom, CanFree, CanCut, Freed}
+use Rattle.slices.proofs.BlockLaws.{positive, slice-in, start-small, first-told, first-room}
 
-module _ {image₀ block : List ℕ} {F s m total : ℕ} {slices : List ℕ} (can : CanCutFrom image₀ block F s m total slices) where
-  -- ---- one slice after the other
+-- ---- one slice after the other
 
+module _ {image₀ block : List ℕ} {F s total : ℕ} {slices : List ℕ} (can : CanFreeFrom image₀ block F s total slices) where
   module _ (j : ℕ) (h : j < total) where
     inside : j < length slices
     inside = omega (arith, can .count)
 
+    number-is : sliceNumber F s j block 0 ≡ getD slices j 0
+    number-is =
+        read-number block F s 0 slices (can .few) (rw (can .words) (holds-wholeIndex F s slices)) (omega (arith, can .size)) (can .above) j inside (can .starts j inside)
+
     pub number-inside : {k : ℕ} → k ≡ sliceNumber F s j block 0 → (1 ≤ k) × (k ≤ 4096)
-    number-inside e =
-        let i = slice-in (can .file .own) j inside in
-        let n = block-number (can .file .own) j inside in
-        (omega (arith, i .0), omega (arith, i .1, can .file .own .most))
+    number-inside e = (omega (arith, number-is, can .above j inside), omega (arith, number-is, can .most j inside))
 
     pub give-next : (image : List ℕ) (k : ℕ) {after : List ℕ} → k ≡ sliceNumber F s j block 0 → after ≡ markedFree image k → allFree after (drop (j + 1) slices) ≡ allFree image (drop j slices)
     unfolding allMarked
     give-next image k e a =
-        ap (λ (l : List ℕ). allFree l (drop (j + 1) slices)) (a ∙ ap (markedFree image) (e ∙ block-number (can .file .own) j inside))
+        ap (λ (l : List ℕ). allFree l (drop (j + 1) slices)) (a ∙ ap (markedFree image) (e ∙ number-is))
         ∙ ap (λ (n : ℕ). allFree (markedFree image (getD slices j 0)) (drop n slices)) (add-one j)
         ∙ ap (allFree image) (sym (drop-cons slices j 0 inside))
 
   pub give-done : (image : List ℕ) (j : ℕ) → total ≤ j → image ≡ allFree image (drop j slices)
   unfolding allMarked
   give-done image j h = ap (allFree image) (sym (drop-of-length-le slices {i = j} (omega (arith, can .count))))
+
+-- ---- a file's slices
+
+module _ {image₀ block : List ℕ} {F s m total : ℕ} {slices : List ℕ} (can : CanCutFrom image₀ block F s m total slices) where
+  pub free-from : CanFreeFrom image₀ block F s total slices
+  free-from =
+      let own = can .file .own in
+      record {
+        long = can .file .long;
+        size = own .size;
+        words = own .words;
+        few = own .few;
+        above = λ j x. slice-in own j x .0;
+        most = λ j x. omega (arith, slice-in own j x .1, own .most);
+        starts = λ j x. start-small own (getD slices j 0) (slice-in own j x .1);
+        count = can .count;
+      }
 
   -- ---- the block of the slices that are kept
 
@@ -62,7 +82,7 @@ module _ {image₀ block : List ℕ} {F s m total : ℕ} {slices : List ℕ} (ca
 
       module _ {freed : List ℕ} (gave : Freed image₀ block F s keep total freed) where
         freed-is : freed ≡ allFree image₀ (drop keep slices)
-        freed-is = gave .all m slices can
+        freed-is = gave .all slices free-from
 
         pub gave-all : (q : ℕ) → keep ≡ 0 → freed ≡ cutImage image₀ q F s slices keep
         gave-all q z = freed-is ∙ sym (cut-all image₀ q F s slices keep z shorter)
@@ -80,3 +100,6 @@ module _ {image₀ block : List ℕ} {F s m total : ℕ} {slices : List ℕ} (ca
           let own = can .file .own in
           let z : 0 / s < keep = quot F s m slices (positive own) (own .once) 0 keep (omega (arith, mul-le-mul-right s x, own .size)) in
           first-told own (omega arith) ∙ ap (λ (k : ℕ). sliceStart F s k + 0 % s) (sym (getD-take keep slices (0 / s) 0 z))
+
+pub can-free : {image block : List ℕ} {F s total : ℕ} → CanCut image block F s total → CanFree image block F s total
+can-free can = record { slices = can .slices; can = free-from (can .can) }

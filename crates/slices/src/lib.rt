@@ -8,7 +8,7 @@ ghost use Rattle.disc.specs.Map.{onesInMap};
 ghost use Rattle.refine.specs.Writes.{countedFree};
 ghost use Rattle.slices.specs.Take.{Chosen, CanTake, Taken, CanLengthen, LengthenedAt, Lengthened};
 ghost use Rattle.slices.specs.Fit.{CanFit, Fits};
-ghost use Rattle.slices.specs.Give.{CanCut, Freed, Cut};
+ghost use Rattle.slices.specs.Give.{CanFree, Freed, CanCut, Cut};
 ghost use Rattle.slices.specs.Zero.{CanZero, Zeroed};
 use index::IndexBlock;
 use map::Choice;
@@ -158,7 +158,7 @@ pub fn free_slices(
     keep: u16,
     total: u16,
 )
-    requires { ⌜ CanCut (now image) (block .words) (first .0) s total ⌝ }
+    requires { ⌜ CanFree (now image) (block .words) (first .0) s total ⌝ }
     ensures { λ _. ⌜ Freed (now (image .entry)) (block .words) (first .0) s keep total (now (image .exit)) ⌝ }
 {
     let mut j = keep;

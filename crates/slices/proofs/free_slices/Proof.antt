@@ -7,31 +7,31 @@ use Prim.Native.Nat.{ℕ, _-_}
 use native.Mathlib.Omega.{arith}
 use lib.ListN.{length, drop}
 use Rattle.map.specs.Marks.{allFree}
-use Rattle.slices.specs.Give.{CanCutFrom, CanCut}
+use Rattle.slices.specs.Give.{CanFreeFrom, CanFree}
 use Rattle.slices.proofs.GiveLaws.{number-inside, give-next, give-done}
 use Rattle.slices.proofs.free_slices.Statement.{statement}
 use Rattle.slices.proofs.free_slices.Tie as tie
 
 abbrev Inv-loop : tie.InvT-loop
 Inv-loop image₀ block first s keep total j₀ image j =
-    (length image ≡ length image₀) × CanCut image₀ (block .words) (first .0) s total
-    × ((m : ℕ) (slices : List ℕ) → CanCutFrom image₀ (block .words) (first .0) s m total slices → allFree image (drop j slices) ≡ allFree image₀ (drop keep slices))
+    (length image ≡ length image₀) × CanFree image₀ (block .words) (first .0) s total
+    × ((slices : List ℕ) → CanFreeFrom image₀ (block .words) (first .0) s total slices → allFree image (drop j slices) ≡ allFree image₀ (drop keep slices))
 
 abbrev μ-loop : tie.MeasureT-loop
 μ-loop image₀ block first s keep total j₀ image j = total - j
 
 loop-holds : tie.Need-loop-holds Inv-loop μ-loop
-loop-holds c = (refl, c .before .pre, λ m slices can. refl)
+loop-holds c = (refl, c .before .pre, λ slices can. refl)
 
 slice-number-requires : tie.Need-slice-number-requires Inv-loop μ-loop
-slice-number-requires c κs = c .before .loop .inv .1 .can .file .own .size
+slice-number-requires c κs = c .before .loop .inv .1 .can .size
 
 mark-free-requires : tie.Need-mark-free-requires Inv-loop μ-loop
 mark-free-requires c κs =
     let l = c .before .before .before in
     let can = l .loop .inv .1 .can in
     let i = number-inside can (l .loop .j) (omega arith) (c .before .slice-number .ensures) in
-    (i .0, i .1, omega (arith, l .loop .inv .0, can .file .long))
+    (i .0, i .1, omega (arith, l .loop .inv .0, can .long))
 
 loop-again : tie.Need-loop-again Inv-loop μ-loop
 loop-again c =
@@ -40,13 +40,13 @@ loop-again c =
     let l = number .before .before in (
       omega arith,
       l .loop .inv .1,
-      λ m slices can. give-next can (l .loop .j) (omega arith) (l .loop .image) _ (number .slice-number .ensures) (freed .mark-free .ensures) ∙ l .loop .inv .2 m slices can,
+      λ slices can. give-next can (l .loop .j) (omega arith) (l .loop .image) _ (number .slice-number .ensures) (freed .mark-free .ensures) ∙ l .loop .inv .2 slices can,
     )
 
 returns : tie.Need-returns Inv-loop μ-loop
 returns c =
     let l = c .before in
-    record { all = λ m slices can. give-done can (l .loop .image) (l .loop .j) (omega arith) ∙ l .loop .inv .2 m slices can }
+    record { all = λ slices can. give-done can (l .loop .image) (l .loop .j) (omega arith) ∙ l .loop .inv .2 slices can }
 
 pub free-slices-spec : {M : Type 1} → statement M
 free-slices-spec =

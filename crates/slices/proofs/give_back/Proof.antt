@@ -4,12 +4,15 @@ use mathlib.Core.Path.{ap, _∙_}
 use Prim.Native.Nat.{ℕ, _≤_, _<_}
 use native.Mathlib.Omega.{arith}
 use Rattle.refine.specs.Writes.{cutImage}
-use Rattle.slices.proofs.GiveLaws.{gave-none, cut-words, gave-all, gave-some, gave-first, gave-room}
+use Rattle.slices.proofs.GiveLaws.{can-free, gave-none, cut-words, gave-all, gave-some, gave-first, gave-room}
 use Rattle.slices.proofs.give_back.Statement.{statement}
 use Rattle.slices.proofs.give_back.Tie as tie
 
 returns : tie.Need-returns
 returns c = record { all = λ m slices can. gave-none can (c .before .before .args .keep) _ (c .if1 .taken) }
+
+free-slices-requires : tie.Need-free-slices-requires
+free-slices-requires c κs = let start = c .before .before .before in can-free (start .pre)
 
 returns-2 : tie.Need-returns-2
 returns-2 c =
@@ -53,7 +56,7 @@ give-back-spec =
     tie.close
     (tie.spec
     returns
-    (λ c κs. search needs)
+    free-slices-requires
     (λ c κs. search needs)
     (λ c. search needs)
     returns-2
