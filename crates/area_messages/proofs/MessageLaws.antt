@@ -1,5 +1,5 @@
 -- The messages to an area process by what the code finds: each answer is the plain unit's, image and state are those of its unit.
-use mathlib.Core.Path.{_≡_, refl, sym, ap, ap₂, _∙_, subst}
+use mathlib.Core.Path.{_≡_, refl, sym, ap, ap₂, _∙_}
 use mathlib.Core.Bool.{Bool, true, false, not, _&&_}
 use mathlib.Core.List.{List}
 use mathlib.Core.Logic.{_≢_}
@@ -25,24 +25,23 @@ use Rattle.state.specs.declared.Kind.the-variants.{Exclusive}
 use Rattle.state.specs.Areas.{setArea, areaNamed, entryOf, anyOther, reserved}
 use Rattle.plain.specs.Table.{tableFind}
 use Rattle.plain.specs.Unit.{Plain, File}
-use Rattle.plain.specs.Questions.{Outcome, answer, replies, known}
+use Rattle.plain.specs.Questions.{answer, replies, known}
 use Rattle.plain.specs.Areas as plain
 use Rattle.plain.specs.Transput.{isOutput}
 use Rattle.plain.specs.Step.{isKnown, reserveCount, userStep, operationStep, stepArea}
 use Rattle.plain.specs.Good.{Good}
 use Rattle.refine.specs.Represents.{Represents}
-use Rattle.refine.proofs.LeavesLaws.{leaves}
+use Rattle.refine.proofs.LeavesLaws.{leaves, leaves-as, leaves-by}
 use Rattle.refine.proofs.StateLaws.{same-absent}
-use Rattle.preservation.proofs.Whole.{represents}
 use Rattle.preservation.proofs.AreaMessages.{area-low, area-found, area-other, sender-absent, sender-found, area-file}
 use Rattle.preservation.proofs.AreaUnit.{area-shut, area-reserved, area-nobody, area-strange, area-asked, operation-reserve, operation-stranger, operation-user, user-position, user-sense, user-transput}
 use Rattle.lookup.specs.Unit.{NumbersOf, Meant}
 use Rattle.lookup.proofs.MeantLaws.{meant-known}
 use Rattle.area_users.specs.declared.AreaReply.{AreaReply}
 use Rattle.area_users.specs.AreaUsers.{areaReply, atPosition, positionWord, positionReached, reservedReply, releasedReply, positionReply}
-use Rattle.refine.specs.Leaves.{Leaves}
+use Rattle.refine.specs.Leaves.{Leaves, StandFor}
 use Rattle.area_users.specs.Seat.{Seat, areaUsers, areaUser}
-use Rattle.area_users.proofs.UserLaws.{seat-size, reserve-leaves, release-leaves, moved-good, moved-represents, reached-low, Positioned, positioned-by}
+use Rattle.area_users.proofs.UserLaws.{seat-size, reserve-leaves, release-leaves, moved-stands, reached-low, positioned-by}
 use Rattle.transput.specs.Transput.{Transputs, Seated}
 use Rattle.transput.proofs.TransputLaws.{kept-image}
 use Rattle.area_messages.specs.AreaMessages.{knownCount, knownTransput, reserveWord, messageImage, userState, operationState, admitted, messageState, UserSteps, OperatesFrom, CanOperate, Operates, AreaMessages}
@@ -62,14 +61,21 @@ transput-by operation a b = rw (ne-eqb operation 1 a, ne-eqb operation 5 b) refl
 
 -- ---- the image of a refused message, and of those that write nothing
 
+abbrev pub isTransput : Operation → Bool
+isTransput (Reserve count) = false
+isTransput (Position block) = false
+isTransput Sense = false
+isTransput (Transput operation bytes block) = true
+isTransput (Other operation) = false
+
 module _ (p : Plain) (image lent : List ℕ) where
-  refused-image : (operation : Operation) (a : Answer) → a .result ≢ 0 → (f : Option File) → image ≡ messageImage p image operation a lent f
+  pub refused-image : (operation : Operation) (a : Answer) → (T (isTransput operation) → a .result ≢ 0) → (f : Option File) → image ≡ messageImage p image operation a lent f
   unfolding messageImage
   refused-image operation a d none = refl
   refused-image (Reserve count) a d (some f) = refl
   refused-image (Position block) a d (some f) = refl
   refused-image Sense a d (some f) = refl
-  refused-image (Transput operation bytes block) a d (some f) = kept-image p f (a .block .0) image lent operation (a .result) d
+  refused-image (Transput operation bytes block) a d (some f) = kept-image p f (a .block .0) image lent operation (a .result) (d tt)
   refused-image (Other operation) a d (some f) = refl
 
   reserve-image : (operation : Operation) (a : Answer) (f : File) → reserveWord operation ≢ 0 → image ≡ messageImage p image operation a lent (some f)
@@ -79,22 +85,6 @@ module _ (p : Plain) (image lent : List ℕ) where
   reserve-image Sense a f d = refl
   reserve-image (Transput operation bytes block) a f d = absurd (d refl)
   reserve-image (Other operation) a f d = refl
-
-  image-release : (count : ℕ) (a : Answer) (f : File) → image ≡ messageImage p image (Reserve count) a lent (some f)
-  unfolding messageImage
-  image-release count a f = refl
-
-  image-position : (block : ℕ) (a : Answer) (f : File) → image ≡ messageImage p image (Position block) a lent (some f)
-  unfolding messageImage
-  image-position block a f = refl
-
-  image-sense : (a : Answer) (f : File) → image ≡ messageImage p image Sense a lent (some f)
-  unfolding messageImage
-  image-sense a f = refl
-
-  image-other : (operation : ℕ) (a : Answer) (f : File) → image ≡ messageImage p image (Other operation) a lent (some f)
-  unfolding messageImage
-  image-other operation a f = refl
 
 -- ---- a user's operation
 
@@ -106,56 +96,48 @@ module _ {image : List ℕ} {state : State} {p : Plain} {n j sender u : ℕ} {f 
   abbrev move : ℕ → Plain
   move = plain.moved p n sender (areaUsers state j) (areaUser state j u)
 
-  stepped : Positioned move block len (λ q word k. replies q word lent) (λ q k. replies q 0 lent) (plain.stepPosition p n sender (areaUsers state j) (areaUser state j u) f block lent)
-  stepped = positioned-by move block len (λ q word k. replies q word lent) (λ q k. replies q 0 lent)
-
   position-outcome : plain.stepPosition p n sender (areaUsers state j) (areaUser state j u) f block lent ≡ replies (move (positionReached block len)) (positionWord block len) lent
-  position-outcome = same-or (positionWord block len) 0
+  position-outcome =
+      let stepped = positioned-by move block len (λ q word k. replies q word lent) (λ q k. replies q 0 lent) in
+      same-or (positionWord block len) 0
       (λ z. let d = stepped .done z in d .0 ∙ ap₂ (λ (k w : ℕ). replies (move k) w lent) (sym (d .2)) (sym z))
       (λ d. stepped .refused d)
 
-  position-leaves : Leaves (plain.stepPosition p n sender (areaUsers state j) (areaUser state j u) f block lent) (answer (positionWord block len) 0 0 0) lent image (atPosition state j u (positionReached block len))
-  position-leaves =
-      let low = reached-low block len in
-      leaves position-outcome (moved-good seat (positionReached block len) low) (moved-represents seat (positionReached block len) low)
+  position-leaves : Leaves (plain.stepPosition p n sender (areaUsers state j) (areaUser state j u) f block lent) (answer (positionWord block len) 0 0 0) lent
+      (StandFor image (atPosition state j u (positionReached block len)))
+  position-leaves = leaves-by position-outcome (moved-stands seat (positionReached block len) (reached-low block len))
 
 module _ {image : List ℕ} {state : State} {o : Unit} {j sender u : ℕ} {lent : List ℕ} {reply : AreaReply} where
   pub step-release : {count : ℕ} → reply ≡ releasedReply state j u → UserSteps image state o j sender u (Reserve count) lent reply lent image
-  unfolding userState
-  step-release {count} e = record {
-    all = λ p n f seat num. rw e (record { leaves = release-leaves seat count lent; written = image-release p image lent count _ f; reached = refl });
-  }
+  unfolding userState messageImage
+  step-release {count} e = record { all = λ p n f seat num. rw e (record { leaves = release-leaves seat count lent; written = refl; reached = refl }) }
 
   pub step-position : {block : ℕ} → reply ≡ positionReply state j u block → UserSteps image state o j sender u (Position block) lent reply lent image
-  unfolding userState
+  unfolding userState messageImage
   step-position {block} e = record {
     all = λ p n f seat num.
         let q = e ∙ ap (λ (m : ℕ). areaReply (atPosition state j u (positionReached block m)) (positionWord block m) 0 0) (seat-size seat) in
         rw q (record {
-          leaves = subst (λ (x : Outcome). Leaves x (answer (positionWord block (length (f .sectors))) 0 0 0) lent image (atPosition state j u (positionReached block (length (f .sectors)))))
-              (sym (user-position p n sender (areaUsers state j) (areaUser state j u) f lent block)) (position-leaves seat block lent);
-          written = image-position p image lent block _ f;
+          leaves = leaves-as (user-position p n sender (areaUsers state j) (areaUser state j u) f lent block) (position-leaves seat block lent);
+          written = refl;
           reached = refl;
         });
   }
 
   pub step-sense : reply ≡ areaReply state 0 0 0 → UserSteps image state o j sender u Sense lent reply lent image
-  unfolding userState
+  unfolding userState messageImage
   step-sense e = record {
     all = λ p n f seat num.
         rw e (record {
           leaves = leaves (user-sense p n sender (areaUsers state j) (areaUser state j u) f lent) (seat .good) (seat .represents);
-          written = image-sense p image lent _ f;
+          written = refl;
           reached = refl;
         });
   }
 
   pub step-other : {operation : ℕ} → reply ≡ areaReply state 0x0A00 0 0 → UserSteps image state o j sender u (Other operation) lent reply lent image
-  unfolding userState userStep
-  step-other {operation} e = record {
-    all = λ p n f seat num.
-        rw e (record { leaves = leaves refl (seat .good) (seat .represents); written = image-other p image lent operation _ f; reached = refl });
-  }
+  unfolding userState userStep messageImage
+  step-other e = record { all = λ p n f seat num. rw e (record { leaves = leaves refl (seat .good) (seat .represents); written = refl; reached = refl }) }
 
   pub step-transput : {operation bytes block : ℕ} {filled after : List ℕ} → Transputs image state o j sender u operation bytes block lent reply filled after
       → UserSteps image state o j sender u (Transput operation bytes block) lent reply filled after
@@ -164,7 +146,7 @@ module _ {image : List ℕ} {state : State} {o : Unit} {j sender u : ℕ} {lent 
     all = λ p n f seat num.
         let t = h .all p n f seat num in
         record {
-          leaves = subst (λ (x : Outcome). Leaves x (reply .answer) filled after (reply .state)) (sym (user-transput p n sender (areaUsers state j) (areaUser state j u) f lent operation bytes block)) (t .leaves);
+          leaves = leaves-as (user-transput p n sender (areaUsers state j) (areaUser state j u) f lent operation bytes block) (t .leaves);
           written = t .written;
           reached = t .reached;
         };
@@ -221,7 +203,7 @@ module _ (image : List ℕ) (state : State) (o : Unit) (j sender : ℕ) (operati
         ap (λ (x : Option ℕ). operationStep p n sender (areaUsers state j) operation x lent) (reserve-some operation (λ z. d (w ∙ z)) ∙ ap some (sym w))
         ∙ operation-reserve p n sender (areaUsers state j) operation lent count in
         rw e (record {
-          leaves = subst (λ (x : Outcome). Leaves x (answer (reserved (areaAt state j) sender count .word) 0 0 0) lent image (setArea state j (reserved (areaAt state j) sender count .area))) (sym is) l;
+          leaves = leaves-as is l;
           written = reserve-image p image lent operation _ f (λ z. d (w ∙ z));
           reached =
               state-reserve p f state j sender operation _ count (entryOf sender (areaAt state j)) d
@@ -241,7 +223,7 @@ module _ (image : List ℕ) (state : State) (o : Unit) (j sender : ℕ) (operati
           ∙ operation-stranger p n sender (areaUsers state j) operation lent (sender-absent (from .represents .areas) n j (from .named) sender (from .nonzero) (entry-is ∙ absent)) in
           rw e (record {
             leaves = leaves is (from .good) (from .represents);
-            written = refused-image p image lent operation (answer 0x0810 0 0 0) (λ q. omega arith) (some f);
+            written = refused-image p image lent operation (answer 0x0810 0 0 0) (λ _ q. omega arith) (some f);
             reached = state-stranger p f state j sender operation _ (reserveWord operation) (entryOf sender (areaAt state j)) (sym w ∙ z) (entry-is ∙ absent);
           });
     }
@@ -259,7 +241,7 @@ module _ (image : List ℕ) (state : State) (o : Unit) (j sender : ℕ) (operati
             ap (λ (x : Option ℕ). operationStep p n sender (areaUsers state j) operation x lent) (reserve-none operation (sym w ∙ z))
             ∙ operation-user p n sender (areaUsers state j) operation lent (areaUser state j u) f (sender-found (from .represents .areas) n j (from .named) sender (from .nonzero) u (entry-is ∙ at)) (from .file) in
             record {
-              leaves = subst (λ (x : Outcome). Leaves x (reply .answer) filled after (reply .state)) (sym is) (l .leaves);
+              leaves = leaves-as is (l .leaves);
               written = l .written;
               reached = l .reached ∙ state-user p f state j sender operation (reply .answer) (reserveWord operation) (entryOf sender (areaAt state j)) u (sym w ∙ z) (entry-is ∙ at);
             };
@@ -300,7 +282,7 @@ module _ {image : List ℕ} {state : State} {o : Unit} (name : Name) (meant : Me
     all = λ p g r num.
         rw e (record {
           leaves = leaves (area-shut p name sender operation lent (mine r) (same-absent state p (r .areas) (named name) (found-is ∙ absent))) g r;
-          written = refused-image p image lent operation (answer 0x4800 0 0 0) (λ q. omega arith) (tableFind (named name) (p .files));
+          written = refused-image p image lent operation (answer 0x4800 0 0 0) (λ _ q. omega arith) (tableFind (named name) (p .files));
           reached = state-shut p state sender operation _ (areaNamed (named name) state) (tableFind (named name) (p .files)) (found-is ∙ absent);
         });
   }
@@ -316,7 +298,7 @@ module _ {image : List ℕ} {state : State} {o : Unit} (name : Name) (meant : Me
       all = λ p g r num.
           rw e (record {
             leaves = leaves (step p g r) g r;
-            written = refused-image p image lent operation (answer word 0 0 0) d (tableFind (named name) (p .files));
+            written = refused-image p image lent operation (answer word 0 0 0) (λ _. d) (tableFind (named name) (p .files));
             reached = state-refused p state sender operation _ (areaNamed (named name) state) j (tableFind (named name) (p .files)) here q;
           });
     }
@@ -364,7 +346,7 @@ module _ {image : List ℕ} {state : State} {o : Unit} (name : Name) (meant : Me
               let step = area-asked p name sender operation lent (mine r) live (exclusive-is p r ∙ x) (ne-eqb sender 0 d) s in
               let yes = first-yes ∙ ap₂ (λ (b c : Bool). not b && c) (ne-eqb sender 0 d) s in
               record {
-                leaves = subst (λ (y : Outcome). Leaves y (reply .answer) filled after (reply .state)) (sym step) (l .leaves);
+                leaves = leaves-as step (l .leaves);
                 written = l .written ∙ ap (messageImage p image operation (reply .answer) lent) (sym (file .1));
                 reached =
                     l .reached

@@ -30,7 +30,7 @@ use Rattle.refine.specs.Represents.{Represents}
 use Rattle.lookup.specs.Unit.{NumbersOf}
 use Rattle.area_users.specs.declared.AreaReply.{AreaReply}
 use Rattle.area_users.specs.AreaUsers.{atPosition, positionReached}
-use Rattle.refine.specs.Leaves.{Leaves}
+use Rattle.refine.specs.Leaves.{Leaves, StandFor}
 use Rattle.area_users.specs.Seat.{Seat, areaUsers, areaUser}
 use Rattle.transput.specs.Transput.{transputImage, transputState}
 
@@ -91,7 +91,7 @@ messageState p state sender operation a (At j) (some f) =
 -- Answer and lent words are the outcome's; image and state are those of its unit, and determined by the answer.
 pub record UserLeaves (x : Outcome) (image : List ℕ) (state : State) (p : Plain) (f : File) (j u : ℕ) (operation : Operation)
     (lent : List ℕ) (r : AreaReply) (filled after : List ℕ) : Type 0 where
-  pub leaves : Leaves x (r .answer) filled after (r .state)
+  pub leaves : Leaves x (r .answer) filled (StandFor after (r .state))
   pub written : after ≡ messageImage p image operation (r .answer) lent (some f)
   pub reached : r .state ≡ userState p f state j u operation (r .answer)
 
@@ -121,7 +121,7 @@ pub record CanOperate (image : List ℕ) (state : State) (o : Unit) (j sender : 
 
 pub record OperationLeaves (x : Outcome) (image : List ℕ) (state : State) (p : Plain) (f : File) (j sender : ℕ) (operation : Operation)
     (lent : List ℕ) (r : AreaReply) (filled after : List ℕ) : Type 0 where
-  pub leaves : Leaves x (r .answer) filled after (r .state)
+  pub leaves : Leaves x (r .answer) filled (StandFor after (r .state))
   pub written : after ≡ messageImage p image operation (r .answer) lent (some f)
   pub reached : r .state ≡ operationState p f state j sender operation (r .answer) (reserveWord operation) (entryOf sender (areaAt state j))
 
@@ -136,7 +136,7 @@ pub record Operates (image : List ℕ) (state : State) (o : Unit) (j sender : �
 -- Answer and lent words are the plain unit's; image and state are those of its unit, and determined by the answer.
 pub record AreaLeaves (image : List ℕ) (state : State) (p : Plain) (name : Name) (sender : ℕ) (operation : Operation) (lent : List ℕ)
     (r : AreaReply) (filled after : List ℕ) : Type 0 where
-  pub leaves : Leaves (stepArea p name sender operation lent) (r .answer) filled after (r .state)
+  pub leaves : Leaves (stepArea p name sender operation lent) (r .answer) filled (StandFor after (r .state))
   pub written : after ≡ messageImage p image operation (r .answer) lent (tableFind (named name) (p .files))
   pub reached : r .state
       ≡ messageState p state sender operation (r .answer) (areaNamed (named name) state) (tableFind (named name) (p .files))

@@ -1,6 +1,6 @@
 -- Reserve, Release and Position on the state are those of the plain unit: what each leaves beside the outcome.
 use mathlib.Core.Path.{_≡_, refl, sym, ap, _∙_}
-use mathlib.Core.Bool.{Bool, true, false, cond}
+use mathlib.Core.Bool.{Bool, true, false, not, cond}
 use mathlib.Core.List.{List}
 use mathlib.Core.Logic.{_≢_}
 use mathlib.Core.Option.{some}
@@ -19,19 +19,18 @@ use Rattle.state.specs.declared.Found.the-variants.{At}
 use Rattle.state.specs.Areas.{setArea, areaNamed, reserved, released, moved}
 use Rattle.plain.specs.Table.{Table, tableFind}
 use Rattle.plain.specs.Unit.{Plain, File, AreaUser}
-use Rattle.plain.specs.Questions.{Outcome, answer}
+use Rattle.plain.specs.Questions.{Outcome, answer, asks}
 use Rattle.plain.specs.Areas as plain
 use Rattle.plain.specs.Step.{userStep}
 use Rattle.plain.specs.Good.{Good}
 use Rattle.refine.specs.Represents.{usersIn, SameAreas, Represents}
 use Rattle.refine.specs.OnDisc.{OnDisc}
 use Rattle.refine.proofs.UserLaws.{plainUser}
-use Rattle.refine.specs.Leaves.{Leaves}
-use Rattle.refine.proofs.LeavesLaws.{leaves}
+use Rattle.refine.specs.Leaves.{Leaves, StandFor}
+use Rattle.refine.proofs.LeavesLaws.{leaves-by}
 use Rattle.refine.proofs.StateLaws.{same-size}
-use Rattle.preservation.proofs.Whole.{on-disc, represents}
+use Rattle.preservation.proofs.Whole.{on-disc, stand-for}
 use Rattle.preservation.proofs.AreaMessages.{area-set-same, area-low, area-found, reserve-outcome, reserve-areas, sender-found, release-areas, move-areas, position-low, reserve-on, release-on, move-on}
-use Rattle.preservation.proofs.OutputUnit.{positioned-negative, positioned-past, positioned-done}
 use Rattle.preservation.proofs.AreaUnit.{user-release}
 use Rattle.area_users.specs.AreaUsers.{atPosition, positionWord, positionReached}
 use Rattle.area_users.specs.Seat.{Seat}
@@ -41,16 +40,14 @@ use Rattle.area_users.specs.Seat.{Seat}
 module _ {image : List ℕ} {state : State} {p : Plain} (g : Good p) (r : Represents image state p) (n j : ℕ) (e : areaNamed n state ≡ At j) (sender : ℕ) (h : sender ≢ 0)
     (alone : plain.other plain.isExclusive sender (usersIn (areaAt state j .users)) ≡ false) where
   pub reserve-leaves : (count : ℕ) (lent : List ℕ)
-      → Leaves (plain.stepReserve p n sender (usersIn (areaAt state j .users)) count lent) (answer (reserved (areaAt state j) sender count .word) 0 0 0) lent image
-      (setArea state j (reserved (areaAt state j) sender count .area))
+      → Leaves (plain.stepReserve p n sender (usersIn (areaAt state j .users)) count lent) (answer (reserved (areaAt state j) sender count .word) 0 0 0) lent
+      (StandFor image (setArea state j (reserved (areaAt state j) sender count .area)))
   reserve-leaves count lent =
       let a = r .areas in
       let x = reserve-outcome a n j e sender h count lent in
-      let o : OnDisc image (plain.stepReserve p n sender (usersIn (areaAt state j .users)) count lent .unit) = reserve-on (on-disc g r) n sender (area-found a n j e) count lent h alone in
       record {
         answered = x ∙ ap (λ (y : Outcome). record { unit = y .unit; answer = answer (reserved (areaAt state j) sender count .word) 0 0 0; lent = lent }) (sym x);
-        good = o .good;
-        represents = represents o (reserve-areas a n j e sender h count lent);
+        left = stand-for (reserve-on (on-disc g r) n sender (area-found a n j e) count lent h alone) (reserve-areas a n j e sender h count lent);
       }
 
 -- ---- a user of the area
@@ -87,20 +84,17 @@ module _ {image : List ℕ} {state : State} {p : Plain} {n j sender u : ℕ} {f 
   -- ---- Release
 
   pub release-leaves : (count : ℕ) (lent : List ℕ)
-      → Leaves (userStep p n sender (usersIn (areaAt state j .users)) (plainUser (userAt (areaAt state j) u)) f (Reserve count) lent) (answer 0 0 0 0) lent image (setArea state j (released (areaAt state j) u))
+      → Leaves (userStep p n sender (usersIn (areaAt state j .users)) (plainUser (userAt (areaAt state j) u)) f (Reserve count) lent) (answer 0 0 0 0) lent (StandFor image (setArea state j (released (areaAt state j) u)))
   release-leaves count lent =
-      let o = release-on on n sender live user in
-      leaves (user-release p n sender users pu f lent count) (o .good) (represents o (release-areas same n j (seat .named) sender (seat .nonzero) u (seat .entry)))
+      leaves-by (user-release p n sender users pu f lent count)
+      (stand-for (release-on on n sender live user) (release-areas same n j (seat .named) sender (seat .nonzero) u (seat .entry)))
 
   -- ---- positions
 
   -- the unit with the sender's position k, and the state with it
-  pub moved-good : (k : ℕ) → k ≤ length (f .sectors) → Good (plain.moved p n sender (usersIn (areaAt state j .users)) (plainUser (userAt (areaAt state j) u)) k)
-  moved-good k x = move-on on n sender live user (seat .file) k x .good
-
-  pub moved-represents : (k : ℕ) → k ≤ length (f .sectors)
-      → Represents image (atPosition state j u k) (plain.moved p n sender (usersIn (areaAt state j .users)) (plainUser (userAt (areaAt state j) u)) k)
-  moved-represents k x = represents (move-on on n sender live user (seat .file) k x) (move-areas same n j (seat .named) sender (seat .nonzero) u (seat .entry) (record { 0 = k }))
+  pub moved-stands : (k : ℕ) → k ≤ length (f .sectors)
+      → StandFor image (atPosition state j u k) (plain.moved p n sender (usersIn (areaAt state j .users)) (plainUser (userAt (areaAt state j) u)) k)
+  moved-stands k x = stand-for (move-on on n sender live user (seat .file) k x) (move-areas same n j (seat .named) sender (seat .nonzero) u (seat .entry) (record { 0 = k }))
 
   -- its own position moves nothing
   pub own-position : (k : ℕ) → k ≡ userAt (areaAt state j) u .position .0 → atPosition state j u k ≡ state
@@ -122,23 +116,16 @@ reached-low block len = go (negative block) (leb block len) (leb-true block len)
     go false false h = omega arith
 
 module _ (move : ℕ → Plain) (block len : ℕ) (refusal : Plain → ℕ → ℕ → Outcome) (next : Plain → ℕ → Outcome) where
-  pub record Positioned (o : Outcome) : Type 0 where
-    pub refused : positionWord block len ≢ 0 → o ≡ refusal (move (positionReached block len)) (positionWord block len) (positionReached block len)
-    pub done : positionWord block len ≡ 0 → (o ≡ next (move block) block) × (block ≤ len) × (positionReached block len ≡ block)
+  pub record Positioned (word reached : ℕ) (o : Outcome) : Type 0 where
+    pub refused : word ≢ 0 → o ≡ refusal (move reached) word reached
+    pub done : word ≡ 0 → (o ≡ next (move block) block) × (block ≤ len) × (reached ≡ block)
 
-  pub positioned-by : Positioned (plain.positioned move block len refusal next)
-  positioned-by = go (negative block) refl (leb block len) refl
+  pub positioned-by : Positioned (positionWord block len) (positionReached block len) (plain.positioned move block len refusal next)
+  unfolding plain.positioned asks
+  positioned-by = go (negative block) (leb block len) (leb-true block len)
     where
-      go : (b : Bool) → negative block ≡ b → (c : Bool) → leb block len ≡ c → Positioned (plain.positioned move block len refusal next)
-      go true e c q = record {
-        refused = λ d. rw e (positioned-negative move block len refusal next e);
-        done = λ z. absurd (let y : 0x0A00 ≡ 0 = rw e at z in omega arith);
-      }
-      go false e false q = record {
-        refused = λ d. rw (e, q) (positioned-past move block len refusal next e q);
-        done = λ z. absurd (let y : 0x0810 ≡ 0 = rw (e, q) at z in omega arith);
-      }
-      go false e true q = record {
-        refused = λ d. absurd (d (rw (e, q) refl));
-        done = λ z. (positioned-done move block len refusal next e q, leb-true block len q, rw (e, q) refl);
-      }
+      go : (b c : Bool) → (c ≡ true → block ≤ len) → Positioned (cond b 0x0A00 (cond c 0 0x0810)) (cond b 0 (cond c block len))
+          (asks (not b) (refusal (move 0) 0x0A00 0) (asks c (refusal (move len) 0x0810 len) (next (move block) block)))
+      go true c low = record { refused = λ d. refl; done = λ z. absurd (omega arith) }
+      go false false low = record { refused = λ d. refl; done = λ z. absurd (omega arith) }
+      go false true low = record { refused = λ d. absurd (d refl); done = λ z. (refl, low refl, refl) }

@@ -20,7 +20,7 @@ use Rattle.plain.specs.Areas.{bookLive, stepCreateArea, stepRemoveArea}
 use Rattle.refine.specs.Represents.{Represents}
 use Rattle.refine.specs.OnDisc.{OnDisc}
 use Rattle.refine.specs.Writes.{bookedImage}
-use Rattle.refine.specs.Replies.{Replies}
+use Rattle.refine.specs.Leaves.{Replies}
 use Rattle.lookup.specs.Unit.{NumbersOf, unitPlaces}
 use Rattle.lookup.specs.Find.{NameAt}
 use Rattle.areas.specs.declared.AreaDone.{AreaDone}

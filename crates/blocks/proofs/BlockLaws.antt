@@ -25,7 +25,7 @@ use Rattle.plain.proofs.UnitLaws.{entry-of}
 use Rattle.refine.specs.OnDisc.{OnDisc}
 use Rattle.refine.specs.Writes.{replacedImage}
 use Rattle.refine.proofs.Ground.{ground, block-in, file-data, file-slices}
-use Rattle.preservation.proofs.OutputMessage.{block-inside}
+use Rattle.preservation.proofs.OutputStep.{block-inside}
 use Rattle.lookup.specs.Unit.{NumbersOf}
 use Rattle.lookup.specs.Find.{FindsName}
 use Rattle.lookup.specs.Files.{BlockOf}

@@ -2,7 +2,7 @@
 use mathlib.Core.Path.{_≡_, sym, ap, ap₂, _∙_}
 use mathlib.Core.Bool.{Bool}
 use mathlib.Core.List.{List}
-use Prim.Native.Nat.{ℕ, suc, _+_, _*_, _/_, _%_, _≤_, _<_, compare, Ordering}
+use Prim.Native.Nat.{ℕ, suc, _+_, _*_, _/_, _%_, _≤_, _<_}
 use native.Mathlib.Nat.{mul-le-mul-left, mul-comm, mul-add-mod-self-left, mod-eq-of-lt, mod-lt, div-add-mod, div-lt-iff-lt-mul}
 use native.Mathlib.Omega.{arith}
 use lib.ListN.{length, getD}
@@ -11,14 +11,14 @@ use Rattle.disc.specs.Names.{pack, keyOf}
 use Rattle.disc.specs.Decide.{Decides}
 use Rattle.disc.specs.Stretches.{stretchCount, indexWords, sectorIn, blockSector}
 use Rattle.disc.specs.Entries.{placeCount, placeWord, nameAt}
-use Rattle.disc.proofs.Compare.{Tri, less, same, more, tri}
+use Rattle.disc.proofs.Compare.{compare-cases}
 use Rattle.index.proofs.ReadLaws.{read-sector}
 use Rattle.sound.specs.Places.{Unused}
 use Rattle.catalog.specs.declared.Catalog.{Catalog}
 use Rattle.catalog.specs.declared.Place.{Place}
 use Rattle.catalog.specs.declared.Found.the-variants.{At, Nothing}
-use Rattle.catalog.specs.Catalog.{keySector, slotWord, entryWord, slotNamed, slotUnused, placeNamed, placeUnused}
-use Rattle.catalog.proofs.SearchLaws.{FirstPlace, NoPlace, place-first, no-place, name-decides, unused-decides}
+use Rattle.catalog.specs.Catalog.{keySector, slotWord, entryWord, slotNamed, slotUnused, placeFrom, placeNamed, placeUnused}
+use Rattle.catalog.proofs.SearchLaws.{place-first, no-place, name-decides, unused-decides}
 
 -- ---- numbers of places
 
@@ -60,12 +60,10 @@ place-of-key H L k t pos h e =
 
 -- the order of a key's places is that of their numbers
 number-order : (H k l i m v : ℕ) → 1 ≤ H → i < 16 → v < 16 → placeNumber H k m v < placeNumber H k l i → 16 * m + v < 16 * l + i
-number-order H k l i m v pos a b h = go (compare m l) (tri m l)
-  where
-    go : (o : Ordering) → Tri m l o → 16 * m + v < 16 * l + i
-    go o (less x) = omega arith
-    go o (same e) = let z : H * m ≡ H * l = ap (λ (n : ℕ). H * n) e in omega arith
-    go o (more x) = absurd (let y : suc l ≤ m = omega arith in omega (arith, mul-le-mul-left H y))
+number-order H k l i m v pos a b h = compare-cases m l (λ _. 16 * m + v < 16 * l + i)
+    (λ x. omega arith)
+    (λ e. let z : H * m ≡ H * l = ap (λ (n : ℕ). H * n) e in omega arith)
+    (λ x. absurd (let y : suc l ≤ m = omega arith in omega (arith, mul-le-mul-left H y)))
 
 -- ---- the first place of a key with a property
 
@@ -82,34 +80,6 @@ pub record FirstWith (Q : ℕ → Type 0) (block : ℕ → ℕ) (H L k : ℕ) (p
 -- no place of key k has the property
 pub record NoneWith (Q : ℕ → Type 0) (H L k : ℕ) : Type 0 where
   pub lacks : (t : ℕ) → t < placeCount H L → t / 16 % H ≡ k → Q t → ⊥
-
-module _ (test : ℕ → ℕ → Bool) (sectors block : ℕ → ℕ) (Q : ℕ → Type 0) (H L k : ℕ) (low : k < H)
-    (lies : (l : ℕ) → l < L → sectors l ≡ block (H * l + k))
-    (decides : (l i : ℕ) → l < L → i < 16 → Decides (test (sectors l) i) (Q (placeNumber H k l i))) where
-  first-with : (p : Place) → FirstPlace test sectors L 0 p → FirstWith Q block H L k p
-  first-with p f =
-      let n = placeNumber H k (f .layer) (p .slot) in
-      let h : f .layer < L = omega (arith, f .high) in
-      let inside : n < placeCount H L = number-inside H k (f .layer) (p .slot) (f .slot) L low h in
-      record {
-        place = n;
-        inside = inside;
-        key = number-key H k (f .layer) (p .slot) (f .slot) low;
-        has = decides (f .layer) (p .slot) h (f .slot) .yes (f .passes);
-        earlier = λ t x e q.
-            let o = place-of-key H L k t (omega arith) (omega arith) e in
-            let y = number-order H k (f .layer) (p .slot) (o .layer) (o .slot) (omega arith) (f .slot) (o .small) (omega (arith, o .number)) in
-            decides (o .layer) (o .slot) (o .inside) (o .small) .not (f .before (o .layer) (o .slot) (omega arith) (o .small) y) (rw (o .number) at q);
-        sector = f .sector ∙ lies (f .layer) h ∙ ap block (sym (number-block H k (f .layer) (p .slot) (f .slot)));
-        slot = sym (number-slot H k (f .layer) (p .slot) (f .slot));
-      }
-
-  none-with : NoPlace test sectors L 0 → NoneWith Q H L k
-  none-with f = record {
-    lacks = λ t x e q.
-        let o = place-of-key H L k t (omega arith) x e in
-        decides (o .layer) (o .slot) (o .inside) (o .small) .not (f .fails (o .layer) (o .slot) (omega arith) (omega (arith, o .inside)) (o .small)) (rw (o .number) at q);
-  }
 
 -- ---- a catalog in slices
 
@@ -159,41 +129,54 @@ module _ (image : List ℕ) (c : Catalog) (F s : ℕ) (slices : List ℕ) (d : L
         let r = unused-decides image (keySector image c k l) i in
         record { yes = λ t. record { zero = λ w h. sym (key-word w) ∙ r .yes t w h }; not = λ t q. r .not t (λ w h. key-word w ∙ q .zero w h) }
 
+  -- what a search with a test finds that decides the property Q of the places of a key
+  module _ (test : ℕ → ℕ → Bool) (Q : ℕ → Type 0) (k : ℕ) (low : k < c .keys)
+      (decides : (l i : ℕ) → l < c .layers → i < 16 → Decides (test (keySector image c k l) i) (Q (placeNumber (c .keys) k l i))) where
+    abbrev H : ℕ
+    H = c .keys
+
+    first-with : (p : Place) → placeFrom test (keySector image c k) (c .layers) 0 ≡ At p → FirstWith Q (blockSector F s slices (c .from)) (c .keys) (c .layers) k p
+    first-with p found =
+        let f = place-first test (keySector image c k) (c .layers) 0 p found in
+        let n = placeNumber H k (f .layer) (p .slot) in
+        let h : f .layer < c .layers = omega (arith, f .high) in
+        let inside : n < placeCount H (c .layers) = number-inside H k (f .layer) (p .slot) (f .slot) (c .layers) low h in
+        record {
+          place = n;
+          inside = inside;
+          key = number-key H k (f .layer) (p .slot) (f .slot) low;
+          has = decides (f .layer) (p .slot) h (f .slot) .yes (f .passes);
+          earlier = λ t x e q.
+              let o = place-of-key H (c .layers) k t (omega arith) (omega arith) e in
+              let y = number-order H k (f .layer) (p .slot) (o .layer) (o .slot) (omega arith) (f .slot) (o .small) (omega (arith, o .number)) in
+              decides (o .layer) (o .slot) (o .inside) (o .small) .not (f .before (o .layer) (o .slot) (omega arith) (o .small) y) (rw (o .number) at q);
+          sector = f .sector ∙ key-block k (f .layer) low h ∙ ap (blockSector F s slices (c .from)) (sym (number-block H k (f .layer) (p .slot) (f .slot)));
+          slot = sym (number-slot H k (f .layer) (p .slot) (f .slot));
+        }
+
+    none-with : placeFrom test (keySector image c k) (c .layers) 0 ≡ Nothing → NoneWith Q (c .keys) (c .layers) k
+    none-with missed = record {
+      lacks = λ t x e q.
+          let o = place-of-key H (c .layers) k t (omega arith) x e in
+          let f = no-place test (keySector image c k) (c .layers) 0 missed in
+          decides (o .layer) (o .slot) (o .inside) (o .small) .not (f .fails (o .layer) (o .slot) (omega arith) (omega (arith, o .inside)) (o .small)) (rw (o .number) at q);
+    }
+
   -- "Does the name stand in the catalog?"
   module _ (n : ℕ) (keys : 1 ≤ c .keys) where
     key-low : keyOf (c .keys) n < c .keys
     key-low = mod-lt _ keys
 
     pub named-at : (p : Place) → placeNamed image c n ≡ At p → FirstWith (λ t. nameAt P t ≡ n) (blockSector F s slices (c .from)) (c .keys) (c .layers) (keyOf (c .keys) n) p
-    named-at p e =
-        let k = keyOf (c .keys) n in
-        first-with (slotNamed image n) (keySector image c k) (blockSector F s slices (c .from)) (λ t. nameAt P t ≡ n) (c .keys) (c .layers) k key-low
-        (λ l x. key-block k l key-low x)
-        (λ l i x y. named k l i key-low x y n)
-        p
-        (place-first (slotNamed image n) (keySector image c k) (c .layers) 0 p e)
+    named-at = first-with (slotNamed image n) (λ t. nameAt P t ≡ n) (keyOf (c .keys) n) key-low (λ l i x y. named _ l i key-low x y n)
 
     pub named-nothing : placeNamed image c n ≡ Nothing → NoneWith (λ t. nameAt P t ≡ n) (c .keys) (c .layers) (keyOf (c .keys) n)
-    named-nothing e =
-        let k = keyOf (c .keys) n in
-        none-with (slotNamed image n) (keySector image c k) (blockSector F s slices (c .from)) (λ t. nameAt P t ≡ n) (c .keys) (c .layers) k key-low
-        (λ l x. key-block k l key-low x)
-        (λ l i x y. named k l i key-low x y n)
-        (no-place (slotNamed image n) (keySector image c k) (c .layers) 0 e)
+    named-nothing = none-with (slotNamed image n) (λ t. nameAt P t ≡ n) (keyOf (c .keys) n) key-low (λ l i x y. named _ l i key-low x y n)
 
   -- "An entry takes the first unused place": the places of the key before it, or all of them, are used
   module _ (k : ℕ) (low : k < c .keys) where
     pub unused-at : (p : Place) → placeUnused image c k ≡ At p → FirstWith (Unused P) (blockSector F s slices (c .from)) (c .keys) (c .layers) k p
-    unused-at p e =
-        first-with (slotUnused image) (keySector image c k) (blockSector F s slices (c .from)) (Unused P) (c .keys) (c .layers) k low
-        (λ l x. key-block k l low x)
-        (λ l i x y. unused k l i low x y)
-        p
-        (place-first (slotUnused image) (keySector image c k) (c .layers) 0 p e)
+    unused-at = first-with (slotUnused image) (Unused P) k low (λ l i x y. unused k l i low x y)
 
     pub unused-nothing : placeUnused image c k ≡ Nothing → NoneWith (Unused P) (c .keys) (c .layers) k
-    unused-nothing e =
-        none-with (slotUnused image) (keySector image c k) (blockSector F s slices (c .from)) (Unused P) (c .keys) (c .layers) k low
-        (λ l x. key-block k l low x)
-        (λ l i x y. unused k l i low x y)
-        (no-place (slotUnused image) (keySector image c k) (c .layers) 0 e)
+    unused-nothing = none-with (slotUnused image) (Unused P) k low (λ l i x y. unused k l i low x y)

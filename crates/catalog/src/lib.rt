@@ -66,10 +66,11 @@ fn is_named_slot(image: &[u16], q: Sector, slot: u16, name: Name) -> bool
     ensures { λ r. ⌜ r ≡ slotNamed (now (image .entry)) (packed name) (q .0) slot ⌝ }
 {
     let at = slot as usize * 16;
-    let first = words::word(image, q, at);
-    if first != name.0 {
+    let start = q.0 as usize * 256 + at;
+    if start < image.len() && image[start] != name.0 {
         return false;
     }
+    let first = words::word(image, q, at);
     let second = words::word(image, q, at + 1);
     let third = words::word(image, q, at + 2);
     names::same_name(Name(first, second, third), name)

@@ -17,7 +17,7 @@ use Rattle.disc.specs.Stretches.{stretchCount, sysFrom}
 use Rattle.disc.specs.Entries.{placeWord, placeCount, nameAt}
 use Rattle.plain.specs.Table.{tableFind, tableRemove}
 use Rattle.plain.specs.Unit.{Plain, File, sysOf, freeSlices}
-use Rattle.plain.specs.Questions.{Outcome, done, replies, answer}
+use Rattle.plain.specs.Questions.{Outcome, replies, answer}
 use Rattle.plain.specs.Good.{Good}
 use Rattle.plain.specs.Taking.{taking, layersFor}
 use Rattle.plain.specs.Catalog.{isRecord, newName, slicesAfter, changeFile, stepChange}
@@ -28,14 +28,13 @@ use Rattle.plain.proofs.GrowUnit.{grownTo, not-grown, entry-grown}
 use Rattle.refine.specs.Represents.{Represents}
 use Rattle.refine.specs.OnDisc.{OnDisc}
 use Rattle.refine.specs.Writes.{emptyPlace, resizedImage, renamedImage}
-use Rattle.refine.specs.Replies.{Replies, refused, written}
-use Rattle.preservation.proofs.Whole.{on-disc, represents}
+use Rattle.preservation.proofs.Whole.{on-disc, stand-for, still}
 use Rattle.preservation.proofs.GrowStep.{grow-on}
-use Rattle.preservation.proofs.RenameStep.{rename-at}
+use Rattle.preservation.proofs.ChangeStep.{rename-on}
 use Rattle.preservation.proofs.ChangeMessage.{change-kept, change-areas}
 use Rattle.preservation.specs.Units.{grownUnit}
-use Rattle.refine.specs.Leaves.{Leaves}
-use Rattle.refine.proofs.LeavesLaws.{leaves}
+use Rattle.refine.specs.Leaves.{Leaves, StandFor, Decided, refused, written}
+use Rattle.refine.proofs.LeavesLaws.{leaves-map}
 use Rattle.lookup.specs.Find.{FirstUnused}
 use Rattle.grow.specs.Grow.{GrownFrom}
 use Rattle.change.specs.Rewrite.{Rewrites, stayed, moved}
@@ -109,7 +108,7 @@ module _ (p : Plain) (n : ℕ) (f : File) (lent : List ℕ) (g : Good p) (found 
       → (u : ℕ) → FirstUnused (emptyPlace q (sysOf q) (resizedImage q i f (on q)) t) q (sysOf q) (keyOf (q .H) m) u → OnDisc (renamedImage q (sysOf q) i t u m f (on q)) unit)
       e
       (λ o t in₀ was u first. subst (λ (x : Plain). OnDisc (renamedImage grown (sysOf grown) i t u m f (on grown)) x) unit-is
-      (rename-at o n m found (change-shut p n m sz at f lent g found asked) (change-changes p n m sz at f lent g found asked words rec) d (asked .legal)
+      (rename-on o n m found (change-shut p n m sz at f lent g found asked) (change-changes p n m sz at f lent g found asked words rec) d (asked .legal)
       (entry-grown p (changeLayers p n m sz at f lent) m (moved-vacant p n m sz at f lent d asked)) (moved-fits p n m sz at f lent g d)
       t in₀ was u (first .inside) (first .key) (first .unused)))
 
@@ -141,20 +140,16 @@ pub change-grown : {p : Plain} (name : Name) {f : File} (lent : List ℕ) {image
     → layersThen p (named name) lent ≡ suc (p .layers) → OnDisc image p → GrownFrom image p i → OnDisc i (grownUnit p)
 change-grown {p} name {f} lent z file next o gf = on-grown p (named name) f lent (done-as p name f lent file .told z .1) next o gf
 
-module _ {image : List ℕ} {state : State} {p : Plain} (g : Good p) (r : Represents image state p) where
-  pub change-stepped : {name : Name} {lent after : List ℕ} {result : ℕ} → Words lent → ChangeStep p image name lent after result → Leaves (stepChange p name lent) (answer result 0 0 0) lent after state
-  change-stepped {name} {lent} {after} {result} words s = go (s .step)
-    where
-      go : Replies p (stepChange p name lent) lent result (after ≡ image) (ChangeDone p image (named name) lent after) → Leaves (stepChange p name lent) (answer result 0 0 0) lent after state
-      go (refused nz e same) = leaves e g (rw same r)
-      go (written z q e w) =
-          let n : ℕ = named name in
-          let f = w .f in
-          let told = done-as p name f lent (w .file) .told (ap (λ (x : Outcome). x .answer .result) e) in
-          let sz : ℕ = sizeThen f lent in
-          let at : ℕ = attributesThen f lent in
-          let unit : Plain = changeFile p n f (newName n lent) sz at lent .unit in
-          let same : q ≡ unit = ap (λ (x : Outcome). x .unit) (sym e ∙ told .2) in
-          let there : stepChange p name lent ≡ replies unit result lent = e ∙ ap (λ (x : Plain). done x lent) same ∙ ap (λ (x : ℕ). replies unit x lent) (sym z) in
-          let on = changed-on p n f lent g (w .file) words (told .0) (told .1) (on-disc g r) (w .changed) in
-          leaves there (on .good) (represents on (change-areas p n (newName n lent) sz at f lent g (w .file) (told .1) (r .areas)))
+pub change-stepped : {image : List ℕ} {state : State} {p : Plain} → Good p → Represents image state p → {name : Name} {lent after : List ℕ} {result : ℕ} → Words lent → ChangeStep p image name lent after result
+    → Leaves (stepChange p name lent) (answer result 0 0 0) lent (StandFor after state)
+change-stepped {image} {state} {p} g r {name} {lent} {after} {result} words s = leaves-map go (s .step)
+  where
+    go : Decided p result (after ≡ image) (ChangeDone p image (named name) lent after) (stepChange p name lent .unit) → StandFor after state (stepChange p name lent .unit)
+    go (refused nz u same) = still g r u same refl
+    go (written z w) =
+        let n : ℕ = named name in
+        let f = w .f in
+        let told = done-as p name f lent (w .file) .told (ap (λ (x : Outcome). x .answer .result) (s .step .answered) ∙ z) in
+        rw (ap (λ (x : Outcome). x .unit) (told .2))
+        (stand-for (changed-on p n f lent g (w .file) words (told .0) (told .1) (on-disc g r) (w .changed))
+        (change-areas p n (newName n lent) (sizeThen f lent) (attributesThen f lent) f lent g (w .file) (told .1) (r .areas)))

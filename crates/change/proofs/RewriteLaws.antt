@@ -33,10 +33,9 @@ use Rattle.plain.proofs.QuestionLaws.{cond-law}
 use Rattle.refine.specs.Writes.{countedFree, storePlace, emptyPlace, resizedImage, changedImage, renamedImage}
 use Rattle.refine.proofs.Ground.{Ground, ground, top}
 use Rattle.refine.proofs.Writers.{long}
-use Rattle.preservation.proofs.WriteLaws.{zeroed-size}
+use Rattle.preservation.proofs.WriteLaws.{counted-word, zeroed-size}
 use Rattle.preservation.proofs.ResizeLaws.{resliced-size}
-use Rattle.preservation.proofs.ChangeStep.{changes-resizes, changes-entry, change-on}
-use Rattle.preservation.proofs.RenameStep.{rename-emptied, rename-at}
+use Rattle.preservation.proofs.ChangeStep.{changes-resizes, changes-entry, change-on, rename-emptied, rename-on}
 use Rattle.lookup.specs.Unit.{NumbersOf, CatalogOn}
 use Rattle.lookup.proofs.UnitLaws.{on-catalog}
 use Rattle.lookup.proofs.FindLaws.{place-room}
@@ -45,7 +44,6 @@ use Rattle.lookup.proofs.LookUpLaws.{entry-at}
 use Rattle.slices.specs.FileBlock.{FileBlock}
 use Rattle.slices.proofs.BlockLaws.{unit-file, index-told}
 use Rattle.lookup.specs.Find.{FirstUnused}
-use Rattle.grow.proofs.BlockLaws.{counted-word}
 use Rattle.change.specs.declared.resize.Extent.{Extent}
 use Rattle.change.specs.Resize.{slicesThen, CanResizeFrom, CanResize, Resized}
 use Rattle.change.proofs.ResizeLaws.{then-length, then-once}
@@ -271,7 +269,7 @@ module _ {image : List ℕ} {o : Unit} {now : Standing} {w : Wanted} {lent : Lis
           moved-words : Words (countedFree moved-image (p .s))
           unfolding renamedImage
           moved-words =
-              rename-at (s₀ .on) n m (s₀ .file) (s₀ .closed) changes differs (can .legal) (can .vacant differs) (can .fits differs) t (s₀ .at .is .inside) (s₀ .at .named)
+              rename-on (s₀ .on) n m (s₀ .file) (s₀ .closed) changes differs (can .legal) (can .vacant differs) (can .fits differs) t (s₀ .at .is .inside) (s₀ .at .named)
               (taken-place .u) (first-unused .inside) (first-unused .key) (first-unused .unused) .words
 
           pub moved-count : (2560 ≤ length stored) × (o .slice * onesInMap stored < 65536)

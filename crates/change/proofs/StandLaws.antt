@@ -1,28 +1,19 @@
 -- A closed file as its entry and its index block have it.
 use mathlib.Core.Path.{_≡_, _∙_}
 use mathlib.Core.List.{List}
-use Prim.Native.Nat.{ℕ, _≤_, _<_}
-use lib.ListN.{length}
-use Rattle.disc.specs.Entries.{indexSector}
+use Prim.Native.Nat.{ℕ}
 use Rattle.index.specs.Block.{sliceTotal}
 use Rattle.catalog.specs.declared.Place.{Place}
 use Rattle.catalog.specs.declared.Unit.{Unit}
 use Rattle.catalog.specs.Catalog.{entryWord}
 use Rattle.plain.specs.Unit.{Plain, File}
-use Rattle.lookup.specs.Files.{BlockOf}
-use Rattle.lookup.proofs.FileLaws.{file-words, live-index, block-is, block-total, total-fits}
+use Rattle.lookup.specs.Files.{ClosedFile, BlockOf}
+use Rattle.lookup.proofs.FileLaws.{file-words, closed-block, closed-total}
 use Rattle.change.specs.declared.rewrite.Standing.{Standing}
 use Rattle.change.specs.Rewrite.{StandsAs}
-use Rattle.change.specs.Asked.{CanStandFrom}
 
-module _ {image : List ℕ} {o : Unit} {place : Place} {p : Plain} {n : ℕ} {f : File} (can : CanStandFrom image o place p n f)
+module _ {image : List ℕ} {o : Unit} {place : Place} {p : Plain} {n : ℕ} {f : File} (can : ClosedFile image o place p n f)
     {index : ℕ} {block : List ℕ} (e : index ≡ entryWord image place 8) (of : BlockOf image index block) where
-  its-index : index ≡ indexSector (p .F) (p .s) (length (f .slices)) (f .slices)
-  its-index = e ∙ live-index (can .on .good) (can .at) f (can .file) (can .closed)
-
-  pub slices-fit : (1 ≤ o .slice) × (sliceTotal (o .slice) block 0 < 65536)
-  slices-fit = total-fits (can .on) (can .numbers) n f (can .file) of its-index
-
   pub stands-as : (r : Standing) → r .place ≡ place → r .attributes ≡ entryWord image place 6 → r .size ≡ entryWord image place 7 → r .slices ≡ sliceTotal (o .slice) block 0 → r .block .words ≡ block
       → StandsAs image o r p n f
   stands-as r at attributes size slices words =
@@ -35,6 +26,6 @@ module _ {image : List ℕ} {o : Unit} {place : Place} {p : Plain} {n : ℕ} {f 
         at = rw at (can .at);
         attributes = attributes ∙ w .attributes;
         size = size ∙ w .size;
-        slices = slices ∙ block-total (can .on) (can .numbers) n f (can .file) of its-index;
-        words = words ∙ block-is (can .on) (can .numbers) n f (can .file) of its-index;
+        slices = slices ∙ closed-total can e of;
+        words = words ∙ closed-block can e of;
       }

@@ -2,7 +2,7 @@
 use mathlib.Core.Path.{_≡_}
 use mathlib.Core.Bool.{Bool, not, _&&_, _||_, cond}
 use mathlib.Core.List.{List}
-use mathlib.Core.Option.{none, some}
+use mathlib.Core.Option.{some}
 use Prim.Native.Nat.{ℕ}
 use lib.Dec.{eqb}
 use Rattle.disc.specs.Numbers.{need}
@@ -17,29 +17,16 @@ use Rattle.plain.specs.Taking.{layersFor}
 use Rattle.plain.specs.Catalog.{newName, keptOr, attributesIn, sizeIn, slicesAfter, changeFile}
 use Rattle.refine.specs.OnDisc.{OnDisc}
 use Rattle.lookup.specs.Unit.{NumbersOf}
-use Rattle.lookup.specs.Find.{NameAt}
+use Rattle.lookup.specs.Files.{ClosedFile}
 use Rattle.change.specs.declared.rewrite.Standing.{Standing}
 use Rattle.change.specs.declared.rewrite.Wanted.{Wanted}
 use Rattle.change.specs.Rewrite.{StandsAs}
 
 -- ---- the file as it stands
 
--- The entry of file f under name n, which has no area process, stands in the place.
-pub record CanStandFrom (image : List ℕ) (o : Unit) (place : Place) (p : Plain) (n : ℕ) (f : File) : Type 0 where
-  pub on : OnDisc image p
-  pub numbers : NumbersOf o p
-  pub file : tableFind n (p .files) ≡ some f
-  pub closed : tableFind n (p .areas) ≡ none
-  pub at : NameAt image p n place
-
-pub record CanStand (image : List ℕ) (o : Unit) (place : Place) : Type 0 where
-  pub unit : Plain
-  pub name : ℕ
-  pub file : File
-  pub can : CanStandFrom image o place unit name file
-
+-- Of every file with no area process whose entry stands in the place.
 pub record Stands (image : List ℕ) (o : Unit) (place : Place) (r : Standing) : Type 0 where
-  pub all : (p : Plain) (n : ℕ) (f : File) → CanStandFrom image o place p n f → StandsAs image o r p n f
+  pub all : (p : Plain) (n : ℕ) (f : File) → ClosedFile image o place p n f → StandsAs image o r p n f
 
 -- ---- the file as it is to be
 

@@ -18,13 +18,13 @@ use Rattle.plain.specs.Good.{Good}
 use Rattle.plain.specs.Taking.{layersFor}
 use Rattle.plain.specs.Catalog.{newName, keptOr, attributesIn, sizeIn, slicesAfter, changed, changeFile, stepChange}
 use Rattle.refine.specs.Represents.{Represents}
-use Rattle.refine.specs.Replies.{Replies}
+use Rattle.refine.specs.Leaves.{Replies}
 use Rattle.lookup.specs.Unit.{NumbersOf, unitPlaces}
+use Rattle.lookup.specs.Files.{ClosedFile}
 use Rattle.preservation.specs.Units.{grownUnit}
 use Rattle.grow.specs.Grow.{GrownFrom}
 use Rattle.change.specs.Resize.{slicesThen}
 use Rattle.change.specs.Rewrite.{Rewrites}
-use Rattle.change.specs.Asked.{CanStandFrom}
 
 -- ---- the unit afterwards
 
@@ -69,11 +69,11 @@ pub data Changed (p : Plain) (image : List ℕ) (n : ℕ) (f : File) (lent after
 pub record CanChange (image : List ℕ) (o : Unit) (n : ℕ) (place : Place) (lent : List ℕ) : Type 0 where
   pub unit : Plain
   pub file : File
-  pub can : CanStandFrom image o place unit n file
+  pub can : ClosedFile image o place unit n file
   pub size : 16 ≤ length lent
 
 pub record FileChanges (image : List ℕ) (o : Unit) (n : ℕ) (place : Place) (lent after : List ℕ) (result : ℕ) : Type 0 where
-  pub all : (p : Plain) (f : File) → CanStandFrom image o place p n f
+  pub all : (p : Plain) (f : File) → ClosedFile image o place p n f
       → Replies p (changeFile p n f (newName n lent) (sizeThen f lent) (attributesThen f lent) lent) lent result (after ≡ image)
       (Changed p image n f lent after)
 

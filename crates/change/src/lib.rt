@@ -13,7 +13,8 @@ ghost use Rattle.disc.specs.Names.{packed, unitIn};
 ghost use Rattle.names.specs.NameIs.{NameIs};
 ghost use Rattle.plain.specs.Catalog.{keptOr, newName};
 ghost use Rattle.lookup.specs.Unit.{UnitOn, Meant};
-ghost use Rattle.change.specs.Asked.{CanStand, Stands, WantedOf, allowedBy, LayersFor, TakenBy, CanJudge, Judges};
+ghost use Rattle.lookup.specs.Files.{SomeClosedFile};
+ghost use Rattle.change.specs.Asked.{Stands, WantedOf, allowedBy, LayersFor, TakenBy, CanJudge, Judges};
 ghost use Rattle.change.specs.Change.{CanChange, FileChanges, Changes};
 use catalog::Found;
 use catalog::Place;
@@ -26,7 +27,7 @@ use types::State;
 
 // The file whose entry stands in the place. Closed, it has the slices that its index block describes.
 fn standing(image: &[u16], unit: Unit, place: Place) -> Standing
-    requires { ⌜ CanStand (now image) unit place ⌝ }
+    requires { ⌜ SomeClosedFile (now image) unit place ⌝ }
     ensures { λ r. ⌜ Stands (now (image .entry)) unit place r ⌝ }
 {
     let attributes = catalog::entry_word(image, place, 6);

@@ -28,7 +28,7 @@ use Rattle.plain.proofs.CreateUnit.{NewFile}
 use Rattle.refine.specs.OnDisc.{OnDisc}
 use Rattle.refine.specs.Writes.{countedFree, storePlace, zeroedSectors, takenImage, createdImage}
 use Rattle.refine.proofs.Ground.{Ground, ground, top}
-use Rattle.preservation.proofs.WriteLaws.{zeroed-size}
+use Rattle.preservation.proofs.WriteLaws.{counted-word, zeroed-size}
 use Rattle.preservation.proofs.CreateStep.{create-on}
 use Rattle.preservation.specs.Units.{newFileOf}
 use Rattle.lookup.specs.Unit.{NumbersOf}
@@ -39,7 +39,6 @@ use Rattle.slices.specs.Take.{CanLengthenFrom, CanLengthen, Lengthened}
 use Rattle.slices.specs.Zero.{CanZeroFrom, CanZero, Zeroed}
 use Rattle.slices.proofs.BlockLaws.{unit-file, index-told}
 use Rattle.slices.proofs.StoreLaws.{length-taken-image, longer-file}
-use Rattle.grow.proofs.BlockLaws.{counted-word}
 use Rattle.create.specs.Create.{unitWith, CreatedOn, AskedFrom, CanWriteFrom}
 use Rattle.create.proofs.LegalLaws.{Legal, legal-all}
 

@@ -18,11 +18,11 @@ use Rattle.catalog.specs.declared.Found.{Found}
 use Rattle.catalog.specs.declared.Found.the-variants.{At, Nothing}
 use Rattle.catalog.specs.declared.Unit.{Unit}
 use Rattle.plain.specs.Unit.{Plain, entry, sysOf}
-use Rattle.plain.specs.Questions.{Outcome, asks, replies}
+use Rattle.plain.specs.Questions.{replies}
 use Rattle.plain.specs.Catalog.{optionalIn, attributesIn, sizeIn, tailIn, newFile}
 use Rattle.plain.proofs.QuestionLaws.{asks-yes, asks-no}
 use Rattle.refine.specs.OnDisc.{OnDisc}
-use Rattle.refine.specs.Replies.{Replies, refused}
+use Rattle.refine.proofs.LeavesLaws.{leaves-as, refuses}
 use Rattle.lookup.specs.Unit.{NumbersOf, UnitOn, MeantOn}
 use Rattle.lookup.specs.Find.{UnusedFound, FindsName, FindsUnused}
 use Rattle.lookup.proofs.UnitLaws.{on-catalog}
@@ -36,7 +36,7 @@ module _ (image : List ℕ) (o : Unit) (n size attributes : ℕ) {b : Bool} (jud
   pub refused-legal : (words : List ℕ) → not b ≡ true → NewFileMade image o n size attributes words image 0x1200
   refused-legal words h = record {
     all = λ p on-disc num. record {
-      step = λ lent. refused (λ z. omega arith) (not-legal p n size attributes (optionalIn words) (tailIn words) lent (was-false judged h)) refl;
+      step = λ lent. refuses (λ z. omega arith) (not-legal p n size attributes (optionalIn words) (tailIn words) lent (was-false judged h)) refl;
     };
   }
 
@@ -55,7 +55,7 @@ module _ (image : List ℕ) (o : Unit) (n size attributes : ℕ) {b : Bool} (jud
     pub refused-name : (words : List ℕ) {place : Place} → found ≡ At place → NewFileMade image o n size attributes words image 0x1010
     refused-name words {place} e = record {
       all = λ p on-disc num. record {
-        step = λ lent. refused (λ z. omega arith) (name-used words lent (finds .all p (on-catalog on-disc) num .at place e .entered)) refl;
+        step = λ lent. refuses (λ z. omega arith) (name-used words lent (finds .all p (on-catalog on-disc) num .at place e .entered)) refl;
       };
     }
 
@@ -90,12 +90,6 @@ key-below {o = o} n opened q =
 
 -- ---- the messages
 
--- a question answered yes before the others
-replies-after : {p : Plain} (b : Bool) (refusal : Outcome) {next : Outcome} {lent : List ℕ} {result : ℕ} {Same : Type 0} {Written : Plain → Type 0} → T b
-    → Replies p next lent result Same Written → Replies p (asks b refusal next) lent result Same Written
-replies-after {p} b refusal {next} {lent} {result} {Same} {Written} t r =
-    subst (λ (x : Outcome). Replies p x lent result Same Written) (sym (asks-yes b refusal next t)) r
-
 module _ {image : List ℕ} {o : Unit} {n size attributes : ℕ} {words after : List ℕ} {result : ℕ} (name : Name) (is : n ≡ named name)
     (made : NewFileMade image o n size attributes words after result) where
   named-step : {p : Plain} → OnDisc image p → NumbersOf o p → NewFileStep p image (named name) size attributes (optionalIn words) (tailIn words) after result
@@ -105,7 +99,7 @@ module _ {image : List ℕ} {o : Unit} {n size attributes : ℕ} {words after : 
   pub creates : MeantOn image o (unitIn name) → optionalIn words ≡ replicate 3 0 → tailIn words ≡ replicate 6 0 → Creates image o name size attributes after result
   creates meant a b = record {
     all = λ p on-disc num own. record {
-      step = λ lent. replies-after _ _ (meant-on-known p meant own) ((rw (a, b) at (named-step on-disc num)) .step lent);
+      step = λ lent. leaves-as (asks-yes _ _ _ (meant-on-known p meant own)) ((rw (a, b) at (named-step on-disc num)) .step lent);
     };
   }
 
@@ -113,7 +107,7 @@ pub sets : {image : List ℕ} {o : Unit} {n : ℕ} {lent after : List ℕ} {resu
     → NewFileMade image o n (sizeIn lent) (attributesIn lent) lent after result → Sets image o name lent after result
 sets {lent = lent} name meant is long made = record {
   all = λ p on-disc num own. record {
-    step = replies-after _ _ (meant-on-known p meant own) (replies-after _ _ (rw (le-leb 16 (length lent) long) tt) (named-step name is made on-disc num .step lent));
+    step = leaves-as (asks-yes _ _ _ (meant-on-known p meant own)) (leaves-as (asks-yes _ _ _ (rw (le-leb 16 (length lent) long) tt)) (named-step name is made on-disc num .step lent));
   };
 }
 
@@ -121,6 +115,6 @@ sets {lent = lent} name meant is long made = record {
 pub sets-short : {image : List ℕ} {o : Unit} (name : Name) (lent : List ℕ) → MeantOn image o (unitIn name) → length lent < 16 → Sets image o name lent image 0x1200
 sets-short name lent meant short = record {
   all = λ p on-disc num own. record {
-    step = replies-after _ _ (meant-on-known p meant own) (refused (λ z. omega arith) (asks-no _ _ _ (rw (lt-leb 16 (length lent) short) tt)) refl);
+    step = leaves-as (asks-yes _ _ _ (meant-on-known p meant own)) (refuses (λ z. omega arith) (asks-no _ _ _ (rw (lt-leb 16 (length lent) short) tt)) refl);
   };
 }

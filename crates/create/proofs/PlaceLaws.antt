@@ -27,7 +27,7 @@ use Rattle.plain.proofs.TakingLaws.{layers-stay, layers-grow}
 use Rattle.plain.proofs.CreateUnit.{NewFile, unitAfter, Yes, newFile-done, sys-room, sys-few, unit-grown, new-grown, unit-stays, new-stays}
 use Rattle.plain.proofs.QuestionLaws.{asks-yes}
 use Rattle.refine.specs.OnDisc.{OnDisc}
-use Rattle.refine.specs.Replies.{refused, written}
+use Rattle.refine.proofs.LeavesLaws.{refuses, writes}
 use Rattle.refine.proofs.Ground.{Ground, ground, sys-ground, part-sectors}
 use Rattle.preservation.specs.Units.{grownUnit, fileWith, newFileOf}
 use Rattle.lookup.specs.Unit.{NumbersOf, Searchable}
@@ -38,7 +38,7 @@ use Rattle.grow.specs.Grow.{CanGrowFrom, GrownFrom, Grows}
 use Rattle.grow.proofs.BlockLaws.{sys-in}
 use Rattle.grow.proofs.RoomLaws.{enough-yes, enough-no}
 use Rattle.grow.proofs.GrowLaws.{grown-on}
-use Rattle.create.specs.Create.{unitWith, stays, grows, NewFileStep, AskedFrom, CanPlaceFrom, CanGrowForFrom, CanWriteFrom, FileWritten}
+use Rattle.create.specs.Create.{stays, grows, NewFileStep, AskedFrom, CanPlaceFrom, CanGrowForFrom, CanWriteFrom, FileWritten}
 use Rattle.create.proofs.FileLaws.{three, six, legal}
 
 -- Questions 7 and 8, with SYS at l layers.
@@ -92,7 +92,7 @@ module _ {image : List ℕ} {o : Unit} {n size attributes : ℕ} {words : List �
         step = λ lent.
             let t : Taking = taking p (sysOf p) l 0 (need (p .s) size) in
             let files : Table File = tablePut n (fileWith p size attributes optional tail (t .fileNew)) (p .files) in
-            refused ne
+            refuses ne
             (rest-is lent ∙ enough-no p (sysOf p) t (t .fileNew) lent files (λ z. ne (room-word lent ∙ z)) ∙ ap (λ (w : ℕ). replies p w lent) (sym (room-word lent)))
             refl;
       }
@@ -137,7 +137,7 @@ module _ {image : List ℕ} {o : Unit} {place : Place} {n size attributes : ℕ}
       pub place-done : {after : List ℕ} → FileWritten image o place n size attributes words after → NewFileStep p image n size attributes (optionalIn words) (tailIn words) after 0
       place-done w = record {
         step = λ lent.
-            written refl (unitWith p n size attributes (optionalIn words) (tailIn words))
+            writes
             (done-at (can .asked) same-layers yes lent ∙ ap (λ (q : Plain). done q lent) (unit-stays (can .asked .on .good) n size attributes (optionalIn words) (tailIn words)))
             (stays (w .all p place-write) refl);
       }
@@ -229,7 +229,7 @@ module _ {image : List ℕ} {o : Unit} {n size attributes : ℕ} {words : List �
             pub grown-done : {after : List ℕ} → FileWritten middle o′ place n size attributes words after → NewFileStep p image n size attributes (optionalIn words) (tailIn words) after 0
             grown-done w = record {
               step = λ lent.
-                  written refl (unitWith (grownUnit p) n size attributes (optionalIn words) (tailIn words))
+                  writes
                   (done-at (can .asked) more-layers yes-grown lent ∙ ap (λ (u : Plain). done u lent) (unit-grown p (suc (p .layers)) n size attributes (optionalIn words) (tailIn words)))
                   (grows (record { full = can .full; grown = middle; grows = grown .0; created = w .all (grownUnit p) grown-write }) refl);
             }

@@ -20,7 +20,7 @@ use Rattle.plain.specs.Taking.{placesTaken}
 use Rattle.plain.specs.Catalog.{optionalIn, attributesIn, sizeIn, tailIn, newFile, stepCreate, stepSet}
 use Rattle.refine.specs.OnDisc.{OnDisc}
 use Rattle.refine.specs.Writes.{createdImage}
-use Rattle.refine.specs.Replies.{Replies}
+use Rattle.refine.specs.Leaves.{Replies}
 use Rattle.lookup.specs.Unit.{NumbersOf}
 use Rattle.lookup.specs.Find.{FirstUnused, UnusedAt}
 use Rattle.preservation.specs.Units.{grownUnit, newFileOf}

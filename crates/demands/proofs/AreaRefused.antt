@@ -39,21 +39,16 @@ use Rattle.area_users.specs.AreaUsers.{atPosition, positionWord, positionReache
 use Rattle.area_users.specs.Seat.{Seat, areaUsers, areaUser}
 use Rattle.area_users.proofs.UserLaws.{own-position, positioned-by}
 use Rattle.transput.specs.Transput.{transputState}
-use Rattle.transput.proofs.TransputLaws.{kept-image, kept-state}
+use Rattle.transput.proofs.TransputLaws.{kept-state}
 use Rattle.area_messages.specs.AreaMessages.{reserveWord, messageImage, userState, operationState, messageState}
+use Rattle.area_messages.proofs.MessageLaws as messages
 use Rattle.demands.specs.Demands.{StateLeft, everything, butPosition}
 use Rattle.demands.proofs.TransputRefused.{Reached, own, there, transput-stops}
 
 -- ---- the image
 
 pub refused-image : (p : Plain) (image lent : List ℕ) (operation : Operation) (a : Answer) → a .result ≢ 0 → (f : Option File) → messageImage p image operation a lent f ≡ image
-unfolding messageImage
-refused-image p image lent operation a d none = refl
-refused-image p image lent (Reserve count) a d (some f) = refl
-refused-image p image lent (Position block) a d (some f) = refl
-refused-image p image lent Sense a d (some f) = refl
-refused-image p image lent (Transput operation bytes block) a d (some f) = sym (kept-image p f (a .block .0) image lent operation (a .result) d)
-refused-image p image lent (Other operation) a d (some f) = refl
+refused-image p image lent operation a d f = sym (messages.refused-image p image lent operation a (λ _. d) f)
 
 -- ---- the state
 

@@ -1,6 +1,6 @@
 -- What a message to an area process writes, and the unit that it leaves: Output alone writes, and changes its own file alone.
-use mathlib.Core.Path.{_≡_, refl, _∙_}
-use mathlib.Core.Bool.{Bool, true, false, not}
+use mathlib.Core.Path.{_≡_, refl, sym, _∙_}
+use mathlib.Core.Bool.{Bool, not}
 use mathlib.Core.List.{List, _∷_, [], _++_}
 use mathlib.Core.Logic.{_≢_}
 use mathlib.Core.Option.{Option, none, some}
@@ -26,7 +26,7 @@ use Rattle.preservation.specs.Units.{appendSlices}
 use Rattle.output.specs.Output.{outputImage}
 use Rattle.transput.specs.Transput.{transputImage}
 use Rattle.area_messages.specs.AreaMessages.{messageImage}
-use Rattle.demands.proofs.AreaRefused.{refused-image}
+use Rattle.area_messages.proofs.MessageLaws.{isTransput, refused-image}
 
 -- The unit u and the image j after a message to the area of name n.
 pub data Did (p : Plain) (i lent : List ℕ) (n : ℕ) (u : Plain) (j : List ℕ) : Type 0 where
@@ -37,33 +37,16 @@ pub data Did (p : Plain) (i lent : List ℕ) (n : ℕ) (u : Plain) (j : List ℕ
       → u ≡ withTables p (p .layers) (p .sys) (tablePut n f′ (p .files)) areas → j ≡ appendedImage p i f (appendSlices p f) (take 256 lent) → Did p i lent n u j
 
 module _ (p : Plain) (i lent : List ℕ) (name : Name) (sender : ℕ) where
-  -- of all operations but transput none writes
-  abbrev quiet : Operation → Bool
-  quiet (Reserve count) = true
-  quiet (Position block) = true
-  quiet Sense = true
-  quiet (Transput k bytes block) = false
-  quiet (Other k) = true
-
-  still : (operation : Operation) → T (quiet operation) → (a : Answer) (o : Option File) → messageImage p i operation a lent o ≡ i
-  unfolding messageImage
-  still operation t a none = refl
-  still (Reserve count) t a (some f) = refl
-  still (Position block) t a (some f) = refl
-  still Sense t a (some f) = refl
-  still (Transput k bytes block) t a (some f) = absurd t
-  still (Other k) t a (some f) = refl
-
   module _ (operation : Operation) where
     -- an outcome's unit, and the image by its answer
     record Does (o : Outcome) : Type 0 where
       at : Did p i lent (named name) (o .unit) (messageImage p i operation (o .answer) lent (tableFind (named name) (p .files)))
 
-    refuses : {o : Outcome} → o .answer .result ≢ 0 → o .unit .files ≡ p .files → o .unit .sys ≡ p .sys → Does o
-    refuses {o} d e s = record { at = nothing (refused-image p i lent operation (o .answer) d (tableFind (named name) (p .files))) e s }
+    leaves : {o : Outcome} → (T (isTransput operation) → o .answer .result ≢ 0) → o .unit .files ≡ p .files → o .unit .sys ≡ p .sys → Does o
+    leaves {o} d e s = record { at = nothing (sym (refused-image p i lent operation (o .answer) d (tableFind (named name) (p .files)))) e s }
 
-    leaves : {o : Outcome} → T (quiet operation) → o .unit .files ≡ p .files → o .unit .sys ≡ p .sys → Does o
-    leaves {o} t e s = record { at = nothing (still operation t (o .answer) (tableFind (named name) (p .files))) e s }
+    refuses : {o : Outcome} → o .answer .result ≢ 0 → o .unit .files ≡ p .files → o .unit .sys ≡ p .sys → Does o
+    refuses d = leaves (λ _. d)
 
     ask : (b : Bool) {refusal next : Outcome} → Does refusal → Does next → Does (asks b refusal next)
     ask b d rest = asks-law Does b d (λ _. rest)
@@ -122,19 +105,19 @@ module _ (p : Plain) (i lent : List ℕ) (name : Name) (sender : ℕ) where
 
   position-does : (block : ℕ) (users : Table AreaUser) (u : AreaUser) (f : File) → Does (Position block) (userStep p (named name) sender users u f (Position block) lent)
   unfolding userStep positioned
-  position-does block users u f = ask _ _ (leaves _ tt refl refl) (ask _ _ (leaves _ tt refl refl) (leaves _ tt refl refl))
+  position-does block users u f = ask _ _ (leaves _ absurd refl refl) (ask _ _ (leaves _ absurd refl refl) (leaves _ absurd refl refl))
 
   reserve-does : (count k : ℕ) (users : Table AreaUser) → Does (Reserve count) (stepReserve p (named name) sender users k lent)
   unfolding stepReserve
-  reserve-does count k users = ask _ _ (leaves _ tt refl refl) (ask _ _ (leaves _ tt refl refl) (ask _ _ (leaves _ tt refl refl) (ask _ _ (leaves _ tt refl refl) (leaves _ tt refl refl))))
+  reserve-does count k users = ask _ _ (leaves _ absurd refl refl) (ask _ _ (leaves _ absurd refl refl) (ask _ _ (leaves _ absurd refl refl) (ask _ _ (leaves _ absurd refl refl) (leaves _ absurd refl refl))))
 
   user-does : (operation : Operation) (users : Table AreaUser) (u : AreaUser) (f : File) → tableFind (named name) (p .files) ≡ some f → Does operation (userStep p (named name) sender users u f operation lent)
   unfolding userStep stepRelease
-  user-does (Reserve count) users u f found = leaves _ tt refl refl
+  user-does (Reserve count) users u f found = leaves _ absurd refl refl
   user-does (Position block) users u f found = position-does block users u f
-  user-does Sense users u f found = leaves _ tt refl refl
+  user-does Sense users u f found = leaves _ absurd refl refl
   user-does (Transput k bytes block) users u f found = transput-does k bytes block users u f found
-  user-does (Other k) users u f found = leaves _ tt refl refl
+  user-does (Other k) users u f found = leaves _ absurd refl refl
 
   operation-does : (operation : Operation) (o : Option ℕ) (users : Table AreaUser) → reserveCount operation ≡ o → Does operation (operationStep p (named name) sender users operation o lent)
   unfolding operationStep

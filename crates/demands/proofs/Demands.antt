@@ -1,5 +1,5 @@
 -- The letter's three demands, proved of the contracts of `perform::perform` and `format::format`.
-use mathlib.Core.Path.{_≡_, refl, sym, ap, _∙_, subst}
+use mathlib.Core.Path.{_≡_, refl, ap, _∙_, subst}
 use mathlib.Core.List.{List}
 use mathlib.Core.Logic.{_≢_, _⊎_, inl, inr, ⊎-elim, _↔_}
 use Prim.Native.Nat.{ℕ}
@@ -21,7 +21,7 @@ use Rattle.refine.specs.Demands.{Performed, AcceptedState, Demand3}
 use Rattle.refine.proofs.SoundRepresents.{sound-represents, represents-sound}
 use Rattle.first_question.specs.Known.{Known}
 use Rattle.format.specs.declared.Formatted.{Formatted}
-use Rattle.format.specs.Format.{Refused, FormatAnswer, notLent, notAllowed, written}
+use Rattle.format.specs.Format.{FormatAnswer, notLent, notAllowed, written}
 use Rattle.format.proofs.FormatUnit.{format-sound}
 use Rattle.perform.specs.Perform.{Performs, unknown, unsound, obeyed}
 use Rattle.perform.proofs.ObeyLaws.{init-done}
@@ -29,27 +29,13 @@ use Rattle.perform.proofs.Demand3 as perform
 use Rattle.demands.specs.Demands.{ReadFrom, Answered, Demand1, Later, here, Demand2, AfterInit, TheDemands}
 use Rattle.demands.specs.Demands as demands
 use Rattle.demands.proofs.Refused.{refused-later}
-use Rattle.demands.proofs.Determined.{determined, format-same}
-use Rattle.demands.proofs.Reserved.{reserved-sectors}
+use Rattle.demands.proofs.Determined.{determined}
+use Rattle.demands.proofs.Reserved.{format-determined, reserved-sectors}
 use Rattle.demands.proofs.Slack.{slack-kept}
 use Rattle.demands.proofs.Whole.{written-whole}
 use Rattle.demands.proofs.Listing.{listed-by-name}
 
 -- ---- demand 1
-
-format-refused : {word : ℕ} {image : List ℕ} {state : State} {a b : List ℕ} {r q : Formatted} → Refused word image state a r → Refused word image state b q → (a ≡ b) × (r ≡ q)
-format-refused {r = r} {q = q} x y = (x .same ∙ sym (y .same), format-same r q (x .word ∙ sym (y .word)) (x .kept ∙ sym (y .kept)))
-
-format-determined : {image : List ℕ} {state : State} {bytes : ℕ} {lent a b : List ℕ} {r q : Formatted} → FormatAnswer image state bytes lent a r → FormatAnswer image state bytes lent b q → (a ≡ b) × (r ≡ q)
-format-determined (notLent _ x) (notLent _ y) = format-refused x y
-format-determined (notLent n x) (notAllowed l _ y) = absurd (n l)
-format-determined (notLent n x) (written l _ y) = absurd (n l)
-format-determined (notAllowed l _ x) (notLent n y) = absurd (n l)
-format-determined (notAllowed _ _ x) (notAllowed _ _ y) = format-refused x y
-format-determined (notAllowed _ n x) (written _ f y) = absurd (n f)
-format-determined (written l _ x) (notLent n y) = absurd (n l)
-format-determined (written _ f x) (notAllowed _ n y) = absurd (n f)
-format-determined {r = r} {q = q} (written _ _ x) (written _ _ y) = (x .whole ∙ sym (y .whole), format-same r q (x .word ∙ sym (y .word)) (x .left ∙ sym (y .left)))
 
 pub demand-1 : Demand1 Performs FormatAnswer
 demand-1 = record { call = answered; format = λ f. f; determined = determined; formatDetermined = format-determined }

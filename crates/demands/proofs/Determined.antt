@@ -23,7 +23,7 @@ use Rattle.plain.proofs.TableLaws.{some-inj, some≢none, find-put, find-remove
 use Rattle.refine.specs.Represents.{Represents}
 use Rattle.refine.specs.OnDisc.{OnDisc}
 use Rattle.refine.specs.Writes.{bookedImage, removedImage, createdImage, renamedImage}
-use Rattle.refine.specs.Replies.{Replies, refused, written}
+use Rattle.refine.specs.Leaves.{Decided, refused, written, Replies}
 use Rattle.preservation.proofs.Whole.{on-disc}
 use Rattle.refine.specs.Demands.{Performed}
 use Rattle.refine.proofs.StateLaws.{same-absent}
@@ -66,11 +66,14 @@ at-one : {i j : ℕ} → At i ≡ At j → i ≡ j
 at-one e = cc
 
 module _ {p : Plain} {o : Outcome} {lent : List ℕ} {m n : ℕ} (same : m ≡ n) {A B : Type 0} {P Q : Plain → Type 0} {C : Type 0} where
-  both : Replies p o lent m A P → Replies p o lent n B Q → (A → B → C) → ((u v : Plain) → u ≡ v → o .answer .result ≡ 0 → P u → Q v → C) → C
-  both (refused _ _ a) (refused _ _ b) f g = f a b
-  both (refused d _ _) (written z _ _ _) f g = absurd (d (same ∙ z))
-  both (written z _ _ _) (refused d _ _) f g = absurd (d (sym same ∙ z))
-  both (written _ u e a) (written _ v h b) f g = g u v (ap (λ (x : Outcome). x .unit) (sym e ∙ h)) (ap (λ (x : Outcome). x .answer .result) e) a b
+  both : Replies p o lent m A P → Replies p o lent n B Q → (A → B → C) → (o .answer .result ≡ 0 → P (o .unit) → Q (o .unit) → C) → C
+  both x y f g = go (x .left) (y .left)
+    where
+      go : Decided p m A P (o .unit) → Decided p n B Q (o .unit) → C
+      go (refused _ _ a) (refused _ _ b) = f a b
+      go (refused d _ _) (written z _) = absurd (d (same ∙ z))
+      go (written z _) (refused d _ _) = absurd (d (sym same ∙ z))
+      go (written z a) (written _ b) = g (ap (λ (u : Outcome). u .answer .result) (x .answered) ∙ z) a b
 
 -- ---- SYS grown, Create and Set
 
@@ -80,12 +83,12 @@ grown-one on x y = x .written ∙ rw (one-place on SYS (λ z. omega arith) (x .p
 created-one : {p : Plain} {image : List ℕ} {n : ℕ} {f : File} {a b : List ℕ} → CreatedOn p image n f a → CreatedOn p image n f b → a ≡ b
 created-one {p} {image} {n} {f} x y = x .written ∙ ap (λ (t : ℕ). createdImage p (sysOf p) image t n f) (first-one (x .first) (y .first)) ∙ sym (y .written)
 
-created-same : {p : Plain} {image : List ℕ} {n size attributes : ℕ} {optional tail a b : List ℕ} {u v : Plain} → OnDisc image p → u ≡ v
-    → Created p image n size attributes optional tail a u → Created p image n size attributes optional tail b v → a ≡ b
-created-same on e (stays x _) (stays y _) = created-one x y
-created-same on e (stays x s) (grows y t) = absurd (omega (arith, ap (λ (q : Plain). q .layers) (sym s ∙ e ∙ t)))
-created-same on e (grows x s) (stays y t) = absurd (omega (arith, ap (λ (q : Plain). q .layers) (sym s ∙ e ∙ t)))
-created-same on e (grows x _) (grows y _) = created-one (rw (grown-one on (x .grows) (y .grows)) at (x .created)) (y .created)
+created-same : {p : Plain} {image : List ℕ} {n size attributes : ℕ} {optional tail a b : List ℕ} {u : Plain} → OnDisc image p
+    → Created p image n size attributes optional tail a u → Created p image n size attributes optional tail b u → a ≡ b
+created-same on (stays x _) (stays y _) = created-one x y
+created-same on (stays x s) (grows y t) = absurd (omega (arith, ap (λ (q : Plain). q .layers) (sym s ∙ t)))
+created-same on (grows x s) (stays y t) = absurd (omega (arith, ap (λ (q : Plain). q .layers) (sym s ∙ t)))
+created-same on (grows x _) (grows y _) = created-one (rw (grown-one on (x .grows) (y .grows)) at (x .created)) (y .created)
 
 -- ---- Remove
 
@@ -127,32 +130,32 @@ module _ {image : List ℕ} {state : State} {p : Plain} (g : Good p) (r : Repres
   name-one a b = let e = nameIs-unique a b in λ i. record { 0 = e .0 i; 1 = e .1 i; 2 = e .2 i }
 
   -- a created area is in the unit, one that is not there before
-  not-made : {n : ℕ} {u v : Plain} {s : State} → u ≡ v → u ≡ p → AreaMade p state n s v → ⊥
-  not-made {n} e f m =
+  not-made : {n : ℕ} {u : Plain} {s : State} → u ≡ p → AreaMade p state n s u → ⊥
+  not-made {n} f m =
       let shut : tableFind n (p .areas) ≡ none = same-absent state p (r .areas) n (m .absent) in
-      let made : tableFind n (p .areas) ≡ some [] = ap (λ (q : Plain). tableFind n (q .areas)) (sym f ∙ e ∙ m .unit) ∙ find-put n [] (p .areas) in
+      let made : tableFind n (p .areas) ≡ some [] = ap (λ (q : Plain). tableFind n (q .areas)) (sym f ∙ m .unit) ∙ find-put n [] (p .areas) in
       some≢none (sym made ∙ shut)
 
-  made-same : {n : ℕ} {s t : State} {u v : Plain} → u ≡ v → AreaCreated p state n s u → AreaCreated p state n t v → s ≡ t
-  made-same e (dummyCreate _ x) (dummyCreate _ y) = x ∙ sym y
-  made-same e (dummyCreate f _) (made m) = absurd (not-made e f m)
-  made-same e (made m) (dummyCreate f _) = absurd (not-made (sym e) f m)
-  made-same e (made m) (made k) =
+  made-same : {n : ℕ} {s t : State} {u : Plain} → AreaCreated p state n s u → AreaCreated p state n t u → s ≡ t
+  made-same (dummyCreate _ x) (dummyCreate _ y) = x ∙ sym y
+  made-same (dummyCreate f _) (made m) = absurd (not-made f m)
+  made-same (made m) (dummyCreate f _) = absurd (not-made f m)
+  made-same (made m) (made k) =
       let same-name = name-one (m .is) (k .is) in
       let file = some-inj (sym (m .file) ∙ k .file) in
       let j : m .j ≡ k .j = at-one (sym (m .vacant) ∙ k .vacant) in
       m .left ∙ rw (j, same-name, file) (sym (k .left))
 
-  not-booked : {n : ℕ} {u v : Plain} {a : List ℕ} {s : State} → u ≡ v → u ≡ p → AreaBooked p image state n a s v → ⊥
-  not-booked {n} e f m =
-      let gone : tableFind n (p .areas) ≡ none = ap (λ (q : Plain). tableFind n (q .areas)) (sym f ∙ e ∙ m .unit) ∙ find-remove n 0 (p .areas) (g .areaNames) in
+  not-booked : {n : ℕ} {u : Plain} {a : List ℕ} {s : State} → u ≡ p → AreaBooked p image state n a s u → ⊥
+  not-booked {n} f m =
+      let gone : tableFind n (p .areas) ≡ none = ap (λ (q : Plain). tableFind n (q .areas)) (sym f ∙ m .unit) ∙ find-remove n 0 (p .areas) (g .areaNames) in
       some≢none (sym (m .alone) ∙ gone)
 
-  booked-same : {n : ℕ} {a b : List ℕ} {s t : State} {u v : Plain} → u ≡ v → AreaRemoved p image state n a s u → AreaRemoved p image state n b t v → (a ≡ b) × (s ≡ t)
-  booked-same e (dummyRemove _ x s) (dummyRemove _ y t) = (x ∙ sym y, s ∙ sym t)
-  booked-same e (dummyRemove f _ _) (books m) = absurd (not-booked e f m)
-  booked-same e (books m) (dummyRemove f _ _) = absurd (not-booked (sym e) f m)
-  booked-same {n} e (books m) (books k) =
+  booked-same : {n : ℕ} {a b : List ℕ} {s t : State} {u : Plain} → AreaRemoved p image state n a s u → AreaRemoved p image state n b t u → (a ≡ b) × (s ≡ t)
+  booked-same (dummyRemove _ x s) (dummyRemove _ y t) = (x ∙ sym y, s ∙ sym t)
+  booked-same (dummyRemove f _ _) (books m) = absurd (not-booked f m)
+  booked-same (books m) (dummyRemove f _ _) = absurd (not-booked f m)
+  booked-same {n} (books m) (books k) =
       let place = one-place (on-disc g r) n (file-positive g n (m .file)) (m .t) (k .t) (m .inside) (k .inside) (m .stands) (k .stands) in
       let file = some-inj (sym (m .file) ∙ k .file) in
       let j : m .j ≡ k .j = at-one (sym (m .found) ∙ k .found) in
@@ -167,16 +170,16 @@ module _ {image : List ℕ} {state : State} {p : Plain} (g : Good p) (r : Repres
       → (x .image ≡ y .image) × (x .state ≡ y .state)
   wrote-same (Init unit) lent x y e a b = (a .0 ∙ sym (b .0), a .1 ∙ sym (b .1))
   wrote-same (Set name) lent x y e a b =
-      (both (ap result e) (a .0 .step) (b .0 .step) (λ s t. s ∙ sym t) (λ u v s z. created-same (on-disc g r) s), a .1 ∙ sym (b .1))
+      (both (ap result e) (a .0 .step) (b .0 .step) (λ s t. s ∙ sym t) (λ z. created-same (on-disc g r)), a .1 ∙ sym (b .1))
   wrote-same (Create name size attributes) lent x y e a b =
-      (both (ap result e) (a .0 .step lent) (b .0 .step lent) (λ s t. s ∙ sym t) (λ u v s z. created-same (on-disc g r) s), a .1 ∙ sym (b .1))
+      (both (ap result e) (a .0 .step lent) (b .0 .step lent) (λ s t. s ∙ sym t) (λ z. created-same (on-disc g r)), a .1 ∙ sym (b .1))
   wrote-same (LookUp name) lent x y e a b = (a .0 ∙ sym (b .0), a .1 ∙ sym (b .1))
   wrote-same (Change name) lent x y e a b =
-      (both (ap result e) (a .0 .step) (b .0 .step) (λ s t. s ∙ sym t) (λ u v s z. change-done-same (on-disc g r) name lent z), a .1 ∙ sym (b .1))
+      (both (ap result e) (a .0 .step) (b .0 .step) (λ s t. s ∙ sym t) (λ z. change-done-same (on-disc g r) name lent z), a .1 ∙ sym (b .1))
   wrote-same (Remove name) lent x y e a b =
-      (both (ap result e) (a .0 .step lent) (b .0 .step lent) (λ s t. s ∙ sym t) (λ u v s z. removed-same (on-disc g r)), a .1 ∙ sym (b .1))
-  wrote-same (CreateArea name) lent x y e a b = (a .0 ∙ sym (b .0), both (ap result e) (a .1 .step lent) (b .1 .step lent) (λ s t. s ∙ sym t) (λ u v s z. made-same s))
-  wrote-same (RemoveArea name) lent x y e a b = both (ap result e) (a .step lent) (b .step lent) (λ s t. (s .0 ∙ sym (t .0), s .1 ∙ sym (t .1))) (λ u v s z. booked-same s)
+      (both (ap result e) (a .0 .step lent) (b .0 .step lent) (λ s t. s ∙ sym t) (λ z. removed-same (on-disc g r)), a .1 ∙ sym (b .1))
+  wrote-same (CreateArea name) lent x y e a b = (a .0 ∙ sym (b .0), both (ap result e) (a .1 .step lent) (b .1 .step lent) (λ s t. s ∙ sym t) (λ z. made-same))
+  wrote-same (RemoveArea name) lent x y e a b = both (ap result e) (a .step lent) (b .step lent) (λ s t. (s .0 ∙ sym (t .0), s .1 ∙ sym (t .1))) (λ z. booked-same)
   wrote-same (AreaMessage name sender operation) lent x y e a b = (a .written ∙ rw e (sym (b .written)), a .reached ∙ rw e (sym (b .reached)))
   wrote-same (UnitDescription unit bytes) lent x y e a b = (a .0 ∙ sym (b .0), a .1 ∙ sym (b .1))
   wrote-same (Listing unit) lent x y e a b = (a .0 ∙ sym (b .0), a .1 ∙ sym (b .1))

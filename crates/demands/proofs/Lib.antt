@@ -2,12 +2,10 @@ pub mod TransputRefused
 pub mod AreaRefused
 pub mod Refused
 pub mod Determined
-pub mod ReplyLaws
 pub mod Overlaid
 pub mod OverlaidWrites
 pub mod OverlaidUnit
 pub mod Reserved
-pub mod Frames
 pub mod MessageFrames
 pub mod Idle
 pub mod AreaWrites

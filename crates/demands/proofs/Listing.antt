@@ -20,9 +20,9 @@ use Rattle.plain.specs.Good.{Good}
 use Rattle.plain.proofs.UnitLaws.{sorted-entries}
 use Rattle.refine.specs.Represents.{Represents}
 use Rattle.refine.specs.Demands.{Performed}
-use Rattle.refine.proofs.Ground.{entry-named, entry-length}
 use Rattle.refine.proofs.SoundRepresents.{sound-represents}
-use Rattle.reports.proofs.OrderLaws.{groupWord, ListingOf, Entries, table-listing, names-increase}
+use Rattle.reports.proofs.ListingLaws.{entries-named}
+use Rattle.reports.proofs.OrderLaws.{groupWord, ListingOf, table-listing, names-increase}
 use Rattle.perform.specs.Perform.{Performs, unknown, unsound, obeyed}
 use Rattle.demands.specs.Listing.{listedName, ByName, ListedByName}
 
@@ -32,12 +32,8 @@ module _ (p : Plain) (g : Good p) (rest : List ℕ) where
   sorted : SortedFrom 0 (entries p)
   sorted = sorted-entries p (g .catalog .names)
 
-  ok : Entries (entries p)
-  unfolding entry
-  ok n e h = (entry-length p g n e h, entry-named p (g .catalog .names) .name n e h)
-
   all : ListingOf (entries p) (joined (entries p))
-  all = table-listing 0 (entries p) sorted ok
+  all = table-listing 0 (entries p) sorted (entries-named p g)
 
   -- the name in a group, as the entries alone have it
   group-name : (k : ℕ) → k < length (entries p) → listedName (joined (entries p) ++ rest) k ≡ nameAt (groupWord (joined (entries p))) k
@@ -49,7 +45,7 @@ module _ (p : Plain) (g : Good p) (rest : List ℕ) where
   by-name : ByName p (length (entries p)) (joined (entries p) ++ rest)
   unfolding entry
   by-name = record {
-    increasing = λ k x. rw (group-name k (omega arith), group-name (suc k) x) (names-increase 0 (entries p) sorted ok k (suc k) (omega arith) x);
+    increasing = λ k x. rw (group-name k (omega arith), group-name (suc k) x) (names-increase 0 (entries p) sorted (entries-named p g) k (suc k) (omega arith) x);
     each = λ n e h. let t = all .once .there n e h in (t .0, t .1, group-name (t .0) (t .1) ∙ t .2);
   }
 

@@ -1,33 +1,87 @@
--- The sectors that each message leaves alone, by the unit afterwards.
+-- The sectors that the messages' writes leave alone: a sector that is none of those written keeps its words.
 use mathlib.Core.Path.{_≡_, refl, sym, ap, _∙_}
 use mathlib.Core.List.{List, [], _++_}
 use mathlib.Core.Logic.{_≢_}
 use mathlib.Core.Option.{some}
 use Prim.Native.Nat.{ℕ, suc, _+_, _-_, _*_, _/_, _%_, _≤_, _<_}
 use native.Mathlib.Omega.{arith}
-use lib.ListN.{length, length-append, List·getD-append}
+use lib.ListN.{length, length-append, List·getD-append, drop}
 use Rattle.disc.specs.Numbers.{sliceStart}
 use Rattle.disc.specs.Slices.{occurrences}
 use Rattle.disc.specs.Stretches.{sectorIn, blockSector, stretchCount, sysFrom, fileFrom}
 use Rattle.disc.specs.Kit.{sysIndexSector, kitSector, mapSector}
-use Rattle.disc.specs.Entries.{placeCount, indexSector}
+use Rattle.disc.specs.Entries.{placeCount}
 use Rattle.disc.specs.Catalog.{placeSector}
 use Rattle.disc.proofs.SliceLaws.{occurrences-append}
-use Rattle.disc.proofs.EntryLaws.{length-entry}
-use Rattle.words.specs.Store.{zeroWords}
+use Rattle.words.specs.Store.{zeroWords, store}
 use Rattle.words.proofs.StoreLaws.{length-store, length-zeroWords}
-use Rattle.map.proofs.MarkLaws.{InMap}
+use Rattle.map.proofs.MarkLaws.{InMap, length-all-marked}
 use Rattle.plain.specs.Table.{Table, tableFind, tablePut, tableRemove}
 use Rattle.plain.specs.Unit.{Plain, File, sysOf, AreaUser, withFiles, withTables, fileEntry}
 use Rattle.plain.specs.Areas.{bookLive}
 use Rattle.plain.specs.Good.{Good}
 use Rattle.plain.proofs.TableLaws.{find-put}
-use Rattle.refine.specs.Writes.{takenImage, emptyPlace, removedImage, grownImage, createdImage, resizedImage, changedImage, renamedImage, bookedImage, replacedImage, appendedImage, grownSys}
-use Rattle.refine.proofs.Sectors.{Same, same-trans}
-use Rattle.refine.proofs.Ground.{ground, sys-ground, part-file, place-in}
-use Rattle.preservation.proofs.WriteLaws.{part-in-map, counted-keep}
-use Rattle.preservation.proofs.ResizeLaws.{Resizes, resliced}
-use Rattle.demands.proofs.Frames.{in-map-part, marks-keep, place-keep, block-keep, taking-keep, reslicing-keep, finish-keep, rename-keep, append-keep}
+use Rattle.plain.proofs.UnitLaws.{entry-of}
+use Rattle.plain.proofs.KeepsAreas.{remove-area-good}
+use Rattle.refine.specs.Writes.{takenImage, emptyPlace, removedImage, grownImage, createdImage, resizedImage, changedImage, renamedImage, bookedImage, replacedImage, appendedImage, grownSys, countedFree, storePlace, zeroedSectors}
+use Rattle.refine.proofs.Sectors.{Same, same-trans, store-outside, sector-outside, marked-outside-map}
+use Rattle.refine.proofs.Ground.{ground, entry-length, sys-ground, part-file, place-in}
+use Rattle.preservation.proofs.WriteLaws.{part-in-map, counted-keep, zeroed-keep, taken-keep}
+use Rattle.preservation.proofs.ResizeLaws.{Resizes, resliced, occurrences-old, occurrences-new, resliced-keep}
+use Rattle.map.specs.Marks.{allMarked, allFree}
+
+-- slices among those in the map are in the map
+pub in-map-part : (l k : List ℕ) → InMap l → ((x : ℕ) → occurrences x k ≤ occurrences x l) → InMap k
+in-map-part l k h part x one = h x (omega (arith, part x))
+
+module _ (q : ℕ) where
+  -- ---- one write
+
+  pub marks-keep : (v : ℕ) (i l : List ℕ) → v ≤ 1 → InMap l → 2560 ≤ length i → q ≢ mapSector → Same i (allMarked v i l) q
+  marks-keep v i l bit inside far d = marked-outside-map v i l bit inside far .same q (d, tt)
+
+  pub place-keep : (p : Plain) (i : List ℕ) (t : ℕ) (e : List ℕ) → length e ≡ 16 → q ≢ placeSector (p .F) (p .s) (sysOf p) t → Same i (storePlace p (sysOf p) i t e) q
+  place-keep p i t e len d = store-outside i e (placeSector (p .F) (p .s) (sysOf p) t) (t % 16 * 16) (omega arith) .same q (d, tt)
+
+  pub block-keep : (i : List ℕ) (r : ℕ) (words : List ℕ) → length words ≤ 256 → q ≢ r → Same i (store i (r * 256) words) q
+  block-keep i r words len d = sector-outside i words r len .same q (d, tt)
+
+  -- slices taken: the map and the index block
+  pub taking-keep : (i : List ℕ) (r F s : ℕ) (slices new : List ℕ) → stretchCount (slices ++ new) ≤ 127 → InMap new → 2560 ≤ length i → q ≢ mapSector → (0 < length new → q ≢ r)
+      → Same i (takenImage i r F s slices new) q
+  taking-keep i r F s slices new few inside far d e = same-trans (marks-keep 0 i new (omega arith) inside far d) (taken-keep i r F s slices new few q e)
+
+  -- slices given back or taken: the map and the index block
+  pub reslicing-keep : (i : List ℕ) (r F s : ℕ) {l l′ : List ℕ} → Resizes l l′ → stretchCount l′ ≤ 127 → InMap l → InMap l′ → 2560 ≤ length i → q ≢ mapSector → (0 < length l′ → q ≢ r)
+      → Same i (resliced i r F s l l′) q
+  reslicing-keep i r F s {l} {l′} re few old new far d e =
+      let size = length-all-marked 1 (drop (length l′) l) i in
+      let given : InMap (drop (length l′) l) = in-map-part l (drop (length l′) l) old (λ x. omega (arith, occurrences-old re x)) in
+      let taken : InMap (drop (length l) l′) = in-map-part l′ (drop (length l) l′) new (λ x. omega (arith, occurrences-new re x)) in
+      same-trans (marks-keep 1 i (drop (length l′) l) (omega arith) given far d)
+      (same-trans (marks-keep 0 (allFree i (drop (length l′) l)) (drop (length l) l′) (omega arith) taken (omega (arith, far)) d) (resliced-keep i r F s re few q e))
+
+  -- ---- the end of a message: sectors zeroed, an entry stored, the free sectors counted
+
+  pub finish-keep : (p : Plain) (i slices : List ℕ) (b n t : ℕ) (e : List ℕ) → length e ≡ 16 → q ≢ kitSector → q ≢ placeSector (p .F) (p .s) (sysOf p) t
+      → ((x : ℕ) → b ≤ x → x < b + n → q ≢ sectorIn (p .F) (p .s) slices x) → Same i (countedFree (storePlace p (sysOf p) (zeroedSectors i (p .F) (p .s) slices b n) t e) (p .s)) q
+  finish-keep p i slices b n t e len kit place off =
+      same-trans (zeroed-keep i (p .F) (p .s) slices b n q off)
+      (same-trans (place-keep p (zeroedSectors i (p .F) (p .s) slices b n) t e len place) (counted-keep _ (p .s) q kit))
+
+  -- a rename empties a place before
+  pub rename-keep : (p : Plain) (i slices : List ℕ) (b n t u : ℕ) (e : List ℕ) → length e ≡ 16 → q ≢ kitSector → q ≢ placeSector (p .F) (p .s) (sysOf p) t → q ≢ placeSector (p .F) (p .s) (sysOf p) u
+      → ((x : ℕ) → b ≤ x → x < b + n → q ≢ sectorIn (p .F) (p .s) slices x)
+      → Same i (countedFree (storePlace p (sysOf p) (emptyPlace p (sysOf p) (zeroedSectors i (p .F) (p .s) slices b n) t) u e) (p .s)) q
+  rename-keep p i slices b n t u e len kit place other off =
+      same-trans (zeroed-keep i (p .F) (p .s) slices b n q off)
+      (same-trans (place-keep p _ t (zeroWords 16) (length-zeroWords 16) place) (same-trans (place-keep p _ u e len other) (counted-keep _ (p .s) q kit)))
+
+  -- a block stored, the free sectors counted
+  pub append-keep : (i : List ℕ) (s r : ℕ) (words : List ℕ) → length words ≤ 256 → q ≢ kitSector → q ≢ r → Same i (countedFree (store i (r * 256) words) s) q
+  append-keep i s r words len kit d = same-trans (block-keep i r words len d) (counted-keep _ s q kit)
+
+-- ---- each message, by the unit afterwards
 
 -- Sector q is none of the map, the kit, the sectors of SYS's places and the blocks of file f, as joined sectors.
 pub record Off (p : Plain) (f : File) (q : ℕ) : Type 0 where
@@ -46,10 +100,8 @@ module _ {p : Plain} (g : Good p) (n : ℕ) (f : File) (found : tableFind n (p .
   pub file-in-map : InMap (f .slices)
   file-in-map = part-in-map p (ground p g) (f .slices) (part-file p (ground p g) n f found)
 
-  pub file-entry : (m : ℕ) → length (fileEntry (p .F) (p .s) m f) ≡ 16
-  file-entry m =
-      let fg = g .catalog .files n f found in
-      length-entry m (f .optional) (f .attributes) (f .booked) (indexSector (p .F) (p .s) (f .bookedSlices) (f .slices)) (p .s * f .bookedSlices) (f .tail) (fg .optional .count) (fg .tail .count)
+  pub file-entry : length (fileEntry (p .F) (p .s) n f) ≡ 16
+  file-entry = entry-length p g n _ (entry-of p n f (g .catalog .files n f found .ordinary) found)
 
 -- ---- Remove and Remove area: file f, whose entry stands in place t
 
@@ -63,10 +115,7 @@ module _ (p : Plain) (g : Good p) (n : ℕ) (f : File) (found : tableFind n (p .
 
   pub booked-keep : Same i (bookedImage p (sysOf p) i t n f) q
   unfolding bookedImage
-  booked-keep =
-      let fg = g .catalog .files n f found in
-      place-keep q p i t (fileEntry (p .F) (p .s) n (bookLive f))
-      (length-entry n (f .optional) (f .attributes) (length (f .sectors)) (indexSector (p .F) (p .s) (length (f .slices)) (f .slices)) (p .s * length (f .slices)) (f .tail) (fg .optional .count) (fg .tail .count)) place
+  booked-keep = place-keep q p i t _ (file-entry (remove-area-good p n f g found) n (bookLive f) (find-put n (bookLive f) (p .files))) place
 
 -- ---- SYS grows by the slices `new`; the unit afterwards has these files
 
@@ -111,7 +160,7 @@ module _ (p : Plain) (n : ℕ) (f : File) (g′ : Good (withFiles p (tablePut n 
     pub entered-keep : Same described (createdImage p (sysOf p) i t n f) q
     unfolding createdImage
     entered-keep =
-        finish-keep q p described (f .slices) fileFrom (length (f .sectors)) t _ (file-entry g′ n f here n) (off .kit) (off .place t inside)
+        finish-keep q p described (f .slices) fileFrom (length (f .sectors)) t _ (file-entry g′ n f here) (off .kit) (off .place t inside)
         (λ x lo hi. off .joined x (omega arith) (omega arith))
 
     pub created-keep : OffIndex p f q → Same i (createdImage p (sysOf p) i t n f) q
@@ -137,11 +186,11 @@ module _ (p : Plain) (n m : ℕ) (f f′ : File) (old : InMap (f .slices)) (re :
   -- after the index block
   pub rewritten-keep : Same sliced (changedImage p (sysOf p) i t m f f′) q
   unfolding changedImage resizedImage
-  rewritten-keep = finish-keep q p sliced (f′ .slices) _ _ t _ (file-entry g′ m f′ now m) (off .kit) (off .place t inside) off-new
+  rewritten-keep = finish-keep q p sliced (f′ .slices) _ _ t _ (file-entry g′ m f′ now) (off .kit) (off .place t inside) off-new
 
   pub moved-keep : (u : ℕ) → u < placeCount (p .H) (p .layers) → Same sliced (renamedImage p (sysOf p) i t u m f f′) q
   unfolding renamedImage resizedImage
-  moved-keep u there = rename-keep q p sliced (f′ .slices) _ _ t u _ (file-entry g′ m f′ now m) (off .kit) (off .place t inside) (off .place u there) off-new
+  moved-keep u there = rename-keep q p sliced (f′ .slices) _ _ t u _ (file-entry g′ m f′ now) (off .kit) (off .place t inside) (off .place u there) off-new
 
   pub changed-keep : OffIndex p f′ q → Same i (changedImage p (sysOf p) i t m f f′) q
   changed-keep own = same-trans (sliced-keep own) rewritten-keep

@@ -30,7 +30,7 @@ use Rattle.change.specs.Rewrite.{Rewrites, stayed, moved}
 use Rattle.change.specs.Change as change
 use Rattle.areas.specs.Areas.{AreaBooked, AreaRemoved, dummyRemove, books}
 use Rattle.perform.specs.Perform.{Wrote}
-use Rattle.demands.proofs.ReplyLaws.{replies-map}
+use Rattle.refine.proofs.LeavesLaws.{leaves-map, decided-map}
 use Rattle.demands.proofs.Overlaid.{overlaid, length-overlaid, words-overlaid, word-overlaid}
 use Rattle.demands.proofs.OverlaidWrites.{beyond-emptied, beyond-removed, beyond-grown, beyond-created, beyond-changed, beyond-renamed, beyond-booked, beyond-message}
 
@@ -139,23 +139,19 @@ module _ (x : List ℕ) where
     pub wrote-overlaid : (i : List ℕ) (state : State) (message : Message) (lent : List ℕ) (r : Performed) → Words x → Wrote p i state message lent r
         → Wrote p (overlaid x i) state message lent (elsewhere r)
     wrote-overlaid i state (Init unit) lent r v w = (ap (overlaid x) (w .0), w .1)
-    wrote-overlaid i state (Set name) lent r v w = (record { step = replies-map (ap (overlaid x)) (λ q. created) (w .0 .step) }, w .1)
-    wrote-overlaid i state (Create name size attributes) lent r v w = (record { step = λ l. replies-map (ap (overlaid x)) (λ q. created) (w .0 .step l) }, w .1)
+    wrote-overlaid i state (Set name) lent r v w = (record { step = leaves-map (decided-map (ap (overlaid x)) created) (w .0 .step) }, w .1)
+    wrote-overlaid i state (Create name size attributes) lent r v w = (record { step = λ l. leaves-map (decided-map (ap (overlaid x)) created) (w .0 .step l) }, w .1)
     wrote-overlaid i state (LookUp name) lent r v w = (ap (overlaid x) (w .0), w .1)
     wrote-overlaid i state (Change name) lent r v w = (
-      record { step = replies-map (ap (overlaid x)) (λ q d. record { f = d .f; file = d .file; closed = d .closed; changed = changed (d .changed) }) (w .0 .step) },
+      record { step = leaves-map (decided-map (ap (overlaid x)) (λ d. record { f = d .f; file = d .file; closed = d .closed; changed = changed (d .changed) })) (w .0 .step) },
       w .1,
     )
-    wrote-overlaid i state (Remove name) lent r v w = (record { step = λ l. replies-map (ap (overlaid x)) (λ q. removed-from p low) (w .0 .step l) }, w .1)
+    wrote-overlaid i state (Remove name) lent r v w = (record { step = λ l. leaves-map (decided-map (ap (overlaid x)) (removed-from p low)) (w .0 .step l) }, w .1)
     wrote-overlaid i state (CreateArea name) lent r v w = (ap (overlaid x) (w .0), w .1)
     wrote-overlaid i state (RemoveArea name) lent r v w =
-        record { step = λ l. replies-map (λ s. (ap (overlaid x) (s .0), s .1)) (λ q. area-removed p low) (w .step l) }
+        record { step = λ l. leaves-map (decided-map (λ s. (ap (overlaid x) (s .0), s .1)) (area-removed p low)) (w .step l) }
     wrote-overlaid i state (AreaMessage name sender operation) lent r v w = record {
-      leaves = record {
-        answered = w .leaves .answered;
-        good = w .leaves .good;
-        represents = represents-overlaid v (w .leaves .good) (w .leaves .represents);
-      };
+      leaves = leaves-map (λ s. record { good = s .good; represents = represents-overlaid v (s .good) (s .represents) }) (w .leaves);
       written = ap (overlaid x) (w .written) ∙ beyond-message p low operation (r .answer) lent _ .past x i;
       reached = w .reached;
     }

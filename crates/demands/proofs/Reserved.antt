@@ -1,97 +1,40 @@
 -- "Sectors 0 to 5 are never read or written", proved of the contracts of `perform::perform` and `format::format`.
-use mathlib.Core.Path.{_≡_, sym, ap, _∙_, subst}
+use mathlib.Core.Path.{_≡_, refl, sym, ap, _∙_, subst}
 use mathlib.Core.List.{List}
 use Prim.Native.Nat.{ℕ, _≤_}
 use native.Mathlib.Omega.{arith}
 use lib.ListN.{length, getD}
+use lib.Seq.{ext-getD}
 use Rattle.types.specs.declared.State.{State}
 use Rattle.types.specs.declared.Message.{Message}
-use Rattle.types.specs.declared.Message.the-variants.{Init, Set, Create, LookUp, Change, Remove, CreateArea, RemoveArea, AreaMessage, UnitDescription, Listing}
 use Rattle.disc.specs.Words.{Words}
-use Rattle.plain.specs.Unit.{Plain, File}
+use Rattle.disc.proofs.Compare.{below-or}
+use Rattle.plain.specs.Unit.{Plain}
 use Rattle.plain.specs.Step.{Reply}
 use Rattle.plain.specs.Good.{Good}
+use Rattle.plain.proofs.Refuses.{step-sectors}
 use Rattle.sound.specs.Sound.{SoundUnit}
 use Rattle.refine.specs.Represents.{Represents}
 use Rattle.refine.specs.Demands.{Performed}
 use Rattle.refine.proofs.SoundRepresents.{sound-represents}
-use Rattle.preservation.specs.Units.{grownUnit}
-use Rattle.grow.specs.Grow.{GrownFrom}
-use Rattle.create.specs.Create.{CreatedOn, Created, stays, grows}
-use Rattle.change.specs.Rewrite.{Rewrites, stayed, moved}
-use Rattle.change.specs.Change as change
-use Rattle.areas.specs.Areas.{AreaRemoved, dummyRemove, books}
 use Rattle.format.specs.declared.Formatted.{Formatted}
 use Rattle.format.specs.Format.{lentKeys, lentSlice, lentFirst, lentSectors, formattedBy, Formattable, FormatAnswer, notLent, notAllowed}
 use Rattle.format.specs.Format as format
 use Rattle.perform.specs.Perform.{Wrote, Untouched, Obeyed, Performs, unknown, unsound, obeyed}
-use Rattle.demands.specs.Reserved.{SameReserved, SameOthers, SameButReserved, ReservedSectors}
+use Rattle.demands.specs.Reserved.{reservedWords, SameReserved, SameOthers, SameButReserved, ReservedSectors}
 use Rattle.demands.proofs.Determined.{wrote-same, format-same}
-use Rattle.demands.proofs.ReplyLaws.{replies-cases}
-use Rattle.demands.proofs.Overlaid.{overlaid, overlaid-is, overlaid-others, Beyond, beyond-kept}
-use Rattle.demands.proofs.OverlaidWrites.{beyond-removed, beyond-grown, beyond-created, beyond-changed, beyond-renamed, beyond-booked, beyond-message, beyond-formatted}
+use Rattle.demands.proofs.Overlaid.{overlaid, overlaid-below, overlaid-is, overlaid-others, Beyond, beyond-kept}
+use Rattle.demands.proofs.OverlaidWrites.{beyond-formatted}
 use Rattle.demands.proofs.OverlaidUnit.{represents-overlaid, sound-overlaid, elsewhere, wrote-overlaid}
-
--- ---- never written
 
 as-before : {i j : List ℕ} → j ≡ i → SameReserved i j
 as-before e = record { size = ap length (sym e); words = λ k h. ap (λ (l : List ℕ). getD l k 0) (sym e) }
 
-kept-then : {i j k : List ℕ} → SameReserved i j → SameReserved j k → SameReserved i k
-kept-then a b = record { size = a .size ∙ b .size; words = λ k h. a .words k h ∙ b .words k h }
-
 by : {w : List ℕ → List ℕ} {i j : List ℕ} → Beyond w → j ≡ w i → SameReserved i j
 by {i = i} b e = rw e (beyond-kept b i)
 
-module _ (p : Plain) (low : 6 ≤ p .F) where
-  grown-kept : {i j : List ℕ} → GrownFrom i p j → SameReserved i j
-  grown-kept g = by (beyond-grown p low (g .place) _) (g .written)
-
-  created-on-kept : {i j : List ℕ} {n : ℕ} {f : File} → CreatedOn p i n f j → SameReserved i j
-  created-on-kept {n = n} {f = f} c = by (beyond-created p low (c .place) n f) (c .written)
-
-  changed-on-kept : {i j : List ℕ} {n : ℕ} {f : File} {lent : List ℕ} → change.ChangedOn p i n f lent j → SameReserved i j
-  changed-on-kept {i} {j} {n} {f} c = go (c .rewrites)
-    where
-      go : {m : ℕ} {f′ : File} → Rewrites i p (c .t) n m f f′ j → SameReserved i j
-      go {f′ = f′} (stayed e w) = by (beyond-changed p low (c .t) n f f′) w
-      go {m} {f′} (moved d u first w) = by (beyond-renamed p low (c .t) u m f f′) w
-
-module _ (p : Plain) (low : 6 ≤ p .F) where
-  created-kept : {i j : List ℕ} {n size attributes : ℕ} {optional tail : List ℕ} {q : Plain} → Created p i n size attributes optional tail j q → SameReserved i j
-  created-kept (stays c e) = created-on-kept p low c
-  created-kept (grows c e) = kept-then (grown-kept p low (c .grows)) (created-on-kept (grownUnit p) low (c .created))
-
-  changed-kept : {i j : List ℕ} {n : ℕ} {f : File} {lent : List ℕ} {q : Plain} → change.Changed p i n f lent j q → SameReserved i j
-  changed-kept (change.stays s c e) = changed-on-kept p low c
-  changed-kept (change.grows s grown g c e) = kept-then (grown-kept p low g) (changed-on-kept (grownUnit p) low c)
-
-  area-removed-kept : {i j : List ℕ} {state next : State} {n : ℕ} {q : Plain} → AreaRemoved p i state n j next q → SameReserved i j
-  area-removed-kept (dummyRemove e s t) = as-before s
-  area-removed-kept {n = n} (books b) = by (beyond-booked p low (b .t) n (b .f)) (b .written)
-
-  wrote-kept : (i : List ℕ) (state : State) (message : Message) (lent : List ℕ) (r : Performed) → Wrote p i state message lent r → SameReserved i (r .image)
-  wrote-kept i state (Init unit) lent r w = as-before (w .0)
-  wrote-kept i state (Set name) lent r w = replies-cases (λ _. as-before) (λ q _. created-kept) (w .0 .step)
-  wrote-kept i state (Create name size attributes) lent r w = replies-cases (λ _. as-before) (λ q _. created-kept) (w .0 .step lent)
-  wrote-kept i state (LookUp name) lent r w = as-before (w .0)
-  wrote-kept i state (Change name) lent r w = replies-cases (λ _. as-before) (λ q _ d. changed-kept (d .changed)) (w .0 .step)
-  wrote-kept i state (Remove name) lent r w = replies-cases (λ _. as-before) (λ q _ d. by (beyond-removed p low (d .t) (d .f)) (d .written)) (w .0 .step lent)
-  wrote-kept i state (CreateArea name) lent r w = as-before (w .0)
-  wrote-kept i state (RemoveArea name) lent r w = replies-cases (λ _ s. as-before (s .0)) (λ q _. area-removed-kept) (w .step lent)
-  wrote-kept i state (AreaMessage name sender operation) lent r w = by (beyond-message p low operation (r .answer) lent _) (w .written)
-  wrote-kept i state (UnitDescription unit bytes) lent r w = as-before (w .0)
-  wrote-kept i state (Listing unit) lent r w = as-before (w .0)
-
 data-low : {p : Plain} → Good p → 6 ≤ p .F
 data-low g = omega (arith, g .limits .first)
-
-call-kept : {image : List ℕ} {state : State} {message : Message} {lent : List ℕ} {r : Performed} → Performs image state message lent r → SameReserved image (r .image)
-call-kept (unknown other u) = as-before (u .sameImage)
-call-kept (unsound k other u) = as-before (u .sameImage)
-call-kept {image} {state} {message} {lent} {r} (obeyed k s all) =
-    let x = sound-represents .reads image state s in
-    wrote-kept (x .0) (data-low (x .1)) image state message lent r (all (x .0) (x .1) (x .2) .wrote)
 
 -- ---- never read
 
@@ -115,17 +58,21 @@ module _ {a b : List ℕ} {state : State} {p : Plain} (same : SameOthers a b) (w
   represents-same : Represents b state p
   represents-same = subst (λ (i : List ℕ). Represents i state p) (overlaid-is a b same) (represents-overlaid b words g rep)
 
+  obeyed-on : (message : Message) (lent : List ℕ) (r q : Performed) → Obeyed p a state message lent r → Obeyed p b state message lent q
+      → (overlaid b (r .image) ≡ q .image) × (r .state ≡ q .state)
+  obeyed-on message lent r q x y =
+      let moved : Wrote p b state message lent (elsewhere b r) = subst (λ (i : List ℕ). Wrote p i state message lent (elsewhere b r)) (overlaid-is a b same)
+      (wrote-overlaid b p (data-low g) a state message lent r words (x .wrote)) in
+      wrote-same g represents-same message lent (elsewhere b r) q (ap (λ (c : Reply). c .answer) (x .same ∙ sym (y .same))) moved (y .wrote)
+
   obeyed-alike : (message : Message) (lent : List ℕ) (r q : Performed) → Obeyed p a state message lent r → Obeyed p b state message lent q → SameButReserved r q
   obeyed-alike message lent r q x y =
       let s = x .same ∙ sym (y .same) in
-      let e = ap (λ (c : Reply). c .answer) s in
-      let moved : Wrote p b state message lent (elsewhere b r) = subst (λ (i : List ℕ). Wrote p i state message lent (elsewhere b r)) (overlaid-is a b same)
-      (wrote-overlaid b p (data-low g) a state message lent r words (x .wrote)) in
-      let w = wrote-same g represents-same message lent (elsewhere b r) q e moved (y .wrote) in
+      let w = obeyed-on message lent r q x y in
       record {
         image = subst (SameOthers (r .image)) (w .0) (overlaid-others b (r .image));
         state = w .1;
-        answer = e;
+        answer = ap (λ (c : Reply). c .answer) s;
         words = ap (λ (c : Reply). c .lent) s;
       }
 
@@ -142,6 +89,18 @@ call-alike s wa wb (obeyed _ t x) (unsound _ n y) = absurd (n (sound-same s wb t
 call-alike {a} {b} {state} {message} {lent} {r} {q} s wa wb (obeyed _ t x) (obeyed _ _ y) =
     let read = sound-represents .reads a state t in
     obeyed-alike s wb (read .1) (read .2) message lent r q (x (read .0) (read .1) (read .2)) (y (read .0) (read .1) (represents-same s wb (read .1) (read .2)))
+
+-- ---- never written: a call does on an image what it does on that image with the same words in sectors 0 to 5
+
+call-kept : {image : List ℕ} {state : State} {message : Message} {lent : List ℕ} {r : Performed} → Performs image state message lent r → SameReserved image (r .image)
+call-kept (unknown other u) = as-before (u .sameImage)
+call-kept (unsound k other u) = as-before (u .sameImage)
+call-kept {image} {state} {message} {lent} {r} (obeyed k s all) =
+    let x = sound-represents .reads image state s in
+    let o = all (x .0) (x .1) (x .2) in
+    let size : length (r .image) ≡ length image = omega (arith, o .represents .layout .size, x .2 .layout .size, step-sectors (x .0) message lent) in
+    let own = obeyed-on {a = image} {b = image} (record { size = refl; words = λ k h. refl }) (x .2 .words) (x .1) (x .2) message lent r r o o .0 in
+    record { size = sym size; words = λ k h. sym (overlaid-below image (r .image) k size h) ∙ ap (λ (i : List ℕ). getD i k 0) own }
 
 -- ---- Format
 
@@ -177,6 +136,14 @@ format-alike {a} {b} {lent = lent} {r = r} {q = q} s (format.written _ f x) (for
     let w = beyond-formatted (lentKeys lent) (lentSlice lent) (lentFirst lent) (lentSectors lent) (getD lent 7 0) (getD lent 8 0) (omega (arith, f .limits .first)) in
     let e = ap (overlaid b) (x .whole) ∙ w .past b a ∙ ap (λ (i : List ℕ). formattedBy i lent) (overlaid-is a b s) ∙ sym (y .whole) in
     (subst (SameOthers _) e (overlaid-others b _), format-same r q (x .word ∙ sym (y .word)) (x .left ∙ sym (y .left)))
+
+-- on one image: the words of sectors 0 to 5 are as before, and all others alike
+pub format-determined : {image : List ℕ} {state : State} {bytes : ℕ} {lent a b : List ℕ} {r q : Formatted} → FormatAnswer image state bytes lent a r → FormatAnswer image state bytes lent b q → (a ≡ b) × (r ≡ q)
+format-determined {a = a} {b} x y =
+    let s = format-alike (record { size = refl; words = λ k h. refl }) x y in (
+      ext-getD 0 a b (s .0 .size) (λ k h. below-or k reservedWords (λ l. sym (format-kept x .words k l) ∙ format-kept y .words k l) (s .0 .words k)),
+      s .1,
+    )
 
 pub reserved-sectors : ReservedSectors Performs FormatAnswer
 reserved-sectors = record {

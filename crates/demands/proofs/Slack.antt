@@ -41,7 +41,7 @@ use Rattle.area_messages.specs.AreaMessages.{messageImage}
 use Rattle.perform.specs.Perform.{Wrote, Performs, unknown, unsound, obeyed}
 use Rattle.perform.proofs.Demand3.{Standing, one-call}
 use Rattle.demands.specs.Slack.{Idle, SectorKept, IdleAfterEach, SlackKept}
-use Rattle.demands.proofs.ReplyLaws.{replies-cases}
+use Rattle.refine.proofs.LeavesLaws.{decided-cases}
 use Rattle.demands.proofs.OverlaidWrites.{beyond-grown}
 use Rattle.demands.proofs.MessageFrames.{Off, OffIndex, file-in-map, removed-keep, booked-keep, grown-keep, created-keep, changed-keep, renamed-keep, replaced-keep, appended-keep}
 use Rattle.demands.proofs.AreaWrites.{Did, nothing, replaced, appended, area-did}
@@ -142,17 +142,16 @@ module _ {p : Plain} (g : Good p) {i : List ℕ} (far : 2560 ≤ length i) (q : 
       → Same i (r .image) q
   wrote-idle state (Init unit) lent r g′ idle w = as-before (w .0) q
   wrote-idle state (Set name) lent r g′ idle w =
-      replies-cases (λ _ s. as-before s q) (λ u e. created-kept g far q (subst Good e g′) (subst (λ (v : Plain). Idle v q) e idle)) (w .0 .step)
+      decided-cases (λ _ s. as-before s q) (created-kept g far q g′ idle) (w .0 .step .left)
   wrote-idle state (Create name size attributes) lent r g′ idle w =
-      replies-cases (λ _ s. as-before s q) (λ u e. created-kept g far q (subst Good e g′) (subst (λ (v : Plain). Idle v q) e idle)) (w .0 .step lent)
+      decided-cases (λ _ s. as-before s q) (created-kept g far q g′ idle) (w .0 .step lent .left)
   wrote-idle state (LookUp name) lent r g′ idle w = as-before (w .0) q
   wrote-idle state (Change name) lent r g′ idle w =
-      replies-cases (λ _ s. as-before s q)
-      (λ u e d. changed-kept (file-in-map g _ (d .f) (d .file)) (subst Good e g′) (subst (λ (v : Plain). Idle v q) e idle) (d .changed)) (w .0 .step)
-  wrote-idle state (Remove name) lent r g′ idle w = replies-cases (λ _ s. as-before s q) (λ u e. removed-kept g far q (subst (λ (v : Plain). Idle v q) e idle)) (w .0 .step lent)
+      decided-cases (λ _ s. as-before s q) (λ d. changed-kept (file-in-map g _ (d .f) (d .file)) g′ idle (d .changed)) (w .0 .step .left)
+  wrote-idle state (Remove name) lent r g′ idle w = decided-cases (λ _ s. as-before s q) (removed-kept g far q idle) (w .0 .step lent .left)
   wrote-idle state (CreateArea name) lent r g′ idle w = as-before (w .0) q
   wrote-idle state (RemoveArea name) lent r g′ idle w =
-      replies-cases (λ _ s. as-before (s .0) q) (λ u e. area-removed-kept g far q (subst (λ (v : Plain). Idle v q) e idle)) (w .step lent)
+      decided-cases (λ _ s. as-before (s .0) q) (area-removed-kept g far q idle) (w .step lent .left)
   wrote-idle state (AreaMessage name sender operation) lent r g′ idle w =
       let same = ap (λ (o : Outcome). messageImage p i operation (o .answer) lent (tableFind (named name) (p .files))) (w .leaves .answered) in
       rw (w .written ∙ sym same) (did-kept g far q g′ idle (area-did p i lent name sender operation))

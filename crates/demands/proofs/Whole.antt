@@ -28,7 +28,8 @@ use Rattle.plain.specs.Step.{step}
 use Rattle.plain.specs.Good.{Good}
 use Rattle.plain.proofs.TableLaws.{some-inj, some≢none, find-put, find-put-other, remove-some}
 use Rattle.plain.proofs.Keeps.{step-keeps}
-use Rattle.refine.specs.Replies.{Replies}
+use Rattle.refine.specs.Leaves.{Decided}
+use Rattle.refine.proofs.LeavesLaws.{decided-cases}
 use Rattle.refine.specs.Demands.{Performed}
 use Rattle.refine.proofs.SoundRepresents.{represents-sound}
 use Rattle.refine.proofs.Sectors.{Same, holds-kept}
@@ -42,7 +43,6 @@ use Rattle.area_messages.specs.AreaMessages.{messageImage}
 use Rattle.perform.specs.Perform.{Wrote, Performs, unknown, unsound, obeyed}
 use Rattle.perform.proofs.Demand3.{Standing, unknown-step, one-call}
 use Rattle.demands.specs.Whole.{EmptiedZero, IndexWhole, WrittenWhole}
-use Rattle.demands.proofs.ReplyLaws.{replies-cases}
 use Rattle.demands.proofs.OverlaidWrites.{beyond-grown}
 use Rattle.demands.proofs.MessageFrames.{file-in-map}
 use Rattle.demands.proofs.AreaWrites.{Did, nothing, replaced, appended, area-did}
@@ -197,21 +197,21 @@ module _ {p : Plain} (g : Good p) (i : List ℕ) (size : length i ≡ 256 * p .N
 
   -- ---- every message
 
-  ends : {o : Outcome} {lent : List ℕ} {result : ℕ} {A : Type 0} {P : Plain → Type 0} {j : List ℕ} → Replies p o lent result A P → ((u : Plain) → o .unit ≡ u → P u → IndexWhole p u j) → IndexWhole p (o .unit) j
-  ends {j = j} w f = replies-cases (λ e _. same-lists (ap (λ (v : Plain). v .files) e) (ap (λ (v : Plain). v .sys) e)) (λ u e d. subst (λ (v : Plain). IndexWhole p v j) (sym e) (f u e d)) w
+  ends : {q : Plain} {result : ℕ} {A : Type 0} {P : Plain → Type 0} {j : List ℕ} → Decided p result A P q → (P q → IndexWhole p q j) → IndexWhole p q j
+  ends w f = decided-cases (λ e _. same-lists (ap (λ (v : Plain). v .files) e) (ap (λ (v : Plain). v .sys) e)) f w
 
   quiet-ends : (message : Message) (lent j : List ℕ) → T (quietly message) → IndexWhole p (step p message lent .unit) j
   quiet-ends message lent j t = let x = quiet p message lent t in same-lists (x .files) (x .sys)
 
   wrote-whole : (state : State) (message : Message) (lent : List ℕ) (r : Performed) → Good (step p message lent .unit) → Wrote p i state message lent r → IndexWhole p (step p message lent .unit) (r .image)
   wrote-whole state (Init unit) lent r g′ w = quiet-ends (Init unit) lent (r .image) tt
-  wrote-whole state (Set name) lent r g′ w = ends (w .0 .step) (λ u e. created-ends (subst Good e g′))
-  wrote-whole state (Create name size attributes) lent r g′ w = ends (w .0 .step lent) (λ u e. created-ends (subst Good e g′))
+  wrote-whole state (Set name) lent r g′ w = ends (w .0 .step .left) (created-ends g′)
+  wrote-whole state (Create name size attributes) lent r g′ w = ends (w .0 .step lent .left) (created-ends g′)
   wrote-whole state (LookUp name) lent r g′ w = quiet-ends (LookUp name) lent (r .image) tt
-  wrote-whole state (Change name) lent r g′ w = ends (w .0 .step) (λ u e d. changed-ends (d .file) (subst Good e g′) (d .changed))
-  wrote-whole state (Remove name) lent r g′ w = ends (w .0 .step lent) (λ u e. removed-ends)
+  wrote-whole state (Change name) lent r g′ w = ends (w .0 .step .left) (λ d. changed-ends (d .file) g′ (d .changed))
+  wrote-whole state (Remove name) lent r g′ w = ends (w .0 .step lent .left) removed-ends
   wrote-whole state (CreateArea name) lent r g′ w = quiet-ends (CreateArea name) lent (r .image) tt
-  wrote-whole state (RemoveArea name) lent r g′ w = ends (w .step lent) (λ u e. area-removed-ends)
+  wrote-whole state (RemoveArea name) lent r g′ w = ends (w .step lent .left) area-removed-ends
   wrote-whole state (AreaMessage name sender operation) lent r g′ w =
       let same = ap (λ (o : Outcome). messageImage p i operation (o .answer) lent (tableFind (named name) (p .files))) (w .leaves .answered) in
       rw (w .written ∙ sym same) (did-ends g′ (area-did p i lent name sender operation))

@@ -8,7 +8,7 @@ use native.Mathlib.Omega.{arith}
 use lib.ListN.{length, length-append}
 use Rattle.disc.specs.Slices.{lastOf}
 use Rattle.disc.specs.Stretches.{Stretch, joinBy, join, stretches, stretchCount, span, expand}
-use Rattle.disc.proofs.Compare.{Tri, less, same, more, tri, tri-same}
+use Rattle.disc.proofs.Compare.{Tri, less, same, more, tri, tri-same, compare-cases}
 use Rattle.disc.proofs.StretchLaws.{expand-stretches}
 use Rattle.disc.proofs.Longest.{Longest, longest-head, longest-tail, longest-stretches}
 
@@ -26,12 +26,8 @@ behind k (r ∷ t ∷ rs) = r ∷ behind k (t ∷ rs)
 
 -- a slice in front and one behind, in either order
 join-behind : (x k : ℕ) (rs : List Stretch) → join x (behind k rs) ≡ behind k (join x rs)
-join-behind x k [] = rw add-one (go (compare (suc x) k))
-  where
-    go : (o : Ordering) → joinBy o x (record { first = k; count = 1 }) [] ≡ behindBy o k (record { first = x; count = 1 })
-    go Ordering·lt = refl
-    go Ordering·eq = refl
-    go Ordering·gt = refl
+join-behind x k [] = rw add-one
+    (compare-cases (suc x) k (λ o. joinBy o x (record { first = k; count = 1 }) [] ≡ behindBy o k (record { first = x; count = 1 })) (λ h. refl) (λ h. refl) (λ h. refl))
 join-behind x k (r ∷ []) = go (compare (suc x) (r .first)) (compare (r .first + r .count) k) (tri (suc x) (r .first)) refl refl
   where
     go : (o p : Ordering) → Tri (suc x) (r .first) o → compare (suc x) (r .first) ≡ o → compare (r .first + r .count) k ≡ p
@@ -45,12 +41,8 @@ join-behind x k (r ∷ []) = go (compare (suc x) (r .first)) (compare (r .first 
     go o Ordering·lt (more h) e f = rw (e, f)
     go o Ordering·eq (more h) e f = rw (e, f)
     go o Ordering·gt (more h) e f = rw (e, f)
-join-behind x k (r ∷ t ∷ rs) = go (compare (suc x) (r .first))
-  where
-    go : (o : Ordering) → joinBy o x r (behind k (t ∷ rs)) ≡ behind k (joinBy o x r (t ∷ rs))
-    go Ordering·lt = refl
-    go Ordering·eq = refl
-    go Ordering·gt = refl
+join-behind x k (r ∷ t ∷ rs) =
+    compare-cases (suc x) (r .first) (λ o. joinBy o x r (behind k (t ∷ rs)) ≡ behind k (joinBy o x r (t ∷ rs))) (λ h. refl) (λ h. refl) (λ h. refl)
 
 stretches-behind : (l : List ℕ) (k : ℕ) → stretches (l ++ (k ∷ [])) ≡ behind k (stretches l)
 stretches-behind [] k = refl
@@ -116,13 +108,9 @@ module _ (l : List ℕ) (rs : List Stretch) (r : Stretch) (e : stretches l ≡ r
 
   pub stretches-apart : (k : ℕ) → r .first + r .count ≢ k → stretches (l ++ (k ∷ [])) ≡ stretches l ++ (record { first = k; count = 1 } ∷ [])
   stretches-apart k d =
-      at-end k ∙ go (compare (r .first + r .count) k) (tri (r .first + r .count) k)
+      at-end k
+      ∙ compare-cases (r .first + r .count) k (λ o. rs ++ behindBy o k r ≡ rs ++ (r ∷ record { first = k; count = 1 } ∷ [])) (λ h. refl) (λ h. absurd (d h)) (λ h. refl)
       ∙ sym (append-assoc rs (r ∷ []) (record { first = k; count = 1 } ∷ [])) ∙ ap (λ (t : List Stretch). t ++ (record { first = k; count = 1 } ∷ [])) (sym e)
-    where
-      go : (o : Ordering) → Tri (r .first + r .count) k o → rs ++ behindBy o k r ≡ rs ++ (r ∷ record { first = k; count = 1 } ∷ [])
-      go o (less h) = refl
-      go o (same h) = absurd (d h)
-      go o (more h) = refl
 
 -- the number of stretches, by whether the new slice comes right after the last
 pub count-joined : (l : List ℕ) (k : ℕ) → 1 ≤ length l → suc (lastOf l) ≡ k → stretchCount (l ++ (k ∷ [])) ≡ stretchCount l

@@ -20,44 +20,28 @@ tri zero (suc m) = rw compare·zero-suc (less (omega arith))
 tri (suc n) zero = rw compare·suc-zero (more (omega arith))
 tri (suc n) (suc m) = rw compare·suc-suc (tri-suc (tri n m))
 
-pub tri-less : {n m : ℕ} → n < m → compare n m ≡ Ordering·lt
-tri-less {n} {m} h = go (compare n m) (tri n m)
+-- Three cases: below, equal, above.
+pub compare-cases : (n m : ℕ) (C : Ordering → Type 0) → (n < m → C Ordering·lt) → (n ≡ m → C Ordering·eq) → (m < n → C Ordering·gt) → C (compare n m)
+compare-cases n m C below equal above = go (compare n m) (tri n m)
   where
-    go : (o : Ordering) → Tri n m o → o ≡ Ordering·lt
-    go o (less k) = refl
-    go o (same k) = absurd (omega arith)
-    go o (more k) = absurd (omega arith)
+    go : (o : Ordering) → Tri n m o → C o
+    go o (less h) = below h
+    go o (same e) = equal e
+    go o (more h) = above h
+
+pub tri-less : {n m : ℕ} → n < m → compare n m ≡ Ordering·lt
+tri-less {n} {m} h = compare-cases n m (λ o. o ≡ Ordering·lt) (λ k. refl) (λ k. absurd (omega arith)) (λ k. absurd (omega arith))
 
 pub tri-more : {n m : ℕ} → m < n → compare n m ≡ Ordering·gt
-tri-more {n} {m} h = go (compare n m) (tri n m)
-  where
-    go : (o : Ordering) → Tri n m o → o ≡ Ordering·gt
-    go o (less k) = absurd (omega arith)
-    go o (same k) = absurd (omega arith)
-    go o (more k) = refl
+tri-more {n} {m} h = compare-cases n m (λ o. o ≡ Ordering·gt) (λ k. absurd (omega arith)) (λ k. absurd (omega arith)) (λ k. refl)
 
 pub tri-same : (n : ℕ) → compare n n ≡ Ordering·eq
-tri-same n = go (compare n n) (tri n n)
-  where
-    go : (o : Ordering) → Tri n n o → o ≡ Ordering·eq
-    go o (less k) = absurd (omega arith)
-    go o (same k) = refl
-    go o (more k) = absurd (omega arith)
+tri-same n = compare-cases n n (λ o. o ≡ Ordering·eq) (λ k. absurd (omega arith)) (λ k. refl) (λ k. absurd (omega arith))
 
 -- Two cases: equal or not.
 pub same-or : (k n : ℕ) {C : Type 0} → (k ≡ n → C) → (k ≢ n → C) → C
-same-or k n {C} f g = go (compare k n) (tri k n)
-  where
-    go : (o : Ordering) → Tri k n o → C
-    go o (less h) = g (omega arith)
-    go o (same e) = f e
-    go o (more h) = g (omega arith)
+same-or k n {C} f g = compare-cases k n (λ _. C) (λ h. g (omega arith)) f (λ h. g (omega arith))
 
 -- Two cases: below or not.
 pub below-or : (k n : ℕ) {C : Type 0} → (k < n → C) → (n ≤ k → C) → C
-below-or k n {C} f g = go (compare k n) (tri k n)
-  where
-    go : (o : Ordering) → Tri k n o → C
-    go o (less h) = f h
-    go o (same e) = g (omega arith)
-    go o (more h) = g (omega arith)
+below-or k n {C} f g = compare-cases k n (λ _. C) f (λ e. g (omega arith)) (λ h. g (omega arith))

@@ -2,24 +2,22 @@
 use mathlib.Core.Path.{_≡_, refl, sym, ap, ap₂, _∙_}
 use mathlib.Core.List.{List, [], _∷_}
 use mathlib.Core.Logic.{_≢_}
-use Prim.Native.Nat.{ℕ, zero, suc, _+_, _*_, _-_, _/_, _%_, _≤_, _<_, compare, Ordering}
+use Prim.Native.Nat.{ℕ, zero, suc, _+_, _*_, _-_, _/_, _%_, _≤_, _<_}
 use native.Mathlib.Omega.{arith}
 use native.Mathlib.Nat.{div-add-mod', mod-lt, div-lt-iff-lt-mul, mul-le-mul-right}
 use lib.ListN.{length, getD}
 use Rattle.disc.specs.Numbers.{need, ceilDiv}
 use Rattle.disc.specs.Slices.{InRangeOnce, occurrences}
 use Rattle.disc.specs.Stretches.{sectorIn}
-use Rattle.disc.proofs.Compare.{Tri, less, same, more, tri}
+use Rattle.disc.proofs.Compare.{compare-cases}
 use Rattle.disc.proofs.SliceLaws.{inUnit-le, inUnit-out, occurrences-self}
 
 -- quotient and rest are known by the number
 pub split-unique : (s a r b t : ℕ) → r < s → t < s → a * s + r ≡ b * s + t → (a ≡ b) × (r ≡ t)
-split-unique s a r b t hr ht e = go (compare a b) (tri a b)
-  where
-    go : (o : Ordering) → Tri a b o → (a ≡ b) × (r ≡ t)
-    go o (less h) = absurd (omega (arith, mul-le-mul-right s h))
-    go o (same q) = (q, (let z : b * s + r ≡ b * s + t = rw q at e in omega arith))
-    go o (more h) = absurd (omega (arith, mul-le-mul-right s h))
+split-unique s a r b t hr ht e = compare-cases a b (λ _. (a ≡ b) × (r ≡ t))
+    (λ h. absurd (omega (arith, mul-le-mul-right s h)))
+    (λ q. (q, (let z : b * s + r ≡ b * s + t = rw q at e in omega arith)))
+    (λ h. absurd (omega (arith, mul-le-mul-right s h)))
 
 pub occurrences-in : (l : List ℕ) (j : ℕ) → j < length l → 1 ≤ occurrences (getD l j 0) l
 occurrences-in [] j h = absurd (omega arith)

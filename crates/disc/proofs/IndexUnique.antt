@@ -1,13 +1,14 @@
 -- An index block's words determine its slice list.
 use mathlib.Core.Path.{_≡_, refl, sym, ap, ap₂, _∙_}
 use mathlib.Core.List.{List, [], _∷_}
-use Prim.Native.Nat.{ℕ, suc, _+_, _*_, _-_, _/_, _≤_, _<_, compare, Ordering, Ordering·lt, Ordering·eq, Ordering·gt}
+use Prim.Native.Nat.{ℕ, suc, _+_, _*_, _-_, _/_, _≤_, _<_}
 use native.Mathlib.Omega.{arith}
 use native.Mathlib.Nat.{mul-div-cancel-left, mul-div-left}
 use lib.ListN.{length, getD}
 use lib.Seq.{ext-getD}
 use Rattle.disc.specs.Words.{Holds}
 use Rattle.disc.specs.Stretches.{Stretch, joinBy, join, stretches, stretchCount, pairs, indexWords, expand}
+use Rattle.disc.proofs.Compare.{compare-cases}
 use Rattle.disc.proofs.StretchLaws.{expand-stretches}
 
 pub length-pairs : (F s : ℕ) (rs : List Stretch) → length (pairs F s rs) ≡ 2 * length rs
@@ -26,14 +27,11 @@ pub firsts : (l : List ℕ) → ((j : ℕ) → j < length l → 1 ≤ getD l j 0
 firsts [] h = end
 firsts (x ∷ l) h = go (stretches l) (firsts l (λ j y. h (suc j) (omega arith)))
   where
-    by : (o : Ordering) (r : Stretch) (rs : List Stretch) → 1 ≤ r .first → Firsts rs → Firsts (joinBy o x r rs)
-    by Ordering·lt r rs a b = next (h 0 (omega arith)) (next a b)
-    by Ordering·eq r rs a b = next (h 0 (omega arith)) b
-    by Ordering·gt r rs a b = next (h 0 (omega arith)) (next a b)
-
     go : (rs : List Stretch) → Firsts rs → Firsts (join x rs)
     go rs end = next (h 0 (omega arith)) end
-    go rs (next {r = r} {rs = t} a b) = by (compare (suc x) (r .first)) r t a b
+    go rs (next {r = r} {rs = t} a b) =
+        let first = h 0 (omega arith) in
+        compare-cases (suc x) (r .first) (λ o. Firsts (joinBy o x r t)) (λ _. next first (next a b)) (λ _. next first b) (λ _. next first (next a b))
 
 abbrev fromPairs : ℕ → ℕ → List ℕ → List Stretch
 fromPairs F s [] = []

@@ -2,10 +2,10 @@
 use mathlib.Core.Path.{_≡_, refl, sym, ap, _∙_}
 use mathlib.Core.List.{List, [], _∷_, _++_}
 use mathlib.Core.Logic.{_≢_}
-use Prim.Native.Nat.{ℕ, zero, suc, _+_, _≤_, compare, Ordering}
+use Prim.Native.Nat.{ℕ, zero, suc, _+_, _≤_, Ordering}
 use native.Mathlib.Omega.{arith}
 use Rattle.disc.specs.Stretches.{Stretch, joinBy, join, stretches, span, expand}
-use Rattle.disc.proofs.Compare.{Tri, less, same, more, tri, tri-same}
+use Rattle.disc.proofs.Compare.{compare-cases, tri-same}
 
 -- stretches that are not empty, none going on where the one before it ends
 pub data Longest : List Stretch → Type 0 where
@@ -27,18 +27,14 @@ one x = record { first = x; count = 1 }
 
 longest-join : (x : ℕ) {rs : List Stretch} → Longest rs → Longest (join x rs)
 longest-join x end = last {r = one x} (omega arith)
-longest-join x (last {r = r} h) = go (compare (suc x) (r .first)) (tri (suc x) (r .first))
-  where
-    go : (o : Ordering) → Tri (suc x) (r .first) o → Longest (joinBy o x r [])
-    go o (less d) = next {r = one x} {t = r} (omega arith) (λ e. omega arith) (last h)
-    go o (same d) = last {r = record { first = x; count = suc (r .count) }} (omega arith)
-    go o (more d) = next {r = one x} {t = r} (omega arith) (λ e. omega arith) (last h)
-longest-join x (next {r = r} {t = t} {rs = rs} h a k) = go (compare (suc x) (r .first)) (tri (suc x) (r .first))
-  where
-    go : (o : Ordering) → Tri (suc x) (r .first) o → Longest (joinBy o x r (t ∷ rs))
-    go o (less d) = next {r = one x} {t = r} (omega arith) (λ e. omega arith) (next h a k)
-    go o (same d) = next {r = record { first = x; count = suc (r .count) }} {t = t} (omega arith) (λ e. a (omega arith)) k
-    go o (more d) = next {r = one x} {t = r} (omega arith) (λ e. omega arith) (next h a k)
+longest-join x (last {r = r} h) = compare-cases (suc x) (r .first) (λ o. Longest (joinBy o x r []))
+    (λ d. next {r = one x} {t = r} (omega arith) (λ e. omega arith) (last h))
+    (λ d. last {r = record { first = x; count = suc (r .count) }} (omega arith))
+    (λ d. next {r = one x} {t = r} (omega arith) (λ e. omega arith) (last h))
+longest-join x (next {r = r} {t = t} {rs = rs} h a k) = compare-cases (suc x) (r .first) (λ o. Longest (joinBy o x r (t ∷ rs)))
+    (λ d. next {r = one x} {t = r} (omega arith) (λ e. omega arith) (next h a k))
+    (λ d. next {r = record { first = x; count = suc (r .count) }} {t = t} (omega arith) (λ e. a (omega arith)) k)
+    (λ d. next {r = one x} {t = r} (omega arith) (λ e. omega arith) (next h a k))
 
 pub longest-stretches : (l : List ℕ) → Longest (stretches l)
 longest-stretches [] = end
@@ -46,12 +42,7 @@ longest-stretches (x ∷ l) = longest-join x (longest-stretches l)
 
 -- a slice before stretches that do not begin after it
 apart-join : (x : ℕ) (t : Stretch) (rs : List Stretch) → suc x ≢ t .first → join x (t ∷ rs) ≡ one x ∷ t ∷ rs
-apart-join x t rs d = go (compare (suc x) (t .first)) (tri (suc x) (t .first))
-  where
-    go : (o : Ordering) → Tri (suc x) (t .first) o → joinBy o x t rs ≡ one x ∷ t ∷ rs
-    go o (less h) = refl
-    go o (same e) = absurd (d e)
-    go o (more h) = refl
+apart-join x t rs d = compare-cases (suc x) (t .first) (λ o. joinBy o x t rs ≡ one x ∷ t ∷ rs) (λ h. refl) (λ e. absurd (d e)) (λ h. refl)
 
 -- n + 1 slices from x on before the slices l
 span-stretches : (n x : ℕ) (l : List ℕ) (rs : List Stretch) → stretches l ≡ rs → ((y : ℕ) → y ≡ x + n → join y rs ≡ one y ∷ rs)

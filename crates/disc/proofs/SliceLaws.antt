@@ -1,26 +1,24 @@
 -- Laws of counting slices, the sum of free and held slices, and the taking of slices.
-use mathlib.Core.Path.{_≡_, refl, ap}
+use mathlib.Core.Path.{_≡_, refl, sym, ap}
 use mathlib.Core.List.{List, [], _∷_, _++_}
 use mathlib.Core.Logic.{_≢_}
 use Prim.Native.Nat.{ℕ, zero, suc, _+_, _-_, _≤_, _<_, compare, Ordering, Ordering·lt, Ordering·eq, Ordering·gt}
 use native.Mathlib.Omega.{arith}
 use lib.ListN.{length, take, drop, length-append, length-take, take-append-drop}
 use Rattle.disc.specs.Slices.{oneIfSame, occurrences, oneIfBelow, inUnit, InRangeOnce, oneIfNone, freeCount, firstIf, lowestFrom, nextOr, choose, taken, lastOf}
-use Rattle.disc.proofs.Compare.{Tri, less, same, more, tri, tri-less, tri-more, tri-same}
+use Rattle.disc.proofs.Compare.{compare-cases, tri-less, tri-more, tri-same, same-or, below-or}
 
 pub same-le : (o : Ordering) → oneIfSame o ≤ 1
 same-le Ordering·lt = omega arith
 same-le Ordering·eq = omega arith
 same-le Ordering·gt = omega arith
 
+pub one-other : (j k : ℕ) → j ≢ k → oneIfSame (compare j k) ≡ 0
+one-other j k d = compare-cases j k (λ o. oneIfSame o ≡ 0) (λ h. refl) (λ e. absurd (d e)) (λ h. refl)
+
 pub inUnit-le : (m k : ℕ) → inUnit m k ≤ 1
 inUnit-le m zero = omega arith
-inUnit-le m (suc k) = go (compare k m)
-  where
-    go : (o : Ordering) → oneIfBelow o ≤ 1
-    go Ordering·lt = omega arith
-    go Ordering·eq = omega arith
-    go Ordering·gt = omega arith
+inUnit-le m (suc k) = compare-cases k m (λ o. oneIfBelow o ≤ 1) (λ h. omega arith) (λ h. omega arith) (λ h. omega arith)
 
 pub inUnit-in : (m k : ℕ) → 1 ≤ k → k ≤ m → inUnit m k ≡ 1
 inUnit-in m zero p q = absurd (omega arith)
@@ -28,42 +26,23 @@ inUnit-in m (suc k) p q = rw (tri-less q) refl
 
 pub inUnit-no : (m k : ℕ) → m < k → inUnit m k ≡ 0
 inUnit-no m zero q = refl
-inUnit-no m (suc k) q = go (compare k m) (tri k m)
-  where
-    go : (o : Ordering) → Tri k m o → oneIfBelow o ≡ 0
-    go o (less h) = absurd (omega arith)
-    go o (same h) = refl
-    go o (more h) = refl
+inUnit-no m (suc k) q = compare-cases k m (λ o. oneIfBelow o ≡ 0) (λ h. absurd (omega arith)) (λ h. refl) (λ h. refl)
 
 pub inUnit-out : (m k : ℕ) → 1 ≤ inUnit m k → (1 ≤ k) × (k ≤ m)
 inUnit-out m zero p = absurd (omega arith)
-inUnit-out m (suc k) p = go (compare k m) (tri k m) p
-  where
-    go : (o : Ordering) → Tri k m o → 1 ≤ oneIfBelow o → (1 ≤ suc k) × (suc k ≤ m)
-    go o (less h) p = omega arith
-    go o (same h) p = absurd (omega arith)
-    go o (more h) p = absurd (omega arith)
+inUnit-out m (suc k) p = below-or k m (λ h. omega arith) (λ h. absurd (omega (arith, inUnit-no m (suc k) (omega arith))))
 
 -- more slices have room for more
 pub inUnit-mono : (m n k : ℕ) → m ≤ n → inUnit m k ≤ inUnit n k
 inUnit-mono m n zero h = omega arith
-inUnit-mono m n (suc k) h = go (compare k m) (tri k m)
-  where
-    go : (o : Ordering) → Tri k m o → oneIfBelow o ≤ inUnit n (suc k)
-    go o (less l) = omega (arith, inUnit-in n (suc k) (omega arith) (omega arith))
-    go o (same e) = omega arith
-    go o (more l) = omega arith
+inUnit-mono m n (suc k) h =
+    compare-cases k m (λ o. oneIfBelow o ≤ inUnit n (suc k)) (λ l. omega (arith, inUnit-in n (suc k) (omega arith) (omega arith))) (λ e. omega arith) (λ l. omega arith)
 
 pub occurrences-self : (k : ℕ) (h : List ℕ) → occurrences k (k ∷ h) ≡ suc (occurrences k h)
 occurrences-self k h = rw (tri-same k) (omega arith)
 
 pub occurrences-other : (j k : ℕ) (h : List ℕ) → j ≢ k → occurrences j (k ∷ h) ≡ occurrences j h
-occurrences-other j k h d = go (compare j k) (tri j k)
-  where
-    go : (o : Ordering) → Tri j k o → oneIfSame o + occurrences j h ≡ occurrences j h
-    go o (less l) = omega arith
-    go o (same e) = absurd (d e)
-    go o (more l) = omega arith
+occurrences-other j k h d = omega (arith, one-other j k d)
 
 pub occurrences-append : (k : ℕ) (s t : List ℕ) → occurrences k (s ++ t) ≡ occurrences k s + occurrences k t
 occurrences-append k [] t = omega arith
@@ -97,19 +76,12 @@ total-cons (suc m) x h = omega (arith, total-cons m x h)
 
 hits-inUnit : (m x : ℕ) → hits m x ≡ inUnit m x
 hits-inUnit zero zero = refl
-hits-inUnit zero (suc x) = go (compare x 0) (tri x 0)
-  where
-    go : (o : Ordering) → Tri x 0 o → 0 ≡ oneIfBelow o
-    go o (less h) = absurd (omega arith)
-    go o (same e) = refl
-    go o (more h) = refl
+hits-inUnit zero (suc x) = sym (inUnit-no 0 (suc x) (omega arith))
 hits-inUnit (suc m) zero = rw (tri-more {n = suc m} {m = 0} (omega arith)) (omega (arith, hits-inUnit m 0))
-hits-inUnit (suc m) (suc x) = go (compare (suc m) (suc x)) (tri (suc m) (suc x)) (hits-inUnit m (suc x))
-  where
-    go : (o : Ordering) → Tri (suc m) (suc x) o → hits m (suc x) ≡ inUnit m (suc x) → oneIfSame o + hits m (suc x) ≡ inUnit (suc m) (suc x)
-    go o (less h) ih = omega (arith, inUnit-no m (suc x) (omega arith), inUnit-no (suc m) (suc x) (omega arith))
-    go o (same e) ih = omega (arith, inUnit-no m (suc x) (omega arith), inUnit-in (suc m) (suc x) (omega arith) (omega arith))
-    go o (more h) ih = omega (arith, inUnit-in m (suc x) (omega arith) (omega arith), inUnit-in (suc m) (suc x) (omega arith) (omega arith))
+hits-inUnit (suc m) (suc x) = compare-cases (suc m) (suc x) (λ o. oneIfSame o + hits m (suc x) ≡ inUnit (suc m) (suc x))
+    (λ h. omega (arith, hits-inUnit m (suc x), inUnit-no m (suc x) (omega arith), inUnit-no (suc m) (suc x) (omega arith)))
+    (λ e. omega (arith, hits-inUnit m (suc x), inUnit-no m (suc x) (omega arith), inUnit-in (suc m) (suc x) (omega arith) (omega arith)))
+    (λ h. omega (arith, hits-inUnit m (suc x), inUnit-in m (suc x) (omega arith) (omega arith), inUnit-in (suc m) (suc x) (omega arith) (omega arith)))
 
 none-sum : (x : ℕ) → x ≤ 1 → oneIfNone x + x ≡ 1
 none-sum zero h = refl
@@ -181,12 +153,7 @@ choose-law m last h p = go (inUnit m (suc last)) refl (occurrences (suc last) h)
     go (suc r) e (suc t) f = low
 
 pub once-cons : (m k : ℕ) (h : List ℕ) → InRangeOnce m h → occurrences k h ≡ 0 → inUnit m k ≡ 1 → InRangeOnce m (k ∷ h)
-once-cons m k h ok z r j = go (compare j k) (tri j k)
-  where
-    go : (o : Ordering) → Tri j k o → oneIfSame o + occurrences j h ≤ inUnit m j
-    go o (less l) = omega (arith, ok j)
-    go o (same e) = rw e (omega arith)
-    go o (more l) = omega (arith, ok j)
+once-cons m k h ok z r j = same-or j k (λ e. rw e (omega (arith, occurrences-self k h))) (λ d. omega (arith, ok j, occurrences-other j k h d))
 
 pub length-taken : (m : ℕ) (h : List ℕ) (last n : ℕ) → length (taken m h last n) ≡ n
 length-taken m h last zero = refl

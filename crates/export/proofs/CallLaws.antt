@@ -1,5 +1,5 @@
 -- What a message asks for, by the number of its call; what comes of a call and of Format, by what comes of those below.
-use mathlib.Core.Path.{_≡_, sym, ap, subst}
+use mathlib.Core.Path.{_≡_, sym, ap}
 use mathlib.Core.List.{List}
 use Prim.Native.Nat.{ℕ, zero, suc, _<_}
 use native.Mathlib.Omega.{arith}
@@ -57,9 +57,7 @@ module _ {state m : UnitState} {own next : State} {image lent after : List ℕ} 
       let k = mirrored state m next shaped left-is in
       record {
         arrays = shape;
-        performs = subst (λ (s : State). Performs image s message lent (performed after (stateOf m) (answerOf a) left)) own-is
-            (subst (λ (s : State). Performs image own message lent (performed after s (answerOf a) left)) (sym (k .0))
-            (subst (λ (x : Answer). Performs image own message lent (performed after next x left)) (sym told) performs));
+        performs = rw (← own-is, k .0, told) performs;
         mirror = k .1;
       }
 
@@ -69,7 +67,6 @@ module _ {state m : UnitState} {own next : State} {image lent after : List ℕ} 
       let k = mirrored state m next shaped left-is in
       record {
         arrays = shape;
-        formats = subst (λ (s : State). FormatAnswer image s bytes lent after (record { result = result; state = stateOf m })) own-is
-            (subst (λ (s : State). FormatAnswer image own bytes lent after (record { result = result; state = s })) (sym (k .0)) answer);
+        formats = rw (← own-is, k .0) answer;
         mirror = k .1;
       }

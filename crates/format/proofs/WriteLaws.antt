@@ -1,5 +1,5 @@
 -- The parts of a fresh unit's image, put together from the stores that write them.
-use mathlib.Core.Path.{_≡_, refl, sym, ap, ap₂, _∙_}
+use mathlib.Core.Path.{_≡_, refl, sym, ap, _∙_}
 use mathlib.Core.List.{List, [], _∷_}
 use Prim.Native.Nat.{ℕ, _+_, _-_, _*_, _%_, _≤_, _<_, compare}
 use native.Mathlib.Nat.{mul-le-mul-left, mod-eq-of-lt}
@@ -52,21 +52,9 @@ module _ (H s F N : ℕ) (lim : Limits H s F N) (used : ℕ) (is : used ≡ ceil
         → after ≡ store b (r * 256 + 16 * place) (systemEntry map 1 7 1) → after ≡ freshCatalog image H s F
     unfolding freshCatalog enterAt clearSys
     catalog-written image a b after e {q} qIs f′ {r} rIs g′ =
-        let f : b ≡ store a ((F + sysKey) * 256 + 16 * 0) (systemEntry sys H 6 (s * used)) = rw (← qIs) f′ in
-        let g : after ≡ store b ((F + mapKey) * 256 + 16 * place) (systemEntry map 1 7 1) = rw (← rIs) g′ in
-        let size : H ≡ H * 1 = omega arith in
+        let size : H * 1 ≡ H = omega arith in
         let reserved : s * used ≡ s * length (sysSlices H s) = ap (λ (n : ℕ). s * n) (is ∙ sym (length-sys H s F N lim)) in
-        let key₁ : sysKey ≡ keyOf H SYS = sysKeyIs ∙ ap (keyOf H) sysIs in
-        let key₂ : mapKey ≡ keyOf H MAP = mapKeyIs ∙ ap (keyOf H) mapIs in
-        let cleared : List ℕ = store image (F * 256) (zeroWords (256 * H)) in
-        let withSys : List ℕ = store cleared ((F + keyOf H SYS) * 256 + 16 * 0) (systemEntry SYS (H * 1) 6 (s * length (sysSlices H s))) in
-        let x : a ≡ cleared = e ∙ store-start image F (zeroWords (256 * H)) in
-        let y : b ≡ withSys =
-        f ∙ ap₂ (λ (l : List ℕ) (k : ℕ). store l ((F + k) * 256 + 16 * 0) (systemEntry sys H 6 (s * used))) x key₁
-        ∙ ap (store cleared ((F + keyOf H SYS) * 256 + 16 * 0)) (ap (λ (n : ℕ). systemEntry n H 6 (s * used)) sysIs ∙ ap₂ (λ (n r : ℕ). systemEntry SYS n 6 r) size reserved) in
-        let z : place ≡ oneIfSame (compare (keyOf H MAP) (keyOf H SYS)) = placeIs ∙ ap₂ (λ (k j : ℕ). oneIfSame (compare k j)) key₂ key₁ in
-        g ∙ ap₂ (λ (l : List ℕ) (n : ℕ). store l ((F + mapKey) * 256 + 16 * place) (systemEntry n 1 7 1)) y mapIs
-        ∙ ap₂ (λ (k j : ℕ). store withSys ((F + k) * 256 + 16 * j) (systemEntry MAP 1 7 1)) key₂ z
+        rw (g′, rIs, f′, qIs, e, store-start image F (zeroWords (256 * H)), placeIs, mapKeyIs, sysKeyIs, mapIs, sysIs, size, reserved) refl
 
 -- the whole image: sectors 6 to 9, then SYS
 pub format-written : (image a after : List ℕ) (H s F N k6 k7 : ℕ) → a ≡ systemSectors image H s F N k6 k7 → after ≡ freshCatalog a H s F → after ≡ formatted image H s F N k6 k7

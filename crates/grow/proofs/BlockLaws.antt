@@ -1,27 +1,22 @@
--- A catalog's block and slices; the free word is a word.
+-- A catalog's block and slices.
 use mathlib.Core.Path.{_≡_, refl, ap, _∙_}
-use mathlib.Core.List.{List, [], _∷_}
+use mathlib.Core.List.{List}
 use Prim.Native.Nat.{ℕ, zero, suc, _+_, _*_, _≤_, _<_}
 use native.Mathlib.Omega.{arith}
-use native.Mathlib.Nat.{mul-comm}
-use lib.ListN.{length, getD}
+use native.Mathlib.Nat.{mul-comm, mul-le-mul-right}
+use lib.ListN.{length}
 use Rattle.disc.specs.Numbers.{ceilDiv}
-use Rattle.disc.specs.Words.{Words}
-use Rattle.disc.specs.Map.{onesInMap}
 use Rattle.disc.specs.Catalog.{Catalog, slicesFor}
 use Rattle.disc.proofs.Geometry.{ceil-cover}
-use Rattle.words.specs.Store.{store}
-use Rattle.words.proofs.StoreLaws.{store-in}
-use Rattle.index.specs.Block.{blockAt}
+use Rattle.index.specs.Block.{blockAt, sliceTotal}
 use Rattle.index.proofs.ReadLaws.{read-block}
 use Rattle.plain.specs.Unit.{Plain, M, sysOf}
 use Rattle.refine.specs.OnDisc.{OnDisc}
-use Rattle.refine.specs.Writes.{countedFree}
 use Rattle.refine.proofs.Ground.{ground, sys-ground, part-sectors}
 use Rattle.catalog.specs.declared.Unit.{Unit}
 use Rattle.lookup.specs.Unit.{NumbersOf}
 use Rattle.slices.specs.FileBlock.{FileBlock}
-use Rattle.slices.proofs.BlockLaws.{unit-file}
+use Rattle.slices.proofs.BlockLaws.{block-total, unit-file}
 use Rattle.grow.specs.Catalog.{CatalogIn}
 
 -- the slices that are needed, by one formula
@@ -52,6 +47,19 @@ module _ {image : List ℕ} {o : Unit} {p : Plain} {c : Catalog} (a : CatalogIn 
   pub catalog-sectors : p .s * length (c .slices) + 10 ≤ 32767
   catalog-sectors = part-sectors p (ground p (a .on .good)) (c .slices) (a .part)
 
+  -- the block by the code's numbers, and the slices that it has
+  pub catalog-block : {block : List ℕ} → block ≡ blockAt image (o .catalog .index .0) → FileBlock image block (p .F) (p .s) (M p) (c .slices)
+  catalog-block e = catalog-file (e ∙ ap (blockAt image) (a .numbers .catalog .index))
+
+  pub catalog-had : {block : List ℕ} → block ≡ blockAt image (o .catalog .index .0) → sliceTotal (o .slice) block 0 ≡ length (c .slices)
+  catalog-had {block} e = ap (λ (s : ℕ). sliceTotal s block 0) (a .numbers .slice) ∙ block-total (catalog-block e .own)
+
+  pub had-small : {block : List ℕ} → block ≡ blockAt image (o .catalog .index .0) → sliceTotal (o .slice) block 0 < 65536
+  had-small e = omega (arith, catalog-had e, catalog-sectors, mul-le-mul-right (length (c .slices)) (a .on .good .limits .sliceLow))
+
+  pub slice-low : 2 ≤ o .slice
+  slice-low = omega (arith, a .numbers .slice, a .on .good .limits .sliceLow)
+
   pub catalog-from : c .from ≤ 32767
   catalog-from =
       omega (
@@ -62,11 +70,3 @@ module _ {image : List ℕ} {o : Unit} {p : Plain} {c : Catalog} (a : CatalogIn 
         mul-comm (p .s) (length (c .slices)),
         catalog-sectors,
       )
-
--- where the image with its free word counted is one of words, the free word fits
-pub counted-word : (image : List ℕ) (s : ℕ) → 2560 ≤ length image → Words (countedFree image s) → s * onesInMap image < 65536
-unfolding countedFree
-counted-word image s far w =
-    let v : ℕ = s * onesInMap image in
-    let e : getD (store image 2051 (v ∷ [])) (2051 + 0) 0 ≡ v = store-in image 2051 (v ∷ []) 0 (omega arith) (omega arith) in
-    omega (arith, w .each 2051)

@@ -31,7 +31,7 @@ use Rattle.plain.proofs.UnitLaws.{entry-sys}
 use Rattle.refine.specs.OnDisc.{OnDisc}
 use Rattle.refine.specs.Writes.{countedFree, storePlace, zeroedSectors, takenImage, layeredImage, grownImage, grownSys}
 use Rattle.refine.proofs.Ground.{Ground, ground, top}
-use Rattle.preservation.proofs.WriteLaws.{zeroed-size}
+use Rattle.preservation.proofs.WriteLaws.{counted-word, zeroed-size}
 use Rattle.preservation.proofs.GrowStep.{grow-on}
 use Rattle.preservation.specs.Units.{layerOf, layerSlices, grownUnit}
 use Rattle.lookup.specs.Unit.{NumbersWith}
@@ -41,10 +41,9 @@ use Rattle.lookup.proofs.UnitLaws.{on-catalog}
 use Rattle.lookup.proofs.FindLaws.{place-room}
 use Rattle.slices.specs.Take.{CanLengthenFrom, CanLengthen, LengthenedAt}
 use Rattle.slices.specs.Zero.{CanZeroFrom, CanZero, Zeroed}
-use Rattle.slices.proofs.BlockLaws.{block-total}
 use Rattle.slices.proofs.StoreLaws.{length-taken-image, longer-file}
 use Rattle.grow.specs.Grow.{CanGrowFrom, LayerAdded, withLayers, GrownFrom}
-use Rattle.grow.proofs.BlockLaws.{slices-for, catalog-file, catalog-sectors, counted-word}
+use Rattle.grow.proofs.BlockLaws.{slices-for, catalog-file, catalog-block, catalog-had}
 
 module _ {image : List ℕ} {o : Unit} {p : Plain} {c : Catalog} (can : CanGrowFrom image o p c) where
   on : OnDisc image p
@@ -61,18 +60,9 @@ module _ {image : List ℕ} {o : Unit} {p : Plain} {c : Catalog} (can : CanGrowF
 
   -- ---- its index block
 
-  own-block : {block : List ℕ} → block ≡ blockAt image (o .catalog .index .0) → block ≡ blockAt image (c .index)
-  own-block e = e ∙ ap (blockAt image) (num .catalog .index)
-
-  had : {block : List ℕ} → block ≡ blockAt image (o .catalog .index .0) → sliceTotal (o .slice) block 0 ≡ length (c .slices)
-  had {block} e = ap (λ (s : ℕ). sliceTotal s block 0) (num .slice) ∙ block-total (catalog-file (can .catalog) (own-block e) .own)
-
-  pub had-small : {block : List ℕ} → block ≡ blockAt image (o .catalog .index .0) → sliceTotal (o .slice) block 0 < 65536
-  had-small e = omega (arith, had e, catalog-sectors (can .catalog), mul-le-mul-right (length (c .slices)) (on .good .limits .sliceLow))
-
   can-own : {block : List ℕ} → block ≡ blockAt image (o .catalog .index .0) → CanLengthenFrom image block (p .F) (p .s) (M p) more (held p) (c .slices)
   can-own e = record {
-    file = catalog-file (can .catalog) (own-block e);
+    file = catalog-block (can .catalog) e;
     map = on .layout .map;
     once = on .good .once;
     enough = can .room;
@@ -130,13 +120,10 @@ module _ {image : List ℕ} {o : Unit} {p : Plain} {c : Catalog} (can : CanGrowF
   pub slices-small : slicesFor (o .catalog .from) (o .slice) (o .catalog .keys * (o .catalog .layers + 1)) < 32768
   slices-small = omega (arith, slices-is, longer-sectors, mul-le-mul-right (length (c .slices ++ layerOf p c)) (on .good .limits .sliceLow))
 
-  pub slice-low : 2 ≤ o .slice
-  slice-low = omega (arith, num .slice, on .good .limits .sliceLow)
-
   -- ---- its slices
 
   pub more-is : {block : List ℕ} {n : ℕ} → block ≡ blockAt image (o .catalog .index .0) → n ≡ slicesFor (o .catalog .from) (o .slice) (o .catalog .keys * (o .catalog .layers + 1)) - sliceTotal (o .slice) block 0 → n ≡ more
-  more-is e q = q ∙ ap₂ (λ (a b : ℕ). a - b) (slices-is ∙ layer-count) (had e)
+  more-is e q = q ∙ ap₂ (λ (a b : ℕ). a - b) (slices-is ∙ layer-count) (catalog-had (can .catalog) e)
 
   pub more-small : more < 65536
   more-small = omega (arith, can .room, sum-law (M p) (held p) (on .good .once), on .good .limits .slicesHigh)

@@ -7,7 +7,6 @@ use native.Mathlib.Omega.{arith}
 use native.Mathlib.Nat.{mul-le-mul-left, mul-le-mul-right, le-mul-of-pos-right}
 use lib.Dec.{leb→le}
 use borrow.Author.Tests.{le-leb, lt-leb}
-use lib.ListN.{length}
 use Rattle.disc.specs.Decide.{Decides}
 use Rattle.disc.specs.Slices.{lastOf}
 use Rattle.disc.specs.Stretches.{stretchCount}
@@ -29,10 +28,10 @@ use Rattle.lookup.specs.Unit.{NumbersWith}
 use Rattle.slices.specs.declared.Growth.{Growth}
 use Rattle.slices.specs.FileBlock.{FileBlock}
 use Rattle.slices.specs.Fit.{CanFitFrom, CanFit, Fits}
-use Rattle.slices.proofs.BlockLaws.{block-total, unit-file}
+use Rattle.slices.proofs.BlockLaws.{unit-file}
 use Rattle.slices.proofs.TakeLaws.{unit-take}
 use Rattle.grow.specs.Room.{AskedOf}
-use Rattle.grow.proofs.BlockLaws.{slices-for, catalog-file, catalog-sectors, catalog-from}
+use Rattle.grow.proofs.BlockLaws.{catalog-block, catalog-had, slices-for, catalog-from}
 
 -- ---- the plain unit's answer
 
@@ -90,9 +89,6 @@ module _ {image : List ℕ} {o : Unit} {block : List ℕ} {p : Plain} {c : Catal
   num : NumbersWith o p c
   num = asked .catalog .numbers
 
-  pub room-slice : 2 ≤ o .slice
-  room-slice = omega (arith, num .slice, on .good .limits .sliceLow)
-
   asked-file : FileBlock image block (p .F) (p .s) (M p) slices
   asked-file =
       unit-file image block slices (on .good .limits) (on .layout .size) (asked .words) (asked .few)
@@ -102,21 +98,12 @@ module _ {image : List ℕ} {o : Unit} {block : List ℕ} {p : Plain} {c : Catal
   free-is = ones-free (M p) (held p) image (on .good .limits .slicesHigh) (on .layout .map) (on .words)
 
   module _ {index : List ℕ} (at-index : index ≡ blockAt image (o .catalog .index .0)) where
-    read : index ≡ blockAt image (c .index)
-    read = at-index ∙ ap (blockAt image) (num .catalog .index)
-
-    had : sliceTotal (o .slice) index 0 ≡ length (c .slices)
-    had = ap (λ (s : ℕ). sliceTotal s index 0) (num .slice) ∙ block-total (catalog-file (asked .catalog) read .own)
-
-    pub room-had : sliceTotal (o .slice) index 0 < 65536
-    room-had = omega (arith, had, catalog-sectors (asked .catalog), mul-le-mul-right (length (c .slices)) (on .good .limits .sliceLow))
-
     module _ (layers : ℕ) {more : ℕ} (took : more ≡ slicesFor (o .catalog .from) (o .slice) (o .catalog .keys * layers) - sliceTotal (o .slice) index 0) (forFile : ℕ) where
       abbrev t : Taking
       t = taking p c layers (lastOf slices) forFile
 
       pub for-catalog : more ≡ t .forCatalog
-      for-catalog = took ∙ ap₂ (λ (a b : ℕ). a - b) (rw (num .catalog .keys, num .catalog .from, num .slice) refl) had
+      for-catalog = took ∙ ap₂ (λ (a b : ℕ). a - b) (rw (num .catalog .keys, num .catalog .from, num .slice) refl) (catalog-had (asked .catalog) at-index)
 
       -- few enough for a sum of 32 bits
       pub for-small : layers ≤ 65535 → more ≤ 64 * 65535 + 32767
@@ -144,7 +131,7 @@ module _ {image : List ℕ} {o : Unit} {block : List ℕ} {p : Plain} {c : Catal
         both = omega (arith, free, for-catalog)
 
         fit-own : CanFitFrom image (p .F) (p .s) (M p) (growth index more) (growth block forFile) (held p) (c .slices) slices
-        fit-own = record { first = unit-take on (catalog-file (asked .catalog) read) both (asked .catalog .part); second = unit-take on asked-file both (asked .part) }
+        fit-own = record { first = unit-take on (catalog-block (asked .catalog) at-index) both (asked .catalog .part); second = unit-take on asked-file both (asked .part) }
 
         pub can-fit : CanFit image (o .first .0) (o .slice) (o .slices) (growth index more) (growth block forFile)
         can-fit = record { held = held p; catalogSlices = c .slices; fileSlices = slices; can = rw (num .first, num .slice, num .slices) fit-own }

@@ -45,25 +45,14 @@ holds-three image q x y z a b c = record { at = at }
 -- ---- a sound kit
 
 -- the numbers of a sound kit are the geometry's, and the image holds every sector that they name
-module _ {image : List ℕ} {g : Geometry} {H s F N : ℕ} (is : GeometryOf image g) (kit : SoundKit image H s F N) where
-  pub keys-are : g .keys ≡ H
-  keys-are = is .keys ∙ kit .kit .keys
-
-  pub slice-is : g .slice ≡ s
-  slice-is = is .slice ∙ kit .kit .slice
-
-  pub first-is : g .first .0 ≡ F
-  first-is = is .first ∙ kit .kit .first
-
-  pub sectors-are : g .sectors ≡ N
-  sectors-are = is .sectors ∙ kit .kit .sectors
-
-  pub sound-unit : UnitOf image g
-  sound-unit = record {
-    size = rw sectors-are (kit .size);
-    limits = rw (keys-are, slice-is, first-is, sectors-are) (kit .limits);
-    slices = is .slices;
-  }
+pub sound-unit : {image : List ℕ} {g : Geometry} {H s F N : ℕ} → GeometryOf image g → SoundKit image H s F N → UnitOf image g
+sound-unit is kit =
+    let k = kit .kit in
+    record {
+      size = rw (is .sectors ∙ k .sectors) (kit .size);
+      limits = rw (is .keys ∙ k .keys, is .slice ∙ k .slice, is .first ∙ k .first, is .sectors ∙ k .sectors) (kit .limits);
+      slices = is .slices;
+    }
 
 -- the rules, said of the geometry that was read
 module _ {image : List ℕ} {g : Geometry} (is : GeometryOf image g) where

@@ -36,7 +36,7 @@ use Rattle.refine.proofs.Ground.{ground, part-file, part-few}
 use Rattle.refine.proofs.StateLaws.{same-found, same-absent}
 use Rattle.lookup.specs.Unit.{NumbersOf, UnitOn, Represented}
 use Rattle.lookup.specs.Find.{NameAt}
-use Rattle.lookup.specs.Files.{ownBlock, BlockOf, isFound, nameOpen}
+use Rattle.lookup.specs.Files.{ClosedFile, ownBlock, BlockOf, isFound, nameOpen}
 
 -- ---- a represented unit is on its image
 
@@ -123,7 +123,21 @@ module _ {image : List ℕ} {p : Plain} {n : ℕ} {place : Place} (g : Good p) (
   pub live-index : tableFind n (p .areas) ≡ none → entryWord image place 8 ≡ indexSector (p .F) (p .s) (length (f .slices)) (f .slices)
   live-index closed = file-words .index ∙ ap (λ (b : ℕ). indexSector (p .F) (p .s) b (f .slices)) (g .catalog .files n f found .closed closed .1)
 
--- SYS and MAP are no files
+-- its block, read from the sector that the entry names
+module _ {image : List ℕ} {o : Unit} {place : Place} {p : Plain} {n : ℕ} {f : File} (can : ClosedFile image o place p n f)
+    {index : ℕ} {block : List ℕ} (e : index ≡ entryWord image place 8) (of : BlockOf image index block) where
+  abbrev own-index : index ≡ indexSector (p .F) (p .s) (length (f .slices)) (f .slices)
+  own-index = e ∙ live-index (can .on .good) (can .at) f (can .file) (can .closed)
+
+  pub closed-block : block ≡ wholeIndex (p .F) (p .s) (f .slices)
+  closed-block = block-is (can .on) (can .numbers) n f (can .file) of own-index
+
+  pub closed-total : sliceTotal (o .slice) block 0 ≡ length (f .slices)
+  closed-total = block-total (can .on) (can .numbers) n f (can .file) of own-index
+
+  pub closed-fits : (1 ≤ o .slice) × (sliceTotal (o .slice) block 0 < 65536)
+  closed-fits = total-fits (can .on) (can .numbers) n f (can .file) of own-index
+
 -- ---- open names
 
 pub name-open : {state : State} {p : Plain} → SameAreas state p → (n : ℕ) → nameOpen n state ≡ isSome (tableFind n (p .areas))

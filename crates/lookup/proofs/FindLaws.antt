@@ -2,7 +2,7 @@
 use mathlib.Core.Path.{_≡_, refl, sym, ap, _∙_}
 use mathlib.Core.List.{List}
 use mathlib.Core.Logic.{_≢_, ⊎-elim}
-use mathlib.Core.Option.{Option, none, some}
+use mathlib.Core.Option.{none, some}
 use Prim.Native.Nat.{ℕ, _+_, _*_, _/_, _%_, _≤_, _<_}
 use native.Mathlib.Omega.{arith}
 use native.Mathlib.Nat.{mul-comm}
@@ -21,6 +21,7 @@ use Rattle.catalog.specs.Value.{valueOf}
 use Rattle.catalog.proofs.PlaceLaws.{LiesIn, FirstWith, found-word, named-at, named-nothing}
 use Rattle.plain.specs.Unit.{Plain, sysOf, M, held, entry}
 use Rattle.plain.specs.Questions.{Outcome}
+use Rattle.plain.proofs.TableLaws.{never-some}
 use Rattle.plain.proofs.QuestionLaws.{asks-yes, asks-no}
 use Rattle.sound.specs.Places.{Unused}
 use Rattle.catalog.specs.declared.Unit.{Unit}
@@ -89,11 +90,7 @@ module _ {image : List ℕ} {p : Plain} (on : CatalogOn image p) where
 
   -- no place of a name in the sectors of its key: no entry
   no-entry : (n : ℕ) → ((t : ℕ) → t < N → t / 16 % p .H ≡ keyOf (p .H) n → nameAt P t ≡ n → ⊥) → entry p n ≡ none
-  no-entry n h = go (entry p n) refl
-    where
-      go : (o : Option (List ℕ)) → entry p n ≡ o → o ≡ none
-      go none e = refl
-      go (some x) e = let a = at (on .sys .places) (unit-named on) n x e in absurd (h (a .place) (a .inside) (a .key) (a .name))
+  no-entry n h = never-some (entry p n) (λ x e. let a = at (on .sys .places) (unit-named on) n x e in h (a .place) (a .inside) (a .key) (a .name))
 
   -- the words of the question, by what was found
   entered-word : {n : ℕ} (word : Found → ℕ) (refusal : ℕ) → ((place : Place) → word (At place) ≡ 0) → word Nothing ≡ refusal → (r : Found)

@@ -4,3 +4,4 @@ pub mod UnusedLaws
 pub mod MeantLaws
 pub mod LookUpLaws
 pub mod FileLaws
+pub mod MessageLaws

@@ -11,10 +11,10 @@ use lib.Seq.{getD-set-same, getD-set-other}
 use borrow.Author.Tests.{eqb-true, eqb-false}
 use Rattle.disc.specs.Words.{word, Words}
 use Rattle.disc.specs.Kit.{mapSector}
-use Rattle.disc.specs.Slices.{occurrences, inUnit, InRangeOnce}
+use Rattle.disc.specs.Slices.{occurrences, InRangeOnce}
 use Rattle.disc.specs.Map.{mapBit, MapOf}
 use Rattle.disc.proofs.Compare.{same-or}
-use Rattle.disc.proofs.SliceLaws.{inUnit-le, inUnit-in, inUnit-out, occurrences-self, occurrences-other, occurrences-append}
+use Rattle.disc.proofs.SliceLaws.{inUnit-mono, inUnit-le, inUnit-out, occurrences-self, occurrences-other, occurrences-append}
 use Rattle.map.specs.Marks.{marked, allMarked, allUsed, allFree}
 use Rattle.map.proofs.Digits.{digit, withDigit, with-same, with-other, with-lt}
 
@@ -172,11 +172,6 @@ all-free-bits l image once long used k a = same-or (occurrences k l) 0
 
 -- ---- the map of a unit's held slices, under taking and giving back
 
-in-larger : (m k : ℕ) → m ≤ 4096 → inUnit m k ≤ inUnit 4096 k
-in-larger m k h = same-or (inUnit m k) 0
-    (λ e. omega arith)
-    (λ d. let r = inUnit-out m k (omega arith) in omega (arith, inUnit-le m k, inUnit-in 4096 k (r .0) (omega (arith, r .1))))
-
 -- taking: the slices l join the held ones
 pub map-taken : (m : ℕ) (l held image : List ℕ) → m ≤ 4096 → 2560 ≤ length image → MapOf image m held → InRangeOnce m (l ++ held)
     → MapOf (allUsed image l) m (l ++ held)
@@ -185,7 +180,7 @@ map-taken m l held image few long is once k a b =
       arith,
       occurrences-append k l held,
       is k a b,
-      all-used-bits l image (λ j. omega (arith, once j, occurrences-append j l held, in-larger m j few)) long
+      all-used-bits l image (λ j. omega (arith, once j, occurrences-append j l held, inUnit-mono m 4096 j few)) long
           (λ j p q. omega (arith, once j, occurrences-append j l held, is j p q)) k a,
     )
 
@@ -198,6 +193,6 @@ map-freed m l rest held image few long is once both k a b =
       arith,
       both k,
       is k a b,
-      all-free-bits l image (λ j. omega (arith, once j, both j, in-larger m j few)) long
+      all-free-bits l image (λ j. omega (arith, once j, both j, inUnit-mono m 4096 j few)) long
           (λ j p q. omega (arith, both j, is j p q, inUnit-le m j)) k a,
     )

@@ -189,13 +189,9 @@ module _ (image : List ℕ) (g : Geometry) (q : ℕ) where
         → pairStart image q j ≡ end → IndexBlock image F s q → ⊥
     same-start {j = j} {end = end} pass below e block = go j refl
       where
-        legal : LegalPairs image F s q
-        legal = block-legal block
-
         go : (i : ℕ) → j ≡ i → ⊥
-        go zero z = omega (arith, legal .each j below .low, unit .limits .first, pass .none z)
-        go (suc i) z =
-            legal .apart i (omega arith) (pass .ends i (sym z) ∙ sym e ∙ ap (pairStart image q) z)
+        go zero z = omega (arith, block-legal block .each j below .low, unit .limits .first, pass .none z)
+        go (suc i) z = block-legal block .apart i (omega arith) (pass .ends i (sym z) ∙ sym e ∙ ap (pairStart image q) z)
 
     -- a pair that is refused
     pub no-pair : {before after : List ℕ} {j slices end : ℕ} {marks : List ℕ} (count : ℕ) → Passed before j slices end marks → j < word image q 0
@@ -215,7 +211,7 @@ module _ (image : List ℕ) (g : Geometry) (q : ℕ) where
           let w : Marked (g .slices) marks (held ++ slicesAt image F s q) = rw all at k in
           record { yes = λ e. (legal-block legal, w .once, w .is); not = λ e. absurd (true≢false (sym good ∙ e)) };
       slices = λ e. sized ∙ pass .count ∙ ap (λ (n : ℕ). length (passed n)) all;
-      start = λ e. begins ∙ first;
+      start = λ e. begins ∙ first-start (word image q 0) some (legal .each 0 some);
       refused = λ e. absurd (true≢false (sym good ∙ e));
     }
       where
@@ -226,6 +222,3 @@ module _ (image : List ℕ) (g : Geometry) (q : ℕ) where
           each = λ i h. pass .legal i (omega arith);
           apart = λ i h. pass .apart i (omega arith);
         }
-
-        first : pairStart image q 0 ≡ sliceStart F s (firstOf (slicesAt image F s q))
-        first = first-start (word image q 0) some (legal .each 0 some)

@@ -1,19 +1,17 @@
 -- Laws of a run of neighbouring slices that are marked if none of them is: the run as a whole, one slice, and two to four.
-use mathlib.Core.Path.{_≡_, refl, sym, ap, ap₂, _∙_, subst}
+use mathlib.Core.Path.{_≡_, refl, sym, ap, _∙_}
 use mathlib.Core.Bool.{Bool, true, false}
 use mathlib.Core.List.{List, [], _∷_, _++_, append-assoc, append-nil}
 use Prim.Native.Nat.{ℕ, zero, suc, _+_, _-_, _≤_, _<_}
 use native.Mathlib.Nat.{add-zero}
 use native.Mathlib.Numerals.{add-one}
 use native.Mathlib.Omega.{arith}
-use lib.Dec.{eqb}
 use lib.ListN.{getD, set}
 use lib.Seq.{getD-set-other, set-set}
-use Rattle.disc.specs.Decide.{Decides}
 use Rattle.disc.specs.Slices.{InRangeOnce}
 use Rattle.disc.specs.Stretches.{span}
 use Rattle.disc.proofs.Compare.{same-or}
-use Rattle.disc.proofs.DecideLaws.{true≢false, decides-eq}
+use Rattle.disc.proofs.DecideLaws.{true≢false}
 use Rattle.disc.proofs.SliceLaws.{inUnit-le, occurrences-append}
 use Rattle.disc.proofs.SpanLaws.{span-in}
 use Rattle.sound.specs.Parts.{Marking}
@@ -74,8 +72,7 @@ pub run-marking : {r : Bool} {before after : List ℕ} (from count : ℕ) → fr
 run-marking {r} {before} {after} from count room run m held fits marked = rw add-one (record {
   yes = λ e.
       let y = run .yes e in
-      let k : Marked m after (held ++ span (suc from) count) =
-      subst (λ (l : List ℕ). Marked m l (held ++ span (suc from) count)) (sym (y .1)) (run-marked m from held before marked count fits room (y .0)) in
+      let k : Marked m after (held ++ span (suc from) count) = rw (y .1) (run-marked m from held before marked count fits room (y .0)) in
       (tt, k .once, k .is);
   not = λ e _ once. run .not e .0 (run-free m from held before marked count room once);
 })
@@ -88,35 +85,6 @@ module _ {before : List ℕ} (from count : ℕ) where
 
   pub run-done : {after : List ℕ} → Free before from count → after ≡ runMarks before from count → RunMarking true from count before after
   run-done free e = record { yes = λ _. (free, e); not = λ f. absurd (true≢false f) }
-
-pub run-at : {r : Bool} {from n count : ℕ} {before after : List ℕ} → count ≡ n → RunMarking r from n before after → RunMarking r from count before after
-run-at {r} {from} {n} {count} {before} {after} e run = subst (λ (k : ℕ). RunMarking r from k before after) (sym e) run
-
-pub run-from : {r : Bool} {from n count : ℕ} {before after : List ℕ} → n ≡ from → RunMarking r n count before after → RunMarking r from count before after
-run-from {r} {from} {n} {count} {before} {after} e run = subst (λ (k : ℕ). RunMarking r k count before after) e run
-
--- ---- the sum of the marks of a run
-
-pub record Summed (marks : List ℕ) (from n taken : ℕ) : Type 0 where
-  pub free : taken ≡ 0 → Free marks from n
-  pub none : Free marks from n → taken ≡ 0
-
-pub sum-none : (marks : List ℕ) (from : ℕ) → Summed marks from 0 0
-sum-none marks from = record { free = λ _. record { each = λ i h. absurd (omega arith) }; none = λ _. refl }
-
-module _ {marks : List ℕ} {from n taken : ℕ} where
-  pub sum-more : (mark : ℕ) → mark ≡ getD marks (from + n) 0 → Summed marks from n taken → Summed marks from (n + 1) (taken + mark)
-  sum-more mark e sum = record {
-    free = λ z. record {
-      each = λ i h. same-or i n
-          (λ s. ap (λ (k : ℕ). getD marks (from + k) 0) s ∙ sym e ∙ (let m : mark ≡ 0 = omega arith in m))
-          (λ d. sum .free (omega arith) .each i (omega arith));
-    };
-    none = λ all. omega (arith, all .each n (omega arith), sum .none (record { each = λ i h. all .each i (omega arith) }));
-  }
-
-  pub sum-all : {count : ℕ} → n ≡ count → Summed marks from n taken → Decides (eqb taken 0) (Free marks from count)
-  sum-all {count} e sum = decides-eq taken 0 (λ z. subst (Free marks from) e (sum .free z)) (λ free. sum .none (subst (Free marks from) (sym e) free))
 
 -- ---- one slice
 
@@ -146,24 +114,17 @@ module _ (before : List ℕ) (from count third last : ℕ) (low : 2 ≤ count) (
   four-marks zero e = absurd (omega arith)
   four-marks (suc zero) e = absurd (omega arith)
   four-marks (suc (suc zero)) e =
-      let i = from + 1 in
-      let el : last ≡ i = omega arith in
-      let et : third ≡ i = near (omega arith) ∙ el in
-      ap₂ (λ (t u : ℕ). set (set (set (set before from 1) i 1) t 1) u 1) et el
-      ∙ set-set (set (set before from 1) i 1) i 1 1 ∙ set-set (set before from 1) i 1 1
-      ∙ ap (λ (k : ℕ). set (set before k 1) i 1) (sym (add-zero from))
+      let el : last ≡ from + 1 = omega arith in
+      let et : third ≡ from + 1 = near (omega arith) ∙ el in
+      simp (el, et, set-set, add-zero)
   four-marks (suc (suc (suc zero))) e =
-      let i = from + 2 in
-      let el : last ≡ i = omega arith in
-      let et : third ≡ i = near (omega arith) ∙ el in
-      ap₂ (λ (t u : ℕ). set (set (set (set before from 1) (from + 1) 1) t 1) u 1) et el
-      ∙ set-set (set (set before from 1) (from + 1) 1) i 1 1
-      ∙ ap (λ (k : ℕ). set (set (set before k 1) (from + 1) 1) i 1) (sym (add-zero from))
+      let el : last ≡ from + 2 = omega arith in
+      let et : third ≡ from + 2 = near (omega arith) ∙ el in
+      simp (el, et, set-set, add-zero)
   four-marks (suc (suc (suc (suc zero)))) e =
       let el : last ≡ from + 3 = omega arith in
       let et : third ≡ from + 2 = far (omega arith) in
-      ap₂ (λ (t u : ℕ). set (set (set (set before from 1) (from + 1) 1) t 1) u 1) et el
-      ∙ ap (λ (k : ℕ). set (set (set (set before k 1) (from + 1) 1) (from + 2) 1) (from + 3) 1) (sym (add-zero from))
+      simp (el, et, add-zero)
   four-marks (suc (suc (suc (suc (suc n))))) e = absurd (omega arith)
 
   -- one of the four is marked: slice j + 1 of the unit

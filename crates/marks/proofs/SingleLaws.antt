@@ -1,5 +1,5 @@
 -- Laws of a file in one stretch of slices, whose index block has one pair: each refusal, and the slices that are marked.
-use mathlib.Core.Path.{_≡_, refl, sym, ap, ap₂, _∙_, subst}
+use mathlib.Core.Path.{_≡_, refl, sym, ap, _∙_}
 use mathlib.Core.Bool.{Bool, true, false}
 use mathlib.Core.List.{List}
 use Prim.Native.Nat.{ℕ, _+_, _-_, _*_, _/_, _≤_, _<_}
@@ -76,13 +76,12 @@ module _ (image : List ℕ) (g : Geometry) (q sectors : ℕ) where
       single-inside = omega (arith, single-high, single-slices .some)
 
       pub single-marked : {before after : List ℕ} {r : Bool} → OnePair image q sectors → RunMarking r (k - 1) n before after → SingleMarking image g q sectors before after r
-      single-marked {before} {after} {r} pair run = record {
-        yes = λ e. let y = moved .yes e in (record { slices = single-slices; high = single-high; pair = pair; free = y .0 }, y .1);
-        not = λ e. (λ file. moved .not e .0 (file .free), moved .not e .1);
-      }
-        where
-          moved : RunMarking r from count before after
-          moved = subst (λ (m : ℕ). RunMarking r m count before after) from-is (subst (λ (m : ℕ). RunMarking r (k - 1) m before after) count-is run)
+      single-marked {before} {after} {r} pair run =
+          let moved : RunMarking r from count before after = rw (← from-is, ← count-is) run in
+          record {
+            yes = λ e. let y = moved .yes e in (record { slices = single-slices; high = single-high; pair = pair; free = y .0 }, y .1);
+            not = λ e. (λ file. moved .not e .0 (file .free), moved .not e .1);
+          }
 
   -- ---- what such a file's index block says
 
@@ -100,7 +99,6 @@ module _ (image : List ℕ) (g : Geometry) (q sectors : ℕ) where
     pub single-index : IndexMarking image g q before after (record { good = true; slices = count; start = record { 0 = q } })
     single-index =
         let block = file .pair in
-        let own = ap₂ (λ (n m : ℕ). PairMarking g n m before after count) (sym (block .length)) (sym (block .start)) in
-        let pass = passed-more image g q held (passed-none image g q before) count (some-count g sectors q (file .slices))
-        (λ z. omega (arith, block .start, file .slices .low, unit .limits .first)) (subst (λ (P : Type 0). P) own pair) in
+        let pass = passed-more image g q held (passed-none image g q before) {after = after} count (some-count g sectors q (file .slices))
+        (λ z. omega (arith, block .start, file .slices .low, unit .limits .first)) (rw (block .length, block .start) pair) in
         mark-index image g q unit _ (omega (arith, block .count)) (omega (arith, block .count)) (sym (block .count)) pass refl (omega arith) (sym (block .start))

@@ -1,6 +1,6 @@
 -- When a name is legal, by the classes of its characters: no class is above the one before it.
 use mathlib.Core.Path.{_≡_, refl, sym, ap, _∙_}
-use mathlib.Core.Bool.{Bool, true, false, _&&_, _||_, cond}
+use mathlib.Core.Bool.{Bool, true, false, _&&_, _||_, cond, or-false}
 use mathlib.Core.List.{List, [], _∷_}
 use Prim.Native.Nat.{ℕ, _/_, _%_, _≤_, _<_}
 use native.Mathlib.Omega.{arith}
@@ -8,9 +8,9 @@ use lib.Dec.{leb, eqb}
 use borrow.Author.Tests.{eq-eqb, ne-eqb, le-leb, lt-leb}
 use Rattle.disc.specs.Names.{pack, letter, digit, zeros, restLegal, legalName}
 use Rattle.disc.proofs.Compare.{same-or}
+use Rattle.disc.proofs.DecideLaws.{never-true}
 use Rattle.disc.proofs.NameLaws.{pack-char0, pack-char1, pack-char2, pack-char3, pack-char4, pack-char5}
 use Rattle.names.specs.Classes.{classOf}
-use Rattle.names.proofs.LegalLaws.{or-false}
 
 -- ---- the three classes
 
@@ -45,11 +45,7 @@ module _ (c : ℕ) (h : 65 ≤ c) where
       go false e = absurd (omega arith)
 
   pub letter-two : 1 < classOf c → letter c ≡ false
-  letter-two k = go (letter c) (from-A c h)
-    where
-      go : (b : Bool) → classOf c ≡ cond b 1 2 → b ≡ false
-      go true e = absurd (omega arith)
-      go false e = refl
+  letter-two k = never-true (letter c) (λ e. omega (arith, rw e at (from-A c h)))
 
 -- the three cases
 data Class (c : ℕ) : Type 0 where

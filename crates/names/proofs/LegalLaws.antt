@@ -1,7 +1,7 @@
 -- When a name is legal, character by character: while letters or digits come the rest decides, and from the first other
 -- character on all must be zeros, the sixth too.
 use mathlib.Core.Path.{_≡_, refl, ap, _∙_}
-use mathlib.Core.Bool.{Bool, true, false, _&&_, _||_}
+use mathlib.Core.Bool.{or-false, and-assoc, Bool, true, false, _&&_, _||_}
 use mathlib.Core.List.{List, [], _∷_}
 use Prim.Native.Nat.{ℕ, _/_, _%_}
 use native.Mathlib.Omega.{arith}
@@ -9,14 +9,6 @@ use lib.Dec.{eqb}
 use borrow.Author.Tests.{eq-eqb, ne-eqb}
 use Rattle.disc.specs.Names.{letter, digit, zeros, restLegal, legalName}
 use Rattle.disc.proofs.Compare.{same-or}
-
-pub or-false : (b : Bool) → b || false ≡ b
-or-false true = refl
-or-false false = refl
-
-and-assoc : (a b c : Bool) → (a && b) && c ≡ a && (b && c)
-and-assoc true b c = refl
-and-assoc false b c = refl
 
 -- a letter or digit is not 0
 not-zero : (c : ℕ) → letter c || digit c ≡ true → eqb c 0 ≡ false

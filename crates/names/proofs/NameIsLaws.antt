@@ -1,7 +1,6 @@
 -- Laws of `NameIs`: at most one name is a number's, and its words are the number's words.
 use mathlib.Core.Path.{_≡_, sym, _∙_}
 use Prim.Native.Nat.{ℕ}
-use native.Mathlib.Omega.{arith}
 use Rattle.types.specs.declared.Name.{Name}
 use Rattle.disc.proofs.NameLaws.{pack-injective}
 use Rattle.names.specs.NameIs.{NameIs}

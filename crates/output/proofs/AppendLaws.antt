@@ -1,11 +1,12 @@
 -- The slices of an append: what each write asks for, and the image and the index sector that they leave.
 use mathlib.Core.Path.{_≡_, refl, ap, ap₂, _∙_}
 use mathlib.Core.Bool.{Bool, true, false, cond, _||_}
-use mathlib.Core.List.{List, _++_}
-use Prim.Native.Nat.{ℕ, _*_, _≤_, _<_}
+use mathlib.Core.List.{List, [], _∷_, _++_}
+use mathlib.Core.Logic.{_≢_}
+use Prim.Native.Nat.{ℕ, suc, _*_, _≤_, _<_}
 use native.Mathlib.Omega.{arith}
 use lib.Dec.{leb, eqb}
-use lib.ListN.{length}
+use lib.ListN.{length, take}
 use borrow.Author.Tests.{le-ltb}
 use Rattle.disc.specs.Attributes.{extendable}
 use Rattle.disc.specs.Stretches.{stretchCount, sectorIn}
@@ -15,13 +16,12 @@ use Rattle.index.specs.Block.{wholeIndex, jointSector}
 use Rattle.catalog.specs.declared.Unit.{Unit}
 use Rattle.plain.specs.Table.{Table}
 use Rattle.plain.specs.Unit.{Plain, File, AreaUser, M, held, freeSlices}
-use Rattle.plain.specs.Transput.{slicesToTake}
+use Rattle.plain.specs.Questions.{Outcome, asks, either}
+use Rattle.plain.specs.Transput.{slicesToTake, refusedAt, transferred, rewritten, withFile, append, output}
 use Rattle.plain.proofs.KeepsTransput.{append-few}
 use Rattle.refine.specs.Writes.{countedFree, takenImage, extendedImage}
 use Rattle.refine.proofs.Ground.{ground, part-file}
-use Rattle.preservation.proofs.OutputStep.{extended-counts}
-use Rattle.preservation.proofs.OutputUnit.{Appends}
-use Rattle.preservation.proofs.OutputMessage.{appends-extends, appends-room, appends-few}
+use Rattle.preservation.proofs.OutputStep.{extended-counts, Appends, appends-extends, appends-room, appends-few}
 use Rattle.slices.specs.FileBlock.{FileBlock}
 use Rattle.slices.specs.Take.{CanLengthenFrom, CanLengthen, Lengthened}
 use Rattle.slices.proofs.BlockLaws.{index-told}
@@ -32,18 +32,31 @@ use Rattle.output.proofs.FileLaws.{file-block}
 
 -- ---- the questions
 
+-- At the live length the word of the questions is refused, or the block is appended.
+module _ (p q : Plain) (move : ℕ → Plain) (n : ℕ) (f : File) (k : ℕ) (lent : List ℕ) where
+  abbrev new-file : File
+  new-file = rewritten f (f .slices ++ appendSlices p f) (f .sectors ++ (take 256 lent ∷ []))
+
+  pub record Appending (word : ℕ) (o : Outcome) : Type 0 where
+    pub refused : word ≢ 0 → o ≡ refusedAt q word k lent
+    pub done : word ≡ 0 → (o ≡ transferred (withFile n new-file (move (suc k))) k lent) × Appends p f
+
+  pub appending : length (f .sectors) ≤ k → Appending (outputWord p f k) (output p q move n f k lent)
+  unfolding outputWord roomWord output append asks either
+  appending end =
+      rw (le-ltb k (length (f .sectors)) end)
+      (go (extendable (f .attributes)) (leb (slicesToTake (p .s) f) (freeSlices p)) (eqb (slicesToTake (p .s) f) 0 || leb (stretchCount (f .slices ++ appendSlices p f)) 127)
+      (λ x y z. record { extends = x; free = y; few = z }))
+    where
+      go : (a b c : Bool) → (a ≡ true → b ≡ true → c ≡ true → Appends p f) → Appending (cond a (cond b (cond c 0 0x0808) 0x0900) 0x0A00)
+          (asks a (refusedAt q 0x0A00 k lent) (asks b (refusedAt q 0x0900 k lent) (asks c (refusedAt q 0x0808 k lent) (transferred (withFile n new-file (move (suc k))) k lent))))
+      go true true true all = record { refused = λ d. absurd (d refl); done = λ z. (refl, all refl refl refl) }
+      go true true false all = record { refused = λ d. refl; done = λ z. absurd (omega arith) }
+      go true false c all = record { refused = λ d. refl; done = λ z. absurd (omega arith) }
+      go false b c all = record { refused = λ d. refl; done = λ z. absurd (omega arith) }
+
 pub appends : (p : Plain) (f : File) (k : ℕ) → length (f .sectors) ≤ k → outputWord p f k ≡ 0 → Appends p f
-unfolding outputWord roomWord
-appends p f k end z =
-    go (extendable (f .attributes)) (leb (slicesToTake (p .s) f) (freeSlices p)) (eqb (slicesToTake (p .s) f) 0 || leb (stretchCount (f .slices ++ appendSlices p f)) 127) refl refl refl
-    (rw (le-ltb k (length (f .sectors)) end) at z)
-  where
-    go : (a b c : Bool) → extendable (f .attributes) ≡ a → leb (slicesToTake (p .s) f) (freeSlices p) ≡ b → (eqb (slicesToTake (p .s) f) 0 || leb (stretchCount (f .slices ++ appendSlices p f)) 127) ≡ c
-        → _≡_ {A = ℕ} (cond a (cond b (cond c 0 0x0808) 0x0900) 0x0A00) 0 → Appends p f
-    go true true true e x y z = record { extends = e; free = x; few = y }
-    go true true false e x y z = absurd (omega arith)
-    go true false c e x y z = absurd (omega arith)
-    go false b c e x y z = absurd (omega arith)
+appends p f k end z = appending p p (λ _. p) 0 f k [] end .done z .1
 
 module _ {image : List ℕ} {o : Unit} {block : List ℕ} {count : ℕ} {p : Plain} {n : ℕ} {users : Table AreaUser} {f : File} (can : CanExtendFrom image o block count p n users f) where
   abbrev new : List ℕ

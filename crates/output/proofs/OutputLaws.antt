@@ -1,13 +1,13 @@
 -- Output by what the code finds: each answer is the plain unit's, and image and state are those of its unit.
 use mathlib.Core.Path.{_≡_, refl, sym, ap, _∙_, subst}
-use mathlib.Core.Bool.{Bool, true, false, cond, _||_}
+use mathlib.Core.Bool.{true, false, cond}
 use mathlib.Core.List.{List, [], _∷_, _++_}
 use mathlib.Core.Logic.{_≢_}
 use mathlib.Core.Option.{some}
 use Prim.Native.Nat.{ℕ, suc, _+_, _≤_, _<_}
 use native.Mathlib.Omega.{arith}
 use native.Mathlib.Numerals.{add-one}
-use lib.Dec.{leb, ltb, eqb}
+use lib.Dec.{ltb, eqb}
 use lib.ListN.{length, take, length-set, length-append}
 use lib.Seq.{length-take-le}
 use borrow.Author.Tests.{lt-ltb, le-ltb, ne-eqb}
@@ -18,7 +18,6 @@ use Rattle.types.specs.State.{areaAt}
 use Rattle.disc.specs.Numbers.{need}
 use Rattle.disc.specs.Words.{Words}
 use Rattle.disc.specs.Attributes.{extendable}
-use Rattle.disc.specs.Stretches.{stretchCount}
 use Rattle.disc.specs.Entries.{indexSector}
 use Rattle.disc.proofs.Compare.{same-or, below-or}
 use Rattle.index.specs.Block.{wholeIndex, sliceTotal}
@@ -26,29 +25,27 @@ use Rattle.catalog.specs.declared.Unit.{Unit}
 use Rattle.disc.specs.Names.{packed}
 use Rattle.state.specs.Areas.{setArea, moved, withLive}
 use Rattle.plain.specs.Table.{tableFind}
-use Rattle.plain.specs.Unit.{Plain, File, freeSlices, held}
+use Rattle.plain.specs.Unit.{Plain, File, held}
 use Rattle.plain.specs.Areas as plain
-use Rattle.plain.specs.Transput.{oneIf, slicesToTake, refusedAt, output, rewritten, withFile}
+use Rattle.plain.specs.Transput.{oneIf, slicesToTake, output, rewritten, withFile}
 use Rattle.plain.proofs.TableLaws.{find-put}
-use Rattle.plain.proofs.QuestionLaws.{either-yes}
+use Rattle.plain.proofs.QuestionLaws.{true-yes, either-yes}
 use Rattle.refine.specs.Represents.{SameAreas}
 use Rattle.refine.specs.OnDisc.{OnDisc}
 use Rattle.refine.specs.Writes.{replacedImage, appendedImage, extendedImage}
-use Rattle.refine.proofs.LeavesLaws.{leaves}
+use Rattle.refine.proofs.LeavesLaws.{leaves, leaves-by}
 use Rattle.refine.proofs.StateLaws.{named-name, same-index}
 use Rattle.refine.proofs.Ground.{length-small, ground}
-use Rattle.preservation.proofs.Whole.{on-disc, represents}
+use Rattle.preservation.proofs.Whole.{on-disc, stand-for}
 use Rattle.preservation.proofs.AreaMessages.{area-found, sender-found, output-areas, replace-areas, area-set}
-use Rattle.preservation.proofs.OutputStep.{wordsThere, extended-on, appended-stored}
-use Rattle.preservation.proofs.OutputUnit.{transputAt, replace-done, append-fixed, append-full, append-many, append-done, Appends}
-use Rattle.preservation.proofs.OutputMessage.{replaced-on, appended-on, appends-extends, appends-room, appends-few}
+use Rattle.preservation.proofs.OutputStep.{wordsThere, extended-on, appended-stored, replaced-on, appended-on, appends-extends, appends-room, appends-few}
 use Rattle.lookup.specs.Unit.{Searchable}
 use Rattle.lookup.specs.Files.{BlockOf}
 use Rattle.lookup.proofs.UnitLaws.{searchable}
 use Rattle.slices.specs.Take.{CanTake}
 use Rattle.area_users.specs.declared.AreaReply.{AreaReply}
 use Rattle.area_users.specs.AreaUsers.{areaReply, atPosition}
-use Rattle.refine.specs.Leaves.{Leaves}
+use Rattle.refine.specs.Leaves.{Leaves, StandFor}
 use Rattle.area_users.specs.Seat.{areaUsers, areaUser}
 use Rattle.area_users.proofs.UserLaws.{seat-size, seat-low}
 use Rattle.blocks.specs.Blocks.{AttributesOf, BlockFrom, SomeBlock, BlockReplaced}
@@ -56,7 +53,7 @@ use Rattle.blocks.proofs.BlockLaws.{file-attributes}
 use Rattle.preservation.specs.Units.{appendSlices}
 use Rattle.output.specs.Output.{roomWord, RoomFor, CanExtendFrom, ExtendedBy, Placed, SomePlaced, outputWord, outputImage, outputState, preparedImage, outputReply, Prepares, OutputLeaves, Outputs}
 use Rattle.output.proofs.FileLaws.{total-small, more-is, can-take}
-use Rattle.output.proofs.AppendLaws.{appends}
+use Rattle.output.proofs.AppendLaws.{appending, appends}
 
 -- ---- the three ways of Output
 
@@ -134,61 +131,38 @@ module _ {image : List ℕ} {state : State} {o : Unit} {p q : Plain} {n j sender
     abbrev move : ℕ → Plain
     move = plain.moved p n sender (areaUsers state j) (areaUser state j u)
 
-    -- Output is transput with operation 3
-    is-output : output p q move n f k lent ≡ transputAt p n sender (areaUsers state j) (areaUser state j u) f 3 lent q k
-    is-output = sym (either-yes _ _ _ tt)
-
-    word-refuses : length (f .sectors) ≤ k → outputWord p f k ≢ 0 → output p q move n f k lent ≡ refusedAt q (outputWord p f k) k lent
-    unfolding roomWord
-    word-refuses x d =
-        let w = word-end p f k x in
-        is-output ∙ go (extendable (f .attributes)) (leb (slicesToTake (p .s) f) (freeSlices p)) (eqb (slicesToTake (p .s) f) 0 || leb (stretchCount (f .slices ++ appendSlices p f)) 127) refl refl refl (λ z. d (w ∙ z))
-        ∙ ap (λ (y : ℕ). refusedAt q y k lent) (sym w)
-      where
-        past : ltb k (length (f .sectors)) ≡ false
-        past = le-ltb k (length (f .sectors)) x
-
-        go : (a b c : Bool) → extendable (f .attributes) ≡ a → leb (slicesToTake (p .s) f) (freeSlices p) ≡ b → (eqb (slicesToTake (p .s) f) 0 || leb (stretchCount (f .slices ++ appendSlices p f)) 127) ≡ c
-            → (_≡_ {A = ℕ} (cond a (cond b (cond c 0 0x0808) 0x0900) 0x0A00) 0 → ⊥)
-            → transputAt p n sender (areaUsers state j) (areaUser state j u) f 3 lent q k ≡ refusedAt q (cond a (cond b (cond c 0 0x0808) 0x0900) 0x0A00) k lent
-        go true true true e y z d = absurd (d refl)
-        go true true false e y z d = append-many p n sender (areaUsers state j) (areaUser state j u) f 3 lent q k refl past e y z
-        go true false c e y z d = append-full p n sender (areaUsers state j) (areaUser state j u) f 3 lent q k refl past e y
-        go false b c e y z d = append-fixed p n sender (areaUsers state j) (areaUser state j u) f 3 lent q k refl past e
-
     -- answer and lent words are the outcome's, image and state those of its unit
     Left : AreaReply → List ℕ → Type 0
-    Left r after = Leaves (output p q move n f k lent) (r .answer) lent after (r .state)
+    Left r after = Leaves (output p q move n f k lent) (r .answer) lent (StandFor after (r .state))
 
     refused : length (f .sectors) ≤ k → outputWord p f k ≢ 0 → Left (areaReply (atPosition state j u k) (outputWord p f k) 0 k) image
     unfolding Left
-    refused x d = leaves (word-refuses x d) (at .good) (at .represents)
+    refused x d = leaves (appending p q move n f k lent x .refused d) (at .good) (at .represents)
 
     module _ (long : 256 ≤ length lent) (words : Words lent) where
       replaced : k < length (f .sectors) → Left (areaReply (atPosition state j u (suc k)) 0 512 k) (replacedImage p image f k (take 256 lent))
-      unfolding Left
+      unfolding Left output
       replaced x =
-          let on = replaced-on placed-on n sender placed-live placed-user (at .seat .file) k lent long words x in
-          leaves (is-output ∙ replace-done p n sender (areaUsers state j) (areaUser state j u) f 3 lent q k refl (lt-ltb k (length (f .sectors)) x)) (on .good)
-          (represents on (replace-areas same n j (at .seat .named) sender (at .seat .nonzero) u (at .seat .entry) f (at .seat .file) _ (length-set (f .sectors) k (take 256 lent)) (record { 0 = suc k })))
+          leaves-by (either-yes _ _ _ (true-yes (lt-ltb k (length (f .sectors)) x)))
+          (stand-for (replaced-on placed-on n sender placed-live placed-user (at .seat .file) k lent long words x) (replace-areas same n j (at .seat .named) sender (at .seat .nonzero) u (at .seat .entry) f (at .seat .file) _ (length-set (f .sectors) k (take 256 lent)) (record { 0 = suc k })))
 
-      appended : length (f .sectors) ≤ k → Appends p f
+      appended : length (f .sectors) ≤ k → outputWord p f k ≡ 0
           → let slices : List ℕ = f .slices ++ appendSlices p f in
           Left (areaReply (setArea state j (withLive (moved (areaAt state j) u (record { 0 = suc k })) (record { 0 = indexSector (p .F) (p .s) (length slices) slices }) (suc (length (f .sectors))))) 0 512 k)
           (appendedImage p image f (appendSlices p f) (take 256 lent))
       unfolding Left
-      appended x a =
+      appended x z =
+          let a = appending p q move n f k lent x .done z in
           let sectors : List (List ℕ) = f .sectors ++ (take 256 lent ∷ []) in
           let more : suc (length (f .sectors)) ≡ length sectors = omega (arith, length-append (f .sectors) (take 256 lent ∷ [])) in
-          let on = appended-on placed-on n sender placed-live placed-user (at .seat .file) k lent long words (at .low) a in
-          leaves (is-output ∙ append-done p n sender (areaUsers state j) (areaUser state j u) f 3 lent q k refl (le-ltb k (length (f .sectors)) x) a) (on .good)
-          (represents on (output-areas same n j (at .seat .named) sender (at .seat .nonzero) u (at .seat .entry) f (f .slices ++ appendSlices p f) sectors (record { 0 = suc k }) _ _ refl more))
+          leaves-by (a .0)
+          (stand-for (appended-on placed-on n sender placed-live placed-user (at .seat .file) k lent long words (at .low) (a .1)) (output-areas same n j (at .seat .named) sender (at .seat .nonzero) u (at .seat .entry) f (f .slices ++ appendSlices p f) sectors (record { 0 = suc k }) _ _ refl more))
 
       outcome : Left (outputReply p f state j u k) (outputImage p image f (outputWord p f k) k lent)
       outcome = below-or k (length (f .sectors))
           (λ x. let w = way-below p f k image lent state j u x in rw (w .replyIs, w .afterIs) (replaced x))
           (λ x. same-or (outputWord p f k) 0
-          (λ z. let w = way-end p f k image lent state j u x z in rw (w .replyIs, w .afterIs) (appended x (appends p f k x z)))
+          (λ z. let w = way-end p f k image lent state j u x z in rw (w .replyIs, w .afterIs) (appended x z))
           (λ d. let w = way-refused p f k image lent state j u d in rw (w .replyIs, w .afterIs, ne-eqb (outputWord p f k) 0 d) (refused x d)))
 
       pub output-leaves : OutputLeaves image state p q n j sender u f k lent (outputReply p f state j u k) (outputImage p image f (outputWord p f k) k lent)

@@ -26,7 +26,7 @@ use Rattle.refine.specs.Writes.{replacedImage, appendedImage, extendedImage}
 use Rattle.lookup.specs.Unit.{NumbersOf}
 use Rattle.area_users.specs.declared.AreaReply.{AreaReply}
 use Rattle.area_users.specs.AreaUsers.{atPosition, areaReply}
-use Rattle.refine.specs.Leaves.{Leaves}
+use Rattle.refine.specs.Leaves.{Leaves, StandFor}
 use Rattle.area_users.specs.Seat.{Seat, areaUsers, areaUser}
 use Rattle.preservation.specs.Units.{appendSlices}
 
@@ -131,7 +131,7 @@ pub record Prepares (image : List ℕ) (state : State) (o : Unit) (j u k : ℕ) 
 pub record OutputLeaves (image : List ℕ) (state : State) (p q : Plain) (n j sender u : ℕ) (f : File) (k : ℕ) (lent : List ℕ)
     (r : AreaReply) (after : List ℕ) : Type 0 where
   pub leaves : Leaves (output p q (plain.moved p n sender (areaUsers state j) (areaUser state j u)) n f k lent)
-      (r .answer) lent after (r .state)
+      (r .answer) lent (StandFor after (r .state))
   pub block : r .answer .block .0 ≡ k
   pub written : after ≡ outputImage p image f (r .answer .result) k lent
   pub reached : r .state ≡ outputState p f state j u (r .answer .result) k

@@ -18,19 +18,18 @@ use Rattle.types.specs.State.{UnitKnown}
 use Rattle.disc.specs.Words.{Words}
 use Rattle.catalog.specs.declared.Unit.{Unit}
 use Rattle.plain.specs.Unit.{Plain}
-use Rattle.plain.specs.Questions.{Outcome, answer, replies, known, done}
+use Rattle.plain.specs.Questions.{Outcome, answer, known, done}
 use Rattle.plain.specs.Step.{step, reply}
 use Rattle.plain.specs.Good.{Good}
-use Rattle.plain.proofs.Keeps.{step-keeps}
 use Rattle.plain.proofs.QuestionLaws.{true-yes, asks-yes}
 use Rattle.state.specs.Areas.{initialized}
 use Rattle.refine.specs.Represents.{Represents}
-use Rattle.refine.specs.Replies.{Replies, refused, written}
 use Rattle.refine.proofs.StateLaws.{same-none}
 use Rattle.preservation.proofs.Whole.{on-disc}
 use Rattle.lookup.specs.Unit.{NumbersOf, MeantOn, Meant}
 use Rattle.lookup.specs.LookUp.{LooksUp}
-use Rattle.refine.specs.Leaves.{Leaves}
+use Rattle.refine.specs.Leaves.{Leaves, StandFor}
+use Rattle.refine.proofs.LeavesLaws.{decided-cases}
 use Rattle.create.specs.Create.{CreateStep, Creates, SetStep, Sets}
 use Rattle.create.proofs.CreateSteps.{create-represents, set-represents}
 use Rattle.remove.specs.Remove.{RemoveStep, Removes}
@@ -44,7 +43,7 @@ use Rattle.reports.specs.Description.{Describes}
 use Rattle.reports.specs.Listing.{Lists}
 use Rattle.area_messages.specs.AreaMessages.{AreaMessages}
 use Rattle.area_users.specs.declared.AreaReply.{AreaReply}
-use Rattle.perform.proofs.StateKept.{Kept, state-kept}
+use Rattle.perform.proofs.StateKept.{Kept, kept-same, state-kept}
 use Rattle.first_question.specs.Known.{unitMeant, Known}
 use Rattle.perform.specs.Perform.{performed, Wrote, Obeyed, CanObey, Obeys}
 
@@ -77,18 +76,14 @@ module _ {image : List ℕ} {state : State} {p : Plain} (g : Good p) (r : Repres
 
   -- a result word alone
   steps : (message : Message) (lent : List ℕ) {after : List ℕ} {next : State} {result : ℕ} → next .unit ≡ state .unit → next .initialized ≡ true
-      → Wrote p image state message lent (performed after next (answer result 0 0 0) lent) → Leaves (step p message lent) (answer result 0 0 0) lent after next → Obeyed p image state message lent (record { image = after; state = next; answer = answer result 0 0 0; lent = lent })
+      → Wrote p image state message lent (performed after next (answer result 0 0 0) lent) → Leaves (step p message lent) (answer result 0 0 0) lent (StandFor after next) → Obeyed p image state message lent (record { image = after; state = next; answer = answer result 0 0 0; lent = lent })
   steps message lent u i w s = record {
     wrote = w;
     same = sym (ap reply (s .answered));
-    represents = s .represents;
+    represents = s .left .represents;
     number = u;
     initialized = i;
   }
-
-  replied : {o : Outcome} {lent : List ℕ} {result : ℕ} {Same : Type 0} {Written : Plain → Type 0} → Replies p o lent result Same Written → o ≡ replies (o .unit) result lent
-  replied {o} {lent} {result} (refused nz e same) = e ∙ sym (ap (λ (x : Outcome). replies (x .unit) result lent) e)
-  replied {o} {lent} {result} (written z q e w) = e ∙ ap (λ (k : ℕ). replies q k lent) (sym z) ∙ sym (ap (λ (x : Outcome). replies (x .unit) result lent) e)
 
   pub look-up-obeyed : {o : Unit} {name : Name} {lent after : List ℕ} {result : ℕ} → NumbersOf o p → Known state (LookUp name) → LooksUp image o name lent result after
       → Obeyed p image state (LookUp name) lent (record { image = image; state = state; answer = answer result 0 0 0; lent = after })
@@ -104,21 +99,17 @@ module _ {image : List ℕ} {state : State} {p : Plain} (g : Good p) (r : Repres
 
   -- each message by its step on the unit p, and by its contract
 
-  pub create-by : {name : Name} {size attributes : ℕ} {lent after : List ℕ} {result : ℕ} → Words lent → Known state (Create name size attributes)
+  pub create-by : {name : Name} {size attributes : ℕ} {lent after : List ℕ} {result : ℕ} → Known state (Create name size attributes)
       → CreateStep p image name size attributes after result → Obeyed p image state (Create name size attributes) lent (record { image = after; state = state; answer = answer result 0 0 0; lent = lent })
-  create-by {name = name} {size = size} {attributes = attributes} {lent = lent} w k s =
-      steps (Create name size attributes) lent refl (k .ready) (s, refl)
-      (record { answered = replied (s .step lent); good = step-keeps p (Create name size attributes) lent g w; represents = create-represents s lent g r })
+  create-by {name = name} {size = size} {attributes = attributes} {lent = lent} k s = steps (Create name size attributes) lent refl (k .ready) (s, refl) (create-represents g r s lent)
 
-  pub create-obeyed : {o : Unit} {name : Name} {size attributes : ℕ} {lent after : List ℕ} {result : ℕ} → Words lent → NumbersOf o p → Known state (Create name size attributes)
+  pub create-obeyed : {o : Unit} {name : Name} {size attributes : ℕ} {lent after : List ℕ} {result : ℕ} → NumbersOf o p → Known state (Create name size attributes)
       → Creates image o name size attributes after result → Obeyed p image state (Create name size attributes) lent (record { image = after; state = state; answer = answer result 0 0 0; lent = lent })
-  create-obeyed w n k c = create-by w k (c .all p (on-disc g r) n (own k))
+  create-obeyed n k c = create-by k (c .all p (on-disc g r) n (own k))
 
   pub set-by : {name : Name} {lent after : List ℕ} {result : ℕ} → Words lent → Known state (Set name) → SetStep p image name lent after result
       → Obeyed p image state (Set name) lent (record { image = after; state = state; answer = answer result 0 0 0; lent = lent })
-  set-by {name = name} {lent = lent} w k s =
-      steps (Set name) lent refl (k .ready) (s, refl)
-      (record { answered = replied (s .step); good = step-keeps p (Set name) lent g w; represents = set-represents s w g r })
+  set-by {name = name} {lent = lent} w k s = steps (Set name) lent refl (k .ready) (s, refl) (set-represents g r s w)
 
   pub set-obeyed : {o : Unit} {name : Name} {lent after : List ℕ} {result : ℕ} → Words lent → NumbersOf o p → Known state (Set name) → Sets image o name lent after result
       → Obeyed p image state (Set name) lent (record { image = after; state = state; answer = answer result 0 0 0; lent = lent })
@@ -143,13 +134,12 @@ module _ {image : List ℕ} {state : State} {p : Plain} (g : Good p) (r : Repres
   pub create-area-by : {name : Name} {lent : List ℕ} {d : AreaDone} → Known state (CreateArea name) → CreateAreaStep p state name d
       → Obeyed p image state (CreateArea name) lent (record { image = image; state = d .state; answer = answer (d .result) 0 0 0; lent = lent })
   create-area-by {name = name} {lent = lent} {d = d} k s =
-      let e = kept (s .step lent) in
-      steps (CreateArea name) lent (e .0) (e .1 ∙ k .ready) (refl, s) (create-area-stepped g r s lent)
+      let e = decided-cases (λ u same. kept-same same) kept (s .step lent .left) in
+      steps (CreateArea name) lent (e .unit) (e .initialized ∙ k .ready) (refl, s) (create-area-stepped g r s lent)
     where
-      kept : {o : Outcome} {n : ℕ} → Replies p o lent (d .result) (d .state ≡ state) (AreaCreated p state n (d .state)) → (d .state .unit ≡ state .unit) × (d .state .initialized ≡ state .initialized)
-      kept (refused nz e same) = (ap (λ (x : State). x .unit) same, ap (λ (x : State). x .initialized) same)
-      kept (written z q e (dummyCreate a same)) = (ap (λ (x : State). x .unit) same, ap (λ (x : State). x .initialized) same)
-      kept (written z q e (made m)) = (ap (λ (x : State). x .unit) (m .left), ap (λ (x : State). x .initialized) (m .left))
+      kept : {n : ℕ} {q : Plain} → AreaCreated p state n (d .state) q → Kept state (d .state)
+      kept (dummyCreate a same) = kept-same same
+      kept (made m) = rw (m .left) (record { unit = refl; initialized = refl })
 
   pub create-area-obeyed : {o : Unit} {name : Name} {lent : List ℕ} {d : AreaDone} → NumbersOf o p → Known state (CreateArea name) → CreatesArea image o state name d
       → Obeyed p image state (CreateArea name) lent (record { image = image; state = d .state; answer = answer (d .result) 0 0 0; lent = lent })
@@ -158,14 +148,12 @@ module _ {image : List ℕ} {state : State} {p : Plain} (g : Good p) (r : Repres
   pub remove-area-by : {name : Name} {lent after : List ℕ} {d : AreaDone} → Known state (RemoveArea name) → RemoveAreaStep p image state name after d
       → Obeyed p image state (RemoveArea name) lent (record { image = after; state = d .state; answer = answer (d .result) 0 0 0; lent = lent })
   remove-area-by {name = name} {lent = lent} {after = after} {d = d} k s =
-      let e = kept (s .step lent) in
-      steps (RemoveArea name) lent (e .0) (e .1 ∙ k .ready) s (remove-area-stepped g r s lent)
+      let e = decided-cases (λ u same. kept-same (same .1)) kept (s .step lent .left) in
+      steps (RemoveArea name) lent (e .unit) (e .initialized ∙ k .ready) s (remove-area-stepped g r s lent)
     where
-      kept : {o : Outcome} {n : ℕ} → Replies p o lent (d .result) ((after ≡ image) × (d .state ≡ state)) (AreaRemoved p image state n after (d .state))
-          → (d .state .unit ≡ state .unit) × (d .state .initialized ≡ state .initialized)
-      kept (refused nz e same) = (ap (λ (x : State). x .unit) (same .1), ap (λ (x : State). x .initialized) (same .1))
-      kept (written z q e (dummyRemove a b same)) = (ap (λ (x : State). x .unit) same, ap (λ (x : State). x .initialized) same)
-      kept (written z q e (books m)) = (ap (λ (x : State). x .unit) (m .left), ap (λ (x : State). x .initialized) (m .left))
+      kept : {n : ℕ} {q : Plain} → AreaRemoved p image state n after (d .state) q → Kept state (d .state)
+      kept (dummyRemove a b same) = kept-same same
+      kept (books m) = rw (m .left) (record { unit = refl; initialized = refl })
 
   pub remove-area-obeyed : {o : Unit} {name : Name} {lent after : List ℕ} {d : AreaDone} → NumbersOf o p → Known state (RemoveArea name) → RemovesArea image o state name after d
       → Obeyed p image state (RemoveArea name) lent (record { image = after; state = d .state; answer = answer (d .result) 0 0 0; lent = lent })
@@ -180,7 +168,7 @@ module _ {image : List ℕ} {state : State} {p : Plain} (g : Good p) (r : Repres
       record {
         wrote = a;
         same = sym (ap reply (a .leaves .answered));
-        represents = a .leaves .represents;
+        represents = a .leaves .left .represents;
         number = e .unit;
         initialized = e .initialized ∙ k .ready;
       }

@@ -32,6 +32,9 @@ pub record Kept (state next : State) : Type 0 where
 same : (state : State) → Kept state state
 same state = record { unit = refl; initialized = refl }
 
+pub kept-same : {state next : State} → next ≡ state → Kept state next
+kept-same {state} e = rw e (same state)
+
 other : (state : State) (j : ℕ) (area : Area) → Kept state (setArea state j area)
 other state j area = record { unit = refl; initialized = refl }
 

@@ -1,6 +1,5 @@
 -- Laws of any good catalog: its files beside other areas, a file put, changed or removed, and more layers.
-use mathlib.Core.Path.{_≡_, refl, sym, _∙_, subst}
-use mathlib.Core.Bool.{not}
+use mathlib.Core.Path.{_≡_, refl, sym, _∙_}
 use mathlib.Core.List.{List, _++_}
 use mathlib.Core.Logic.{_≢_}
 use mathlib.Core.Option.{none, some}
@@ -8,13 +7,12 @@ use Prim.Native.Nat.{ℕ, zero, suc, _+_, _*_, _-_, _≤_, _<_}
 use native.Mathlib.Omega.{arith}
 use native.Mathlib.Nat.{mul-le-mul-left}
 use lib.ListN.{length, length-append}
-use lib.Dec.{T}
 use Rattle.disc.specs.Stretches.{stretchCount}
-use Rattle.disc.specs.Catalog.{Catalog, isOneOf, slicesFor, slicesNeeded}
+use Rattle.disc.specs.Catalog.{Catalog, slicesFor, slicesNeeded}
 use Rattle.disc.proofs.Compare.{same-or}
 use Rattle.disc.proofs.NumberLaws.{ceilDiv-mono}
 use Rattle.disc.proofs.Geometry.{ceil-cover}
-use Rattle.plain.specs.Table.{Table, tableFind, tablePut, tableRemove}
+use Rattle.plain.specs.Table.{Table, tableFind, tablePut, tableRemove, Every}
 use Rattle.plain.specs.Unit.{File, AreaUser}
 use Rattle.plain.specs.Taking.{placesTaken}
 use Rattle.plain.specs.Good.{GoodFile, GoodCatalog}
@@ -25,21 +23,7 @@ use Rattle.plain.proofs.TakingLaws.{places-again, places-remove}
 -- a file in a catalog with the same reserved names, beside other areas, where none that is open is closed
 pub file-beside : {c d : Catalog} {s : ℕ} {old new : Table (Table AreaUser)} {n : ℕ} {f : File} → GoodFile c s old n f → c .reserved ≡ d .reserved
     → (tableFind n new ≡ none → tableFind n old ≡ none) → GoodFile d s new n f
-file-beside {n = n} g e h = record {
-  name = g .name;
-  ordinary = subst (λ (l : List ℕ). T (not (isOneOf l n))) e (g .ordinary);
-  attributes = g .attributes;
-  entryOnly = g .entryOnly;
-  optional = g .optional;
-  tail = g .tail;
-  sectors = g .sectors;
-  covered = g .covered;
-  few = g .few;
-  bookedLow = g .bookedLow;
-  bookedSlicesLow = g .bookedSlicesLow;
-  bookedCovered = g .bookedCovered;
-  closed = λ z. g .closed (h z);
-}
+file-beside {n = n} g e h = search (rw e at (g .ordinary), g .closed)
 
 -- ---- the slices of so many blocks
 
@@ -64,35 +48,19 @@ module _ {H s : ℕ} {c : Catalog} {areas : Table (Table AreaUser)} {files : Tab
 
   -- beside other areas, where none that is open is closed
   pub catalog-beside : (new : Table (Table AreaUser)) → ((n : ℕ) → tableFind n new ≡ none → tableFind n areas ≡ none) → GoodCatalog H s c new files
-  catalog-beside new h = record {
-    layered = g .layered;
-    count = g .count;
-    few = g .few;
-    names = g .names;
-    chains = g .chains;
-    files = λ n f e. file-beside (g .files n f e) refl (h n);
-  }
+  catalog-beside new h =
+      let table : Every (GoodFile c s new) files = λ n f e. file-beside (g .files n f e) refl (h n) in
+      search
 
   -- a name has the file f
   pub catalog-placed : (n : ℕ) (f : File) → ((k : ℕ) → placesTaken H k c (tablePut n f files) ≤ 16 * c .layers) → GoodFile c s areas n f → GoodCatalog H s c areas (tablePut n f files)
-  catalog-placed n f chains good = record {
-    layered = g .layered;
-    count = g .count;
-    few = g .few;
-    names = sorted-put 0 n f files (legal-positive n (good .name)) (g .names);
-    chains = chains;
-    files = every-put (GoodFile c s areas) n f files (g .files) good;
-  }
+  catalog-placed n f chains good = search (sorted-put 0 n f files (legal-positive n (good .name)), every-put (GoodFile c s areas) n f files)
 
   pub catalog-removed : (n : ℕ) → GoodCatalog H s c areas (tableRemove n files)
-  catalog-removed n = record {
-    layered = g .layered;
-    count = g .count;
-    few = g .few;
-    names = sorted-remove 0 n files (g .names);
-    chains = λ k. omega (arith, g .chains k, places-remove H k c n files);
-    files = λ k f h. g .files k f (remove-some k n 0 files f (g .names) h .1);
-  }
+  catalog-removed n =
+      let chains : (k : ℕ) → placesTaken H k c (tableRemove n files) ≤ 16 * c .layers = λ k. omega (arith, g .chains k, places-remove H k c n files) in
+      let table : Every (GoodFile c s areas) (tableRemove n files) = λ k f h. g .files k f (remove-some k n 0 files f (g .names) h .1) in
+      search (sorted-remove 0 n files)
 
   -- another file in the place of one, where the areas of other names stay
   pub catalog-changed : (n : ℕ) (f f′ : File) (new : Table (Table AreaUser)) → tableFind n files ≡ some f → GoodFile c s new n f′

@@ -1,13 +1,13 @@
 -- A table collected from an array: each place holds a row or none, and no two hold the same key.
 use mathlib.Core.Path.{_≡_, refl, sym, ap, _∙_}
+use mathlib.Core.Bool.{Bool, true, false, cond}
 use mathlib.Core.List.{[]}
 use mathlib.Core.Option.{Option, none, some}
-use mathlib.Core.Logic.{_≢_}
 use Prim.Native.Nat.{ℕ, zero, suc, _+_, _≤_, _<_}
 use native.Mathlib.Omega.{arith}
 use Rattle.disc.proofs.Compare.{same-or}
 use Rattle.plain.specs.Table.{Row, Table, tableFind, tablePut, SortedFrom, total}
-use Rattle.plain.proofs.TableLaws.{some≢none, some-inj, find-put, find-put-other, sorted-put, total-put, weightAt}
+use Rattle.plain.proofs.TableLaws.{some≢none, some-inj, never-some, find-put, find-put-other, sorted-put, total-put, weightAt}
 
 -- f 0 + .. + f (n - 1)
 unfoldable pub sumBelow : ℕ → (ℕ → ℕ) → ℕ
@@ -27,6 +27,28 @@ module _ {A : Type 0} where
   abbrev pub collect : (ℕ → Option (Row A)) → ℕ → Table A
   collect c zero = []
   collect c (suc n) = add (c n) (collect c n)
+
+  -- a row where a test says so; none of the key 0
+  abbrev pub rowIf : Bool → ℕ → A → Option (Row A)
+  rowIf b zero a = none
+  rowIf b (suc n) a = cond b (some (record { key = suc n; val = a })) none
+
+  pub record IsRow (b : Bool) (n : ℕ) (a : A) (r : Row A) : Type 0 where
+    pub given : b ≡ true
+    pub key : n ≡ r .key
+    pub val : a ≡ r .val
+    pub positive : 0 < n
+
+  pub row-some : (b : Bool) (n : ℕ) (a : A) (r : Row A) → rowIf b n a ≡ some r → IsRow b n a r
+  row-some b zero a r e = absurd (some≢none (sym e))
+  row-some false (suc n) a r e = absurd (some≢none (sym e))
+  row-some true (suc n) a r e =
+      let q = some-inj e in
+      record { given = refl; key = ap (λ (x : Row A). x .key) q; val = ap (λ (x : Row A). x .val) q; positive = omega arith }
+
+  pub row-is : (b : Bool) (n : ℕ) (a : A) → b ≡ true → 0 < n → rowIf b n a ≡ some (record { key = n; val = a })
+  row-is b zero a e h = absurd (omega arith)
+  row-is b (suc n) a e h = rw e
 
   abbrev pub weightIf : (Row A → ℕ) → Option (Row A) → ℕ
   weightIf w none = 0
@@ -60,9 +82,11 @@ module _ {A : Type 0} where
             (λ d. up (ih (sym (find-put-other k (r .key) (r .val) (collect c n) d) ∙ q)))
 
     module _ (N : ℕ) (alone : (t u : ℕ) (r s : Row A) → t < N → u < N → c t ≡ some r → c u ≡ some s → r .key ≡ s .key → t ≡ u) where
-      fresh : (n : ℕ) → n < N → (r : Row A) → c n ≡ some r → (o : Option A) → tableFind (r .key) (collect c n) ≡ o → o ≡ none
-      fresh n x r e none h = refl
-      fresh n x r e (some a) h = let y = collect-find n (r .key) a h in absurd (let z : n ≡ y .0 = alone n (y .0) r (record { key = r .key; val = a }) x (omega (arith, y .1)) e (y .2) refl in omega (arith, y .1))
+      fresh : (n : ℕ) → n < N → (r : Row A) → c n ≡ some r → tableFind (r .key) (collect c n) ≡ none
+      fresh n x r e = never-some (tableFind (r .key) (collect c n)) (λ a h.
+          let y = collect-find n (r .key) a h in
+          let z : n ≡ y .0 = alone n (y .0) r (record { key = r .key; val = a }) x (omega (arith, y .1)) e (y .2) refl in
+          omega (arith, y .1))
 
       pub find-collect : (n : ℕ) → n ≤ N → (t : ℕ) (r : Row A) → t < n → c t ≡ some r → tableFind (r .key) (collect c n) ≡ some (r .val)
       find-collect zero le t r x e = absurd (omega arith)
@@ -81,4 +105,4 @@ module _ {A : Type 0} where
         where
           go : (o : Option (Row A)) → c n ≡ o → total w (collect c n) ≡ sumBelow n (λ t. weightIf w (c t)) → total w (add o (collect c n)) ≡ sumBelow n (λ t. weightIf w (c t)) + weightIf w o
           go none h ih = omega arith
-          go (some r) h ih = omega (arith, total-put w (r .key) (r .val) (collect c n), ap (weightAt w (r .key)) (fresh n (omega arith) r h (tableFind (r .key) (collect c n)) refl))
+          go (some r) h ih = omega (arith, total-put w (r .key) (r .val) (collect c n), ap (weightAt w (r .key)) (fresh n (omega arith) r h))

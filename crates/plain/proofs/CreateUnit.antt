@@ -15,12 +15,12 @@ use Rattle.disc.specs.Slices.{occurrences, InRangeOnce, taken}
 use Rattle.disc.specs.Stretches.{stretchCount}
 use Rattle.disc.specs.Catalog.{Catalog, isReserved}
 use Rattle.disc.proofs.SliceLaws.{occurrences-append, taken-law, length-taken}
-use Rattle.plain.specs.Table.{Table, tableFind, tablePut, isSome}
+use Rattle.plain.specs.Table.{Table, tableFind, tablePut, isSome, Every}
 use Rattle.plain.specs.Unit.{Plain, File, AreaUser, M, held, slicesOf, freeSlices, entry, withTables, withFiles, sysOf}
 use Rattle.plain.specs.Questions.{done}
 use Rattle.plain.specs.Taking.{placesTaken, layersFor, zeroSectors}
 use Rattle.plain.specs.Catalog.{newFile}
-use Rattle.plain.specs.Good.{Good, GoodCatalog, GoodFile, WordsOf}
+use Rattle.plain.specs.Good.{Good, GoodCatalog, GoodFile, GoodArea, WordsOf}
 use Rattle.plain.proofs.TableLaws.{weightAt, find-put-other, total-put}
 use Rattle.plain.proofs.QuestionLaws.{asks-yes, not-some}
 use Rattle.plain.proofs.AttributeLaws.{given-legal}
@@ -38,21 +38,9 @@ pub booked-good : (c : Catalog) (s : ℕ) (areas : Table (Table AreaUser)) (n : 
     → T (legalWith (f .attributes) (f .bookedSlices)) → WordsOf 3 (f .optional) → WordsOf 6 (f .tail)
     → ((b : ℕ) → b < length (f .sectors) → WordsOf 256 (getD (f .sectors) b [])) → length (f .sectors) ≡ f .booked → f .bookedSlices ≡ length (f .slices)
     → need s (f .booked) ≤ f .bookedSlices → stretchCount (f .slices) ≤ 127 → GoodFile c s areas n f
-booked-good c s areas n f legal ordinary attributes only optional tail sectors size count covered few = record {
-  name = legal;
-  ordinary = ordinary;
-  attributes = attributes;
-  entryOnly = rw (← count) only;
-  optional = optional;
-  tail = tail;
-  sectors = sectors;
-  covered = rw (size, ← count) covered;
-  few = few;
-  bookedLow = omega arith;
-  bookedSlicesLow = omega arith;
-  bookedCovered = covered;
-  closed = λ _. (sym size, count);
-}
+booked-good c s areas n f legal ordinary attributes only optional tail sectors size count covered few =
+    let long : need s (length (f .sectors)) ≤ length (f .slices) = rw (size, ← count) covered in
+    search (arith, rw count at only)
 
 -- the unit in which the name n, which has no area, has the file f, beside the files `others`
 pub placed-good : (p : Plain) (n : ℕ) (f : File) (others : Table File) (g : Good p) → tableFind n (p .areas) ≡ none
@@ -61,17 +49,11 @@ pub placed-good : (p : Plain) (n : ℕ) (f : File) (others : Table File) (g : Go
     → ((k : ℕ) → placesTaken (p .H) k (sysOf p) (tablePut n f others) ≤ 16 * p .layers)
     → InRangeOnce (M p) (p .sys ++ slicesOf (tablePut n f others))
     → GoodFile (sysOf p) (p .s) (p .areas) n f → Good (withFiles p (tablePut n f others))
-placed-good p n f others g shut beside same chains once good = record {
-  limits = g .limits;
-  catalog = catalog-placed beside n f chains good;
-  sysFirst = g .sysFirst;
-  once = once;
-  areaNames = g .areaNames;
-  eight = g .eight;
-  areas = λ k users h.
-      let a = g .areas k users h in
-      area-beside a (a .file) (find-put-other k n f others (area-name p n shut k users h) ∙ same k users h ∙ a .entered) (omega arith);
-}
+placed-good p n f others g shut beside same chains once good =
+    let areas : Every (GoodArea (tablePut n f others)) (p .areas) = λ k users h.
+    (let a = g .areas k users h in
+    area-beside a (a .file) (find-put-other k n f others (area-name p n shut k users h) ∙ same k users h ∙ a .entered) (omega arith)) in
+    search (catalog-placed beside n f)
 
 -- ---- a new file
 
@@ -190,19 +172,14 @@ module _ (p : Plain) (l n size attributes : ℕ) (optional tail : List ℕ) wher
       (taken-grown p l 0 (need (p .s) size))
 
   pub new-grown : Good p → Yes p l n size attributes → WordsOf 3 optional → WordsOf 6 tail → NewFile (grownTo p l) n (zeroFileOf (grownTo p l) size attributes optional tail)
-  new-grown g y three six = record {
-    name = y .name;
-    fresh = entry-grown p l n (not-some (entry p n) (y .vacant));
-    attributes = y .allowed;
-    entryOnly = given-legal attributes (need (p .s) size) (y .allowed) (y .given);
-    optional = three;
-    tail = six;
-    slices = refl;
-    sectors = refl;
-    bookedSlices = refl;
-    room = omega (arith, leb→le (sysExtra p l + need (p .s) size) (freeSlices p) (y .room), free-grown p l g (sys-room y));
-    few = subst (λ (x : List ℕ). stretchCount x ≤ 127) (taken-grown p l 0 (need (p .s) size)) (leb→le _ _ (y .few));
-  }
+  new-grown g y three six =
+      let room : need (p .s) size ≤ freeSlices (grownTo p l) = omega (arith, leb→le (sysExtra p l + need (p .s) size) (freeSlices p) (y .room), free-grown p l g (sys-room y)) in
+      search (
+        y,
+        entry-grown p l n (not-some (entry p n) (y .vacant)),
+        given-legal attributes (need (p .s) size) (y .allowed) (y .given),
+        rw (taken-grown p l 0 (need (p .s) size)) at (leb→le (stretchCount (slicesLeft p l size)) 127 (y .few)),
+      )
 
 -- ---- SYS stays: the file is made on p
 

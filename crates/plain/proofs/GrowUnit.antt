@@ -110,12 +110,7 @@ module _ (p : Plain) (layers : ℕ) where
         )
 
     pub grown-good : p .layers ≤ layers → stretchCount (p .sys ++ sysTaken p layers) ≤ 127 → Good (grownTo p layers)
-    grown-good up few = record {
-      limits = g .limits;
-      catalog = takes-good p (g .catalog) layers (omega (arith, g .limits .sliceLow)) up few;
-      sysFirst = first-append (p .sys) (sysTaken p layers) (g .sysFirst);
-      once = λ k. omega (arith, taken-once p (sysOf p) layers (g .once) room k, held-grown k);
-      areaNames = g .areaNames;
-      eight = g .eight;
-      areas = g .areas;
-    }
+    grown-good up few =
+        let once : InRangeOnce (M p) (held (grownTo p layers)) = λ k. omega (arith, taken-once p (sysOf p) layers (g .once) room k, held-grown k) in
+        let positive : 0 < p .s = omega (arith, g .limits .sliceLow) in
+        search (takes-good p (g .catalog) layers, first-append (p .sys) (sysTaken p layers))

@@ -10,7 +10,7 @@ use lib.ListN.{length}
 use lib.Dec.{T, ltb, eqb, leb→le, ltb→lt}
 use Rattle.types.specs.declared.Name.{Name}
 use Rattle.types.specs.declared.Role.the-variants.{Sharing}
-use Rattle.disc.specs.Slices.{occurrences, inUnit}
+use Rattle.disc.specs.Slices.{occurrences, inUnit, InRangeOnce}
 use Rattle.disc.specs.Catalog.{Catalog}
 use Rattle.plain.specs.Table.{Table, tableFind, tablePut, tableRemove, isSome, SortedFrom, Every}
 use Rattle.plain.specs.Unit.{Plain, File, AreaUser, sysOf, M, held, slicesOf, withTables, withAreas}
@@ -32,16 +32,9 @@ Keeps o = Good (o .unit)
 -- an area beside other files, where its own is no shorter
 pub area-beside : {old new : Table File} {n : ℕ} {users : Table AreaUser} (a : GoodArea old n users) (f : File) → tableFind n new ≡ some f → length (a .file .sectors) ≤ length (f .sectors)
     → GoodArea new n users
-area-beside a f e le = record {
-  file = f;
-  entered = e;
-  sorted = a .sorted;
-  three = a .three;
-  roles = a .roles;
-  each = λ sender u h.
-      let b = a .each sender u h in
-      record { opensLow = b .opensLow; opensHigh = b .opensHigh; inside = omega (arith, b .inside) };
-}
+area-beside {users = users} a f e le =
+    let each : Every (λ sender u. GoodUser (length (f .sectors)) u) users = λ sender u h. (let b = a .each sender u h in search arith) in
+    search
 
 -- ---- another file in the place of one
 
@@ -62,30 +55,21 @@ pub file-put-good : (p : Plain) (n : ℕ) (f new : File) (areas : Table (Table A
     → GoodFile (sysOf p) (p .s) areas n new → ((k : ℕ) → occurrences k (held p) + occurrences k (new .slices) ≤ inUnit (M p) k + occurrences k (f .slices))
     → ((k : ℕ) → k ≢ n → tableFind k areas ≡ tableFind k (p .areas)) → SortedFrom 0 areas → length areas ≤ 8 → Every (GoodArea (tablePut n new (p .files))) areas
     → Good (withTables p (p .layers) (p .sys) (tablePut n new (p .files)) areas)
-file-put-good p n f new areas g h good room others sorted eight each = record {
-  limits = g .limits;
-  catalog = catalog-changed (g .catalog) n f new areas h good others;
-  sysFirst = g .sysFirst;
-  once = λ k. omega (arith, room k, occurrences-put p n f new k h);
-  areaNames = sorted;
-  eight = eight;
-  areas = each;
-}
+file-put-good p n f new areas g h good room others sorted eight each =
+    let once : InRangeOnce (M p) (p .sys ++ slicesOf (tablePut n new (p .files))) = λ k. omega (arith, room k, occurrences-put p n f new k h) in
+    search (catalog-changed (g .catalog) n f new areas)
 
 -- ---- the users of one area
 
 -- an area with other users, or a new one
 pub area-put-good : (p : Plain) (n : ℕ) (users : Table AreaUser) → Good p → 0 < n → GoodArea (p .files) n users → length (tablePut n users (p .areas)) ≤ 8
     → Good (withAreas p (tablePut n users (p .areas)))
-area-put-good p n users g positive a le = record {
-  limits = g .limits;
-  catalog = catalog-beside (g .catalog) (tablePut n users (p .areas)) (λ k e. none-put k n users (p .areas) e .1);
-  sysFirst = g .sysFirst;
-  once = g .once;
-  areaNames = sorted-put 0 n users (p .areas) positive (g .areaNames);
-  eight = le;
-  areas = every-put (GoodArea (p .files)) n users (p .areas) (g .areas) a;
-}
+area-put-good p n users g positive a le =
+    search (
+      catalog-beside (g .catalog) (tablePut n users (p .areas)) (λ k e. none-put k n users (p .areas) e .1),
+      sorted-put 0 n users (p .areas),
+      every-put (GoodArea (p .files)) n users (p .areas),
+    )
 
 -- ---- Create area
 
@@ -117,21 +101,7 @@ create-area-keeps p name lent g =
 
 -- a file whose live length and slices are booked, open or not
 book-good : {c : Catalog} {s : ℕ} {old new : Table (Table AreaUser)} {n : ℕ} {f : File} → GoodFile c s old n f → GoodFile c s new n (bookLive f)
-book-good g = record {
-  name = g .name;
-  ordinary = g .ordinary;
-  attributes = g .attributes;
-  entryOnly = g .entryOnly;
-  optional = g .optional;
-  tail = g .tail;
-  sectors = g .sectors;
-  covered = g .covered;
-  few = g .few;
-  bookedLow = omega arith;
-  bookedSlicesLow = omega arith;
-  bookedCovered = g .covered;
-  closed = λ _. (refl, refl);
-}
+book-good g = search arith
 
 -- the area goes, and the file is booked
 pub remove-area-good : (p : Plain) (n : ℕ) (f : File) → Good p → tableFind n (p .files) ≡ some f
@@ -185,14 +155,7 @@ module _ (p : Plain) (n sender : ℕ) (users : Table AreaUser) (g : Good p) (e :
       → Good (withAreas p (tablePut n (tablePut sender v users) (p .areas)))
   user-put-good v positive good three roles =
       let a = open-area in
-      users-good (tablePut sender v users) (record {
-        file = a .file;
-        entered = a .entered;
-        sorted = sorted-put 0 sender v users positive (a .sorted);
-        three = three;
-        roles = roles;
-        each = every-put (λ k u. GoodUser (length (a .file .sectors)) u) sender v users (a .each) good;
-      })
+      users-good (tablePut sender v users) (search (sorted-put 0 sender v users, every-put (λ k u. GoodUser (length (a .file .sectors)) u) sender v users))
 
   -- a user that is there changes, and keeps its role
   user-change-good : (u v : AreaUser) → tableFind sender users ≡ some u → v .role ≡ u .role → GoodUser (length (open-area .file .sectors)) v
@@ -205,14 +168,9 @@ module _ (p : Plain) (n sender : ℕ) (users : Table AreaUser) (g : Good p) (e :
   user-remove-good : Good (withAreas p (tablePut n (tableRemove sender users) (p .areas)))
   user-remove-good =
       let a = open-area in
-      users-good (tableRemove sender users) (record {
-        file = a .file;
-        entered = a .entered;
-        sorted = sorted-remove 0 sender users (a .sorted);
-        three = omega (arith, length-remove sender users, a .three);
-        roles = roles-remove sender users (a .roles);
-        each = λ k v q. a .each k v (remove-some k sender 0 users v (a .sorted) q .1);
-      })
+      let each : Every (λ k u. GoodUser (length (a .file .sectors)) u) (tableRemove sender users) = λ k v q. a .each k v (remove-some k sender 0 users v (a .sorted) q .1) in
+      let three : length (tableRemove sender users) ≤ 3 = omega (arith, length-remove sender users, a .three) in
+      users-good (tableRemove sender users) (search (sorted-remove 0 sender users, roles-remove sender users))
 
   -- ---- Release
 

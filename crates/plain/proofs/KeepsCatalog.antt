@@ -1,6 +1,6 @@
 -- Every catalog message keeps `Good`.
 use mathlib.Core.Path.{_≡_, _∙_}
-use mathlib.Core.List.{List}
+use mathlib.Core.List.{List, _++_}
 use mathlib.Core.Option.{none, some}
 use Prim.Native.Nat.{ℕ, _≤_}
 use native.Mathlib.Omega.{arith}
@@ -8,11 +8,12 @@ use lib.ListN.{length}
 use lib.Dec.{T, leb→le}
 use Rattle.types.specs.declared.Name.{Name}
 use Rattle.disc.specs.Words.{Words}
-use Rattle.plain.specs.Table.{tableFind, tableRemove}
-use Rattle.plain.specs.Unit.{Plain, File, withFiles, sysOf}
+use Rattle.disc.specs.Slices.{InRangeOnce}
+use Rattle.plain.specs.Table.{Table, tableFind, tableRemove, Every}
+use Rattle.plain.specs.Unit.{Plain, File, withFiles, sysOf, M, slicesOf}
 use Rattle.plain.specs.Taking.{layersFor}
 use Rattle.plain.specs.Catalog.{stepInit, newFile, stepCreate, stepSet, stepLookUp, stepRemove, changeFile, stepChange, isRecord}
-use Rattle.plain.specs.Good.{Good, WordsOf}
+use Rattle.plain.specs.Good.{Good, GoodArea, WordsOf}
 use Rattle.plain.proofs.TableLaws.{find-remove-other, total-remove}
 use Rattle.plain.proofs.QuestionLaws.{asks-law, given-law, not-some}
 use Rattle.plain.proofs.UnitLaws.{holds, occurrences-held, area-name}
@@ -35,18 +36,13 @@ look-up-keeps p name lent g = asks-law Keeps _ g λ _. given-law Keeps _ g λ _ 
 -- ---- Remove
 
 pub removed-good : (p : Plain) (n : ℕ) → Good p → tableFind n (p .areas) ≡ none → Good (withFiles p (tableRemove n (p .files)))
-removed-good p n g e = record {
-  limits = g .limits;
-  catalog = catalog-removed (g .catalog) n;
-  sysFirst = g .sysFirst;
-  once = λ k.
-      omega (arith, g .once k, occurrences-held k (p .sys) (p .files), occurrences-held k (p .sys) (tableRemove n (p .files)), total-remove (holds k) n (p .files));
-  areaNames = g .areaNames;
-  eight = g .eight;
-  areas = λ k users h.
-      let a = g .areas k users h in
-      area-beside a (a .file) (find-remove-other k n 0 (p .files) (g .catalog .names) (area-name p n e k users h) ∙ a .entered) (omega arith);
-}
+removed-good p n g e =
+    let files : Table File = tableRemove n (p .files) in
+    let once : InRangeOnce (M p) (p .sys ++ slicesOf files) = λ k. omega (arith, g .once k, occurrences-held k (p .sys) (p .files), occurrences-held k (p .sys) files, total-remove (holds k) n (p .files)) in
+    let areas : Every (GoodArea files) (p .areas) = λ k users h.
+    (let a = g .areas k users h in
+    area-beside a (a .file) (find-remove-other k n 0 (p .files) (g .catalog .names) (area-name p n e k users h) ∙ a .entered) (omega arith)) in
+    search (catalog-removed (g .catalog) n)
 
 pub remove-keeps : (p : Plain) (name : Name) (lent : List ℕ) → Good p → Keeps (stepRemove p name lent)
 remove-keeps p name lent g =
@@ -71,8 +67,7 @@ new-file-keeps p n size attributes optional tail lent g three six =
     asks-law Keeps _ g λ sysFew.
     asks-law Keeps _ g λ few.
     let l : ℕ = layersFor (p .H) (sysOf p) n (p .files) in
-    let y : Yes p l n size attributes =
-    record { name = legal; short = short; allowed = allowed; given = given; vacant = vacant; room = room; sysFew = sysFew; few = few } in
+    let y : Yes p l n size attributes = search in
     rw (unit-grown p l n size attributes optional tail)
     (created-good (grown-good p l g (sys-room y) (layers-up (p .H) (sysOf p) n (p .files)) (sys-few y)) (new-grown p l n size attributes optional tail g y three six)
     (layers-fit (p .H) (sysOf p) n (p .files) (g .catalog .chains)))
@@ -104,8 +99,7 @@ change-file-keeps p n f m size attributes lent g found w r =
     asks-law Keeps _ g λ sysFew.
     asks-law Keeps _ g λ few.
     rw (change-unit p n m size attributes f lent)
-    (changed-keeps p n m size attributes f lent g found
-    (record { legal = legal; allowed = allowed; only = only; shut = shut; free = free; vacant = vacant; room = room; sysFew = sysFew; few = few }) w r)
+    (changed-keeps p n m size attributes f lent g found (search) w r)
 
 pub change-keeps : (p : Plain) (name : Name) (lent : List ℕ) → Good p → Words lent → Keeps (stepChange p name lent)
 change-keeps p name lent g w =

@@ -71,21 +71,7 @@ module _ {p : Plain} (g : Good p) (n : ℕ) {f : File} (found : tableFind n (p .
   rewritten-good : (slices : List ℕ) (sectors : List (List ℕ)) → Rewrites p n f slices sectors → GoodFile (sysOf p) (p .s) (p .areas) n (rewritten f slices sectors)
   rewritten-good slices sectors r =
       let old = g .catalog .files n f found in
-      record {
-        name = old .name;
-        ordinary = old .ordinary;
-        attributes = old .attributes;
-        entryOnly = r .entryOnly;
-        optional = old .optional;
-        tail = old .tail;
-        sectors = r .words;
-        covered = r .covered;
-        few = r .few;
-        bookedLow = omega (arith, old .bookedLow, r .longer);
-        bookedSlicesLow = omega (arith, old .bookedSlicesLow, r .more);
-        bookedCovered = old .bookedCovered;
-        closed = r .closed;
-      }
+      search arith
 
   rewrite-good : (slices : List ℕ) (sectors : List (List ℕ)) → Rewrites p n f slices sectors → Good (withFile n (rewritten f slices sectors) p)
   rewrite-good slices sectors r =

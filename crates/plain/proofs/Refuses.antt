@@ -37,6 +37,7 @@ use Rattle.plain.proofs.GrowUnit.{sysTaken}
 -- What the unit q after any answer keeps of p.
 record Kept (p q : Plain) : Type 0 where
   sys : NeverShrinks p q
+  sectors : q .N ≡ p .N
   entryOnly : NoMoreEntryOnly p q
 
 -- a file h, with the attributes a only where that of the name n had them, in its place or instead of it under the name m
@@ -51,7 +52,7 @@ module _ {p : Plain} where
   -- where layers and SYS's slices stay
   other-files : {files : Table File} {areas : Table (Table AreaUser)} → ((a : ℕ) → T (entryOnly a) → total (hasAttributes a) files ≤ filesWith a p)
       → Kept p (withTables p (p .layers) (p .sys) files areas)
-  other-files fewer = record { sys = record { keys = refl; layers = omega arith; new = []; slices = sym (append-nil (p .sys)) }; entryOnly = fewer }
+  other-files fewer = record { sys = record { keys = refl; layers = omega arith; new = []; slices = sym (append-nil (p .sys)) }; sectors = refl; entryOnly = fewer }
 
   -- where the files stay too, or one has another length, slices or sectors
   same-sys : {areas : Table (Table AreaUser)} → Kept p (withAreas p areas)
@@ -64,7 +65,7 @@ module _ {p : Plain} where
   -- where SYS has taken its slices for more layers
   more-sys : {layers : ℕ} {files : Table File} {areas : Table (Table AreaUser)} → p .layers ≤ layers → ((a : ℕ) → T (entryOnly a) → total (hasAttributes a) files ≤ filesWith a p)
       → Kept p (withTables p layers (p .sys ++ sysTaken p layers) files areas)
-  more-sys {layers} up fewer = record { sys = record { keys = refl; layers = up; new = sysTaken p layers; slices = refl }; entryOnly = fewer }
+  more-sys {layers} up fewer = record { sys = record { keys = refl; layers = up; new = sysTaken p layers; slices = refl }; sectors = refl; entryOnly = fewer }
 
   left-kept : {message : Message} {q : Plain} → Left p message q → Kept p q
   left-kept everything = same-sys
@@ -95,11 +96,7 @@ record Stays (p : Plain) (message : Message) (lent : List ℕ) (o : Outcome) : T
 module _ {p : Plain} {message : Message} {lent : List ℕ} where
   -- A refusal that leaves the unit q, with any block.
   leaves : {q : Plain} (word : ℕ) {k : ℕ} → T (other word) → Left p message q → Stays p message lent (refusedAt q word k lent)
-  leaves word t l = record {
-    refused = λ h. record { unit = l; words = refl; bytes = refl; entries = refl };
-    word = not-unsound word t;
-    kept = left-kept l;
-  }
+  leaves word t l = search (not-unsound word t, left-kept l)
 
   -- A call that is not refused.
   accepts : {o : Outcome} → o .answer .result ≡ 0 → Kept p (o .unit) → Stays p message lent o
@@ -272,6 +269,10 @@ stays p (Listing unit) lent = listing p _ lent unit
 
 pub refuses : (p : Plain) (message : Message) (lent : List ℕ) → step p message lent .answer .result ≢ 0 → Refused p message lent (step p message lent)
 refuses p message lent = stays p message lent .refused
+
+-- the unit's sectors are as many as before
+pub step-sectors : (p : Plain) (message : Message) (lent : List ℕ) → step p message lent .unit .N ≡ p .N
+step-sectors p message lent = stays p message lent .kept .sectors
 
 -- ---- every list of calls
 

@@ -3,10 +3,10 @@ use mathlib.Core.Path.{_≡_, refl, sym, ap, _∙_}
 use mathlib.Core.List.{[], _∷_}
 use mathlib.Core.Option.{Option, none, some}
 use mathlib.Core.Logic.{_≢_}
-use Prim.Native.Nat.{ℕ, _+_, _≤_, _<_, compare, Ordering}
+use Prim.Native.Nat.{ℕ, _+_, _≤_, _<_, compare}
 use native.Mathlib.Omega.{arith}
 use lib.ListN.{length}
-use Rattle.disc.proofs.Compare.{Tri, less, same, more, tri, tri-less, tri-more, tri-same, same-or}
+use Rattle.disc.proofs.Compare.{compare-cases, tri-less, tri-more, tri-same, same-or, below-or}
 use Rattle.plain.specs.Table.{Row, Table, findBy, tableFind, putBy, tablePut, removeBy, tableRemove, SortedFrom, total, Every}
 
 pub some≢none : {A : Type 0} {a : A} → some a ≡ none → ⊥
@@ -14,6 +14,10 @@ some≢none e = let z : _≡_ {A = ℕ} 0 1 = cc in omega arith
 
 pub some-inj : {A : Type 0} {a b : A} → some a ≡ some b → a ≡ b
 some-inj e = cc
+
+pub never-some : {A : Type 0} (o : Option A) → ((a : A) → o ≡ some a → ⊥) → o ≡ none
+never-some none never = refl
+never-some (some a) never = absurd (never a refl)
 
 module _ {A : Type 0} where
   find-same : (n : ℕ) (a : A) (t : Table A) → tableFind n (record { key = n; val = a } ∷ t) ≡ some a
@@ -32,59 +36,35 @@ module _ {A : Type 0} where
 
   pub find-put : (n : ℕ) (a : A) (t : Table A) → tableFind n (tablePut n a t) ≡ some a
   find-put n a [] = find-same n a []
-  find-put n a (r ∷ t) = go (compare n (r .key)) (tri n (r .key)) (find-put n a t)
-    where
-      go : (o : Ordering) → Tri n (r .key) o → tableFind n (tablePut n a t) ≡ some a → tableFind n (putBy o n a r t (tablePut n a t)) ≡ some a
-      go o (less h) ih = find-same n a (r ∷ t)
-      go o (same e) ih = find-same n a t
-      go o (more h) ih = find-more n r (tablePut n a t) h ∙ ih
+  find-put n a (r ∷ t) = compare-cases n (r .key) (λ o. tableFind n (putBy o n a r t (tablePut n a t)) ≡ some a)
+      (λ h. find-same n a (r ∷ t))
+      (λ e. find-same n a t)
+      (λ h. find-more n r (tablePut n a t) h ∙ find-put n a t)
+
+  -- a row of another key is passed over
+  find-past : (k n : ℕ) (a : A) (rest : Option A) → k ≢ n → (k < n → rest ≡ none) → findBy (compare k n) a rest ≡ rest
+  find-past k n a rest d low = compare-cases k n (λ o. findBy o a rest ≡ rest) (λ h. sym (low h)) (λ e. absurd (d e)) (λ h. refl)
 
   pub find-put-other : (k n : ℕ) (a : A) (t : Table A) → k ≢ n → tableFind k (tablePut n a t) ≡ tableFind k t
-  find-put-other k n a [] d = go (compare k n) (tri k n)
-    where
-      go : (o : Ordering) → Tri k n o → findBy o a none ≡ none
-      go o (less h) = refl
-      go o (same e) = absurd (d e)
-      go o (more h) = refl
-  find-put-other k n a (r ∷ t) d = go (compare n (r .key)) (tri n (r .key)) (find-put-other k n a t d)
-    where
-      skip : (o : Ordering) → Tri k n o → (rest : Option A) → (k < n → rest ≡ none) → findBy o a rest ≡ rest
-      skip o (less h) rest f = sym (f h)
-      skip o (same e) rest f = absurd (d e)
-      skip o (more h) rest f = refl
-
-      past : (o : Ordering) → Tri k n o → n ≡ r .key → findBy o a (tableFind k t) ≡ findBy o (r .val) (tableFind k t)
-      past o (less h) e = refl
-      past o (same h) e = absurd (d h)
-      past o (more h) e = refl
-
-      go : (o : Ordering) → Tri n (r .key) o → tableFind k (tablePut n a t) ≡ tableFind k t → tableFind k (putBy o n a r t (tablePut n a t)) ≡ tableFind k (r ∷ t)
-      go o (less h) ih = skip (compare k n) (tri k n) (tableFind k (r ∷ t)) (λ l. find-less k r t (omega arith))
-      go o (same e) ih = rw (← e) (past (compare k n) (tri k n) e)
-      go o (more h) ih = ap (λ (x : Option A). findBy (compare k (r .key)) (r .val) x) ih
+  find-put-other k n a [] d = find-past k n a none d (λ h. refl)
+  find-put-other k n a (r ∷ t) d = compare-cases n (r .key) (λ o. tableFind k (putBy o n a r t (tablePut n a t)) ≡ tableFind k (r ∷ t))
+      (λ h. find-past k n a (tableFind k (r ∷ t)) d (λ l. find-less k r t (omega arith)))
+      (λ e. rw (← e) (compare-cases k n (λ o. findBy o a (tableFind k t) ≡ findBy o (r .val) (tableFind k t)) (λ h. refl) (λ h. absurd (d h)) (λ h. refl)))
+      (λ h. ap (λ (x : Option A). findBy (compare k (r .key)) (r .val) x) (find-put-other k n a t d))
 
   pub find-remove : (n b : ℕ) (t : Table A) → SortedFrom b t → tableFind n (tableRemove n t) ≡ none
   find-remove n b [] ok = refl
-  find-remove n b (r ∷ t) ok = go (compare n (r .key)) (tri n (r .key)) (find-remove n (r .key) t (ok .1))
-    where
-      go : (o : Ordering) → Tri n (r .key) o → tableFind n (tableRemove n t) ≡ none → tableFind n (removeBy o r t (tableRemove n t)) ≡ none
-      go o (less h) ih = find-less n r t h
-      go o (same e) ih = find-below n (r .key) t (ok .1) (omega arith)
-      go o (more h) ih = find-more n r (tableRemove n t) h ∙ ih
+  find-remove n b (r ∷ t) ok = compare-cases n (r .key) (λ o. tableFind n (removeBy o r t (tableRemove n t)) ≡ none)
+      (λ h. find-less n r t h)
+      (λ e. find-below n (r .key) t (ok .1) (omega arith))
+      (λ h. find-more n r (tableRemove n t) h ∙ find-remove n (r .key) t (ok .1))
 
   pub find-remove-other : (k n b : ℕ) (t : Table A) → SortedFrom b t → k ≢ n → tableFind k (tableRemove n t) ≡ tableFind k t
   find-remove-other k n b [] ok d = refl
-  find-remove-other k n b (r ∷ t) ok d = go (compare n (r .key)) (tri n (r .key)) (find-remove-other k n (r .key) t (ok .1) d)
-    where
-      skip : (o : Ordering) → Tri k (r .key) o → n ≡ r .key → tableFind k t ≡ findBy o (r .val) (tableFind k t)
-      skip o (less h) e = find-below k (r .key) t (ok .1) (omega arith)
-      skip o (same h) e = absurd (d (h ∙ sym e))
-      skip o (more h) e = refl
-
-      go : (o : Ordering) → Tri n (r .key) o → tableFind k (tableRemove n t) ≡ tableFind k t → tableFind k (removeBy o r t (tableRemove n t)) ≡ tableFind k (r ∷ t)
-      go o (less h) ih = refl
-      go o (same e) ih = skip (compare k (r .key)) (tri k (r .key)) e
-      go o (more h) ih = ap (λ (x : Option A). findBy (compare k (r .key)) (r .val) x) ih
+  find-remove-other k n b (r ∷ t) ok d = compare-cases n (r .key) (λ o. tableFind k (removeBy o r t (tableRemove n t)) ≡ tableFind k (r ∷ t))
+      (λ h. refl)
+      (λ e. sym (find-past k (r .key) (r .val) (tableFind k t) (λ q. d (q ∙ sym e)) (λ h. find-below k (r .key) t (ok .1) (omega arith))))
+      (λ h. ap (λ (x : Option A). findBy (compare k (r .key)) (r .val) x) (find-remove-other k n (r .key) t (ok .1) d))
 
   sorted-lower : (b c : ℕ) (t : Table A) → c ≤ b → SortedFrom b t → SortedFrom c t
   sorted-lower b c [] h ok = tt
@@ -92,49 +72,37 @@ module _ {A : Type 0} where
 
   pub sorted-put : (b n : ℕ) (a : A) (t : Table A) → b < n → SortedFrom b t → SortedFrom b (tablePut n a t)
   sorted-put b n a [] h ok = (h, tt)
-  sorted-put b n a (r ∷ t) h ok = go (compare n (r .key)) (tri n (r .key)) (λ l. sorted-put (r .key) n a t l (ok .1))
-    where
-      go : (o : Ordering) → Tri n (r .key) o → (r .key < n → SortedFrom (r .key) (tablePut n a t)) → SortedFrom b (putBy o n a r t (tablePut n a t))
-      go o (less l) ih = (h, (l, ok .1))
-      go o (same e) ih = (h, rw e (ok .1))
-      go o (more l) ih = (ok .0, ih l)
+  sorted-put b n a (r ∷ t) h ok = compare-cases n (r .key) (λ o. SortedFrom b (putBy o n a r t (tablePut n a t)))
+      (λ l. (h, (l, ok .1)))
+      (λ e. (h, rw e (ok .1)))
+      (λ l. (ok .0, sorted-put (r .key) n a t l (ok .1)))
 
   pub sorted-remove : (b n : ℕ) (t : Table A) → SortedFrom b t → SortedFrom b (tableRemove n t)
   sorted-remove b n [] ok = tt
-  sorted-remove b n (r ∷ t) ok = go (compare n (r .key)) (tri n (r .key)) (sorted-remove (r .key) n t (ok .1))
-    where
-      go : (o : Ordering) → Tri n (r .key) o → SortedFrom (r .key) (tableRemove n t) → SortedFrom b (removeBy o r t (tableRemove n t))
-      go o (less l) ih = ok
-      go o (same e) ih = sorted-lower (r .key) b t (omega arith) (ok .1)
-      go o (more l) ih = (ok .0, ih)
+  sorted-remove b n (r ∷ t) ok = compare-cases n (r .key) (λ o. SortedFrom b (removeBy o r t (tableRemove n t)))
+      (λ l. ok)
+      (λ e. sorted-lower (r .key) b t (omega arith) (ok .1))
+      (λ l. (ok .0, sorted-remove (r .key) n t (ok .1)))
 
   -- a table is known by what it finds
   pub find-ext : (b : ℕ) (t u : Table A) → SortedFrom b t → SortedFrom b u → ((n : ℕ) → tableFind n t ≡ tableFind n u) → t ≡ u
   find-ext b [] [] p q e = refl
-  find-ext b [] (r ∷ u) p q e = let z : none ≡ some (r .val) = e (r .key) ∙ find-same (r .key) (r .val) u in absurd (let y : _≡_ {A = ℕ} 0 1 = cc in omega arith)
-  find-ext b (r ∷ t) [] p q e = let z : none ≡ some (r .val) = sym (e (r .key)) ∙ find-same (r .key) (r .val) t in absurd (let y : _≡_ {A = ℕ} 0 1 = cc in omega arith)
-  find-ext b (r ∷ t) (s ∷ u) p q e = go (compare (r .key) (s .key)) (tri (r .key) (s .key)) (λ k. find-ext (r .key) t u (p .1) (rw k (q .1)))
+  find-ext b [] (r ∷ u) p q e = absurd (some≢none (sym (e (r .key) ∙ find-same (r .key) (r .val) u)))
+  find-ext b (r ∷ t) [] p q e = absurd (some≢none (sym (sym (e (r .key)) ∙ find-same (r .key) (r .val) t)))
+  find-ext b (r ∷ t) (s ∷ u) p q e = compare-cases (r .key) (s .key) (λ _. _≡_ {A = Table A} (r ∷ t) (s ∷ u))
+      (λ h. absurd (some≢none (sym (find-same (r .key) (r .val) t) ∙ e (r .key) ∙ find-less (r .key) s u h)))
+      (λ k.
+      let v : some (r .val) ≡ some (s .val) = sym (find-same (r .key) (r .val) t) ∙ e (r .key) ∙ rw k (find-same (s .key) (s .val) u) in
+      let w : r .val ≡ s .val = cc in
+      let row : r ≡ s = λ i. record { key = k i; val = w i } in
+      let l : t ≡ u = find-ext (r .key) t u (p .1) (rw k (q .1)) (rest k) in
+      cc)
+      (λ h. absurd (some≢none (sym (find-same (s .key) (s .val) u) ∙ sym (e (s .key)) ∙ find-less (s .key) r t h)))
     where
-      clash : (a : A) → none ≡ some a → ⊥
-      clash a z = let y : _≡_ {A = ℕ} 0 1 = cc in omega arith
-
-      rest : r .key ≡ s .key → (n : ℕ) (o : Ordering) → Tri n (r .key) o → tableFind n t ≡ tableFind n u
-      rest k n o (less h) = find-below n (r .key) t (p .1) (omega arith) ∙ sym (find-below n (s .key) u (q .1) (omega arith))
-      rest k n o (same h) = find-below n (r .key) t (p .1) (omega arith) ∙ sym (find-below n (s .key) u (q .1) (omega arith))
-      rest k n o (more h) = sym (find-more n r t h) ∙ e n ∙ find-more n s u (omega arith)
-
-      value : r .key ≡ s .key → some (r .val) ≡ some (s .val)
-      value k = sym (find-same (r .key) (r .val) t) ∙ e (r .key) ∙ rw k (find-same (s .key) (s .val) u)
-
-      go : (o : Ordering) → Tri (r .key) (s .key) o → (r .key ≡ s .key → ((n : ℕ) → tableFind n t ≡ tableFind n u) → t ≡ u) → _≡_ {A = Table A} (r ∷ t) (s ∷ u)
-      go o (less h) ih = absurd (clash (r .val) (sym (find-less (r .key) s u h) ∙ sym (e (r .key)) ∙ find-same (r .key) (r .val) t))
-      go o (more h) ih = absurd (clash (s .val) (sym (find-less (s .key) r t h) ∙ e (s .key) ∙ find-same (s .key) (s .val) u))
-      go o (same k) ih =
-          let v : some (r .val) ≡ some (s .val) = value k in
-          let w : r .val ≡ s .val = cc in
-          let row : r ≡ s = λ i. record { key = k i; val = w i } in
-          let l : t ≡ u = ih k (λ n. rest k n (compare n (r .key)) (tri n (r .key))) in
-          cc
+      rest : r .key ≡ s .key → (n : ℕ) → tableFind n t ≡ tableFind n u
+      rest k n = below-or (r .key) n
+          (λ h. sym (find-more n r t h) ∙ e n ∙ find-more n s u (omega arith))
+          (λ h. find-below n (r .key) t (p .1) h ∙ sym (find-below n (s .key) u (q .1) (omega arith)))
 
   -- what the row of a key adds to a total
 
@@ -144,23 +112,19 @@ module _ {A : Type 0} where
 
   pub total-put : (w : Row A → ℕ) (n : ℕ) (a : A) (t : Table A) → total w (tablePut n a t) + weightAt w n (tableFind n t) ≡ total w t + w (record { key = n; val = a })
   total-put w n a [] = omega arith
-  total-put w n a (r ∷ t) = go (compare n (r .key)) (tri n (r .key)) (total-put w n a t)
-    where
-      go : (o : Ordering) → Tri n (r .key) o → total w (tablePut n a t) + weightAt w n (tableFind n t) ≡ total w t + w (record { key = n; val = a })
-          → total w (putBy o n a r t (tablePut n a t)) + weightAt w n (findBy o (r .val) (tableFind n t)) ≡ total w (r ∷ t) + w (record { key = n; val = a })
-      go o (less h) ih = omega arith
-      go o (same e) ih = rw e (omega arith)
-      go o (more h) ih = omega arith
+  total-put w n a (r ∷ t) =
+      compare-cases n (r .key) (λ o. total w (putBy o n a r t (tablePut n a t)) + weightAt w n (findBy o (r .val) (tableFind n t)) ≡ total w (r ∷ t) + w (record { key = n; val = a }))
+      (λ h. omega arith)
+      (λ e. rw e (omega arith))
+      (λ h. omega (arith, total-put w n a t))
 
   pub total-remove : (w : Row A → ℕ) (n : ℕ) (t : Table A) → total w (tableRemove n t) + weightAt w n (tableFind n t) ≡ total w t
   total-remove w n [] = refl
-  total-remove w n (r ∷ t) = go (compare n (r .key)) (tri n (r .key)) (total-remove w n t)
-    where
-      go : (o : Ordering) → Tri n (r .key) o → total w (tableRemove n t) + weightAt w n (tableFind n t) ≡ total w t
-          → total w (removeBy o r t (tableRemove n t)) + weightAt w n (findBy o (r .val) (tableFind n t)) ≡ total w (r ∷ t)
-      go o (less h) ih = omega arith
-      go o (same e) ih = rw e (omega arith)
-      go o (more h) ih = omega arith
+  total-remove w n (r ∷ t) =
+      compare-cases n (r .key) (λ o. total w (removeBy o r t (tableRemove n t)) + weightAt w n (findBy o (r .val) (tableFind n t)) ≡ total w (r ∷ t))
+      (λ h. omega arith)
+      (λ e. rw e (omega arith))
+      (λ h. omega (arith, total-remove w n t))
 
   -- ---- what holds of every row
 
@@ -209,12 +173,7 @@ module _ {A : Type 0} where
 
   -- a key that is found is above the bound
   pub find-above : (n b : ℕ) (a : A) (t : Table A) → SortedFrom b t → tableFind n t ≡ some a → b < n
-  find-above n b a t ok e = go (compare n b) (tri n b)
-    where
-      go : (o : Ordering) → Tri n b o → b < n
-      go o (less h) = absurd (some≢none (sym e ∙ find-below n b t ok (omega arith)))
-      go o (same h) = absurd (some≢none (sym e ∙ find-below n b t ok (omega arith)))
-      go o (more h) = h
+  find-above n b a t ok e = below-or b n (λ h. h) (λ h. absurd (some≢none (sym e ∙ find-below n b t ok h)))
 
   -- ---- rows within a total
 

@@ -1,20 +1,19 @@
 -- The layers of a catalog for a name, and the places that names of a key take.
 use mathlib.Core.Path.{_≡_, refl, ap}
-use mathlib.Core.Bool.{Bool, true, false, cond}
 use mathlib.Core.List.{List, [], _∷_}
-use mathlib.Core.Logic.{_≢_}
 use mathlib.Core.Option.{some}
-use Prim.Native.Nat.{ℕ, suc, _+_, _*_, _≤_, _<_, compare}
+use Prim.Native.Nat.{ℕ, suc, _+_, _*_, _≤_, _<_}
 use native.Mathlib.Omega.{arith}
 use lib.Dec.{leb}
 use borrow.Author.Tests.{le-leb, lt-leb}
 use Rattle.disc.specs.Names.{keyOf}
-use Rattle.disc.specs.Slices.{oneIfSame}
 use Rattle.disc.specs.Catalog.{Catalog}
-use Rattle.disc.proofs.Compare.{same-or, below-or, tri-same, Tri, less, same, more, tri}
+use Rattle.disc.proofs.Compare.{same-or, below-or, tri-same}
+use Rattle.disc.proofs.SliceLaws.{one-other}
 use Rattle.plain.specs.Table.{Row, Table, tableFind, tablePut, tableRemove, total}
 use Rattle.plain.specs.Unit.{File}
 use Rattle.plain.specs.Taking.{hasKey, withReserved, placesTaken, layersFor}
+use Rattle.plain.proofs.QuestionLaws.{cond-law}
 use Rattle.plain.proofs.TableLaws.{weightAt, total-put, total-remove}
 
 -- ---- the layers for a name
@@ -24,11 +23,7 @@ module _ (H : ℕ) (c : Catalog) (n : ℕ) (others : Table File) where
   taken = placesTaken H (keyOf H n) c others
 
   pub layers-up : c .layers ≤ layersFor H c n others
-  layers-up = go (leb (16 * c .layers) taken)
-    where
-      go : (b : Bool) → c .layers ≤ cond b (suc (c .layers)) (c .layers)
-      go true = omega arith
-      go false = omega arith
+  layers-up = cond-law (λ l. c .layers ≤ l) (leb (16 * c .layers) taken) (suc (c .layers)) (c .layers) (omega arith) (omega arith)
 
   -- a key with a place left: the catalog stays
   pub layers-stay : taken < 16 * c .layers → layersFor H c n others ≡ c .layers
@@ -45,14 +40,6 @@ module _ (H : ℕ) (c : Catalog) (n : ℕ) (others : Table File) where
       (λ le. omega (arith, layers-grow le, ok (keyOf H n)))
 
 -- ---- the places of a key
-
-other-key : (H k n : ℕ) → keyOf H n ≢ k → hasKey H k n ≡ 0
-other-key H k n d = go (compare (keyOf H n) k) (tri (keyOf H n) k)
-  where
-    go : (o : Prim.Native.Nat.Ordering) → Tri (keyOf H n) k o → oneIfSame o ≡ 0
-    go o (less h) = refl
-    go o (same h) = absurd (d h)
-    go o (more h) = refl
 
 own-key : (H n : ℕ) → hasKey H (keyOf H n) n ≡ 1
 own-key H n = rw (tri-same (keyOf H n)) refl
@@ -92,4 +79,4 @@ pub chains-put : (H : ℕ) (c : Catalog) (l n : ℕ) (f : File) (others : Table 
     → placesTaken H (keyOf H n) c others < 16 * l → (k : ℕ) → placesTaken H k c (tablePut n f others) ≤ 16 * l
 chains-put H c l n f others ok lt k = same-or (keyOf H n) k
     (λ e. rw (← e) (omega (arith, places-put H (keyOf H n) c n f others, own-key H n)))
-    (λ d. omega (arith, places-put H k c n f others, other-key H k n d, ok k))
+    (λ d. omega (arith, places-put H k c n f others, one-other (keyOf H n) k d, ok k))

@@ -4,20 +4,20 @@ use mathlib.Core.Bool.{Bool, true, false, not, _||_}
 use mathlib.Core.List.{List, [], _∷_, _++_}
 use mathlib.Core.Logic.{_≢_}
 use mathlib.Core.Option.{Option, none, some}
-use Prim.Native.Nat.{ℕ, _+_, _<_, compare, Ordering}
+use Prim.Native.Nat.{ℕ, _+_, _<_}
 use native.Mathlib.Omega.{arith}
 use lib.Dec.{T, T-not, eqb, eqb-refl}
 use borrow.Author.Tests.{ne-eqb}
 use Rattle.disc.specs.Names.{SYS, MAP, isSystem, legalName}
 use Rattle.disc.specs.Slices.{occurrences}
 use Rattle.disc.specs.Entries.{sysEntry, mapEntry}
-use Rattle.disc.proofs.Compare.{Tri, less, same, more, tri, same-or}
+use Rattle.disc.proofs.Compare.{compare-cases, same-or}
 use Rattle.disc.proofs.NameLaws.{legal-begins}
 use Rattle.disc.proofs.SliceLaws.{occurrences-append}
 use Rattle.plain.specs.Table.{Row, Table, findBy, tableFind, tablePut, tableRemove, tableMap, total, isSome, SortedFrom, Every}
 use Rattle.plain.specs.Unit.{Plain, File, AreaUser, slicesOf, fileEntry, entries, entry, withTables, withFiles}
 use Rattle.plain.specs.Good.{Good}
-use Rattle.plain.proofs.TableLaws.{some≢none, some-inj, find-remove, find-put, find-put-other, sorted-put, weightAt, total-put}
+use Rattle.plain.proofs.TableLaws.{some≢none, some-inj, never-some, find-remove, find-put, find-put-other, sorted-put, weightAt, total-put}
 use Rattle.plain.proofs.QuestionLaws.{not-some, is-some}
 
 -- ---- names
@@ -33,13 +33,11 @@ mapSome f (some a) = some (f a)
 
 pub find-map : {A B : Type 0} (f : ℕ → A → B) (n : ℕ) (t : Table A) → tableFind n (tableMap f t) ≡ mapSome (f n) (tableFind n t)
 find-map f n [] = refl
-find-map {A} {B} f n (r ∷ t) = go (compare n (r .key)) (tri n (r .key)) (find-map f n t)
-  where
-    go : (o : Ordering) → Tri n (r .key) o → tableFind n (tableMap f t) ≡ mapSome (f n) (tableFind n t)
-        → findBy o (f (r .key) (r .val)) (tableFind n (tableMap f t)) ≡ mapSome (f n) (findBy o (r .val) (tableFind n t))
-    go o (less h) ih = refl
-    go o (same e) ih = ap (λ (k : ℕ). some (f k (r .val))) (sym e)
-    go o (more h) ih = ih
+find-map f n (r ∷ t) =
+    compare-cases n (r .key) (λ o. findBy o (f (r .key) (r .val)) (tableFind n (tableMap f t)) ≡ mapSome (f n) (findBy o (r .val) (tableFind n t)))
+    (λ h. refl)
+    (λ e. ap (λ (k : ℕ). some (f k (r .val))) (sym e))
+    (λ h. find-map f n t)
 
 sorted-map : {A B : Type 0} (f : ℕ → A → B) (b : ℕ) (t : Table A) → SortedFrom b t → SortedFrom b (tableMap f t)
 sorted-map f b [] ok = tt
@@ -124,11 +122,7 @@ entry-none p n t =
     let e : entry p n ≡ none = not-some (entry p n) t in
     let a : n ≢ SYS = λ q. some≢none (sym (entry-sys p) ∙ ap (entry p) (sym q) ∙ e) in
     let b : n ≢ MAP = λ q. some≢none (sym (entry-map p) ∙ ap (entry p) (sym q) ∙ e) in
-    (go (tableFind n (p .files)) (sym (entry-other p n a b) ∙ e), a, b)
-  where
-    go : (o : Option File) → mapSome (fileEntry (p .F) (p .s) n) o ≡ none → o ≡ none
-    go none h = refl
-    go (some f) h = absurd (some≢none h)
+    (never-some (tableFind n (p .files)) (λ f q. some≢none (ap (mapSome (fileEntry (p .F) (p .s) n)) (sym q) ∙ sym (entry-other p n a b) ∙ e)), a, b)
 
 pub vacant-name : (p : Plain) (n : ℕ) → entry p n ≡ none → (tableFind n (p .files) ≡ none) × T (not (isSystem n))
 vacant-name p n e = let v = entry-none p n (rw e tt) in (v .0, rw (ne-eqb n SYS (v .1), ne-eqb n MAP (v .2)) tt)
@@ -138,11 +132,7 @@ ordinary-files g n f e = g .catalog .files n f e .ordinary
 
 -- SYS and MAP are no files
 pub system-none : (p : Plain) (n : ℕ) → Every (λ m f. T (not (isSystem m))) (p .files) → T (isSystem n) → tableFind n (p .files) ≡ none
-system-none p n ordinary t = go (tableFind n (p .files)) refl
-  where
-    go : (o : Option File) → tableFind n (p .files) ≡ o → o ≡ none
-    go none e = refl
-    go (some f) e = absurd (T-not (isSystem n) (ordinary n f e) t)
+system-none p n ordinary t = never-some (tableFind n (p .files)) (λ f e. T-not (isSystem n) (ordinary n f e) t)
 
 -- ---- the entries as one table
 
@@ -178,11 +168,7 @@ area-name p n shut m users h q = some≢none (sym h ∙ ap (λ (x : ℕ). tableF
 
 -- a name that is no file has no area
 pub no-area : (p : Plain) (n : ℕ) → Good p → tableFind n (p .files) ≡ none → tableFind n (p .areas) ≡ none
-no-area p n g e = go (tableFind n (p .areas)) refl
-  where
-    go : (o : Option (Table AreaUser)) → tableFind n (p .areas) ≡ o → o ≡ none
-    go none h = refl
-    go (some us) h = absurd (some≢none (sym (g .areas n us h .entered) ∙ e))
+no-area p n g e = never-some (tableFind n (p .areas)) (λ users h. some≢none (sym (g .areas n users h .entered) ∙ e))
 
 -- ---- slices of a table
 

@@ -3,7 +3,7 @@ use mathlib.Core.Path.{_≡_, refl, sym, ap, ap₂, _∙_}
 use mathlib.Core.List.{List, []}
 use mathlib.Core.Logic.{_≢_}
 use mathlib.Core.Option.{Option, none, some}
-use Prim.Native.Nat.{ℕ, suc}
+use Prim.Native.Nat.{ℕ}
 use lib.ListN.{length}
 use Rattle.types.specs.declared.Name.{Name}
 use Rattle.types.specs.declared.Sector.{Sector}
@@ -12,7 +12,7 @@ use Rattle.disc.specs.Entries.{indexSector}
 use Rattle.state.specs.declared.Found.the-variants.{At, Absent}
 use Rattle.disc.specs.Names.{packed}
 use Rattle.state.specs.Areas.{areaNamed, vacantAreaOf, createdArea, areaOpened, areaClosed}
-use Rattle.plain.specs.Table.{Table, tableFind, tablePut, tableRemove}
+use Rattle.plain.specs.Table.{Table, tableFind, tablePut, tableRemove, SortedFrom}
 use Rattle.plain.specs.Unit.{Plain, File, AreaUser, held, freeSectors, entry, withTables, withFiles, withAreas}
 use Rattle.plain.specs.Areas.{bookLive}
 use Rattle.plain.specs.Good.{Good}
@@ -23,7 +23,6 @@ use Rattle.refine.specs.OnDisc.{OnDisc}
 use Rattle.refine.proofs.UserLaws.{created-users}
 use Rattle.refine.proofs.StateLaws.{unitArea, same-created, same-closed}
 use Rattle.refine.proofs.Writers.{relabel}
-use Rattle.preservation.specs.Units.{grownUnit}
 use Rattle.preservation.proofs.BookStep.{bookedUnit}
 
 -- ---- the state stays
@@ -48,9 +47,6 @@ files-areas {p = p} layers sys files r same = record {
 pub remove-areas : {state : State} {p : Plain} (n : ℕ) → Good p → tableFind n (p .areas) ≡ none → SameAreas state p → SameAreas state (withFiles p (tableRemove n (p .files)))
 remove-areas {p = p} n g shut r =
     files-areas (p .layers) (p .sys) (tableRemove n (p .files)) r (λ m users h. find-remove-other m n 0 (p .files) (g .catalog .names) (area-name p n shut m users h))
-
-pub grow-areas : {state : State} {p : Plain} → SameAreas state p → SameAreas state (grownUnit p)
-grow-areas {p = p} r = files-areas (suc (p .layers)) (grownUnit p .sys) (p .files) r (λ m users h. refl)
 
 -- Create, Set: the name is new
 pub create-areas : {state : State} {p : Plain} (n : ℕ) (f : File) → Good p → tableFind n (p .files) ≡ none → SameAreas state p → SameAreas state (withFiles p (tablePut n f (p .files)))
@@ -95,3 +91,17 @@ module _ {state : State} {p : Plain} (r : SameAreas state p) (n j : ℕ) (f : Fi
   close-areas g e =
       same-closed state p r n j (bookedUnit p n f) e refl (find-remove n 0 (p .areas) (g .areaNames))
       (λ m d. ap₂ (areaOfUnit (p .F) (p .s)) (find-remove-other m n 0 (p .areas) (g .areaNames) d) (find-put-other m n (bookLive f) (p .files) d))
+
+-- ---- Change: layers, SYS slices or closed files change, and the open areas are the state's as before
+
+module _ {state : State} {p : Plain} (a : SameAreas state p) where
+  -- SYS grown
+  pub areas-grown : (layers : ℕ) (sys : List ℕ) → SameAreas state (withTables p layers sys (p .files) (p .areas))
+  areas-grown layers sys = files-areas layers sys (p .files) a (λ k users h. refl)
+
+  -- file n is another file m, neither of them open
+  pub areas-changed : (n m : ℕ) (f : File) → SortedFrom 0 (p .files) → tableFind n (p .areas) ≡ none → tableFind m (p .areas) ≡ none
+      → SameAreas state (withFiles p (tablePut m f (tableRemove n (p .files))))
+  areas-changed n m f sorted shut shutₘ =
+      files-areas (p .layers) (p .sys) (tablePut m f (tableRemove n (p .files))) a (λ k users h.
+      find-put-other k m f (tableRemove n (p .files)) (area-name p m shutₘ k users h) ∙ find-remove-other k n 0 (p .files) sorted (area-name p n shut k users h))

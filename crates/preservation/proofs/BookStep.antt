@@ -5,12 +5,10 @@ use mathlib.Core.Logic.{_≢_}
 use mathlib.Core.Option.{Option, some}
 use Prim.Native.Nat.{ℕ, _*_, _<_}
 use native.Mathlib.Omega.{arith}
-use lib.ListN.{length}
 use Rattle.disc.specs.Slices.{occurrences}
 use Rattle.disc.specs.Stretches.{sysFrom}
-use Rattle.disc.specs.Entries.{placeWord, placeCount, nameAt, indexSector}
+use Rattle.disc.specs.Entries.{placeWord, placeCount, nameAt}
 use Rattle.disc.proofs.Compare.{same-or}
-use Rattle.disc.proofs.EntryLaws.{length-entry}
 use Rattle.disc.proofs.TakenLaws.{free-same}
 use Rattle.words.proofs.StoreLaws.{words-store}
 use Rattle.plain.specs.Table.{Table, tableFind, tablePut, tableRemove}
@@ -23,7 +21,7 @@ use Rattle.plain.proofs.KeepsAreas.{remove-area-good, occurrences-put}
 use Rattle.refine.specs.Represents.{FileOnImage, Layout}
 use Rattle.refine.specs.OnDisc.{OnDisc}
 use Rattle.refine.specs.Writes.{storePlace, bookedImage}
-use Rattle.refine.proofs.Ground.{ground, entry-named}
+use Rattle.refine.proofs.Ground.{ground, entry-named, entry-length}
 use Rattle.refine.proofs.Writers.{relabel}
 use Rattle.preservation.proofs.WriteLaws.{words-file-entry, write-own}
 
@@ -73,7 +71,7 @@ module _ {i : List ℕ} {p : Plain} (o : OnDisc i p) (n : ℕ) (f : File) (found
       let nz : n ≢ 0 = λ z. (let q = legal-positive n (fg .name) in omega arith) in
       let new-entry : entry p′ n ≡ some e = entry-of p′ n (bookLive f) (fg .ordinary) here in
       write-own (ground p (o .good)) (o .layout) (entry-named p (o .good .catalog .names)) (entry p′) n e
-      (length-entry n (f .optional) (f .attributes) (length (f .sectors)) (indexSector (p .F) (p .s) (length (f .slices)) (f .slices)) (p .s * length (f .slices)) (f .tail) (fg .optional .count) (fg .tail .count))
+      (entry-length p′ good′ n e new-entry)
       (λ m d. entry-beside p (tablePut n (bookLive f) (p .files)) (tableRemove n (p .areas)) m (find-put-other m n (bookLive f) (p .files) d))
       new-entry (entry-named p′ (good′ .catalog .names) .name n e new-entry) nz t in₀ was
 

@@ -19,7 +19,7 @@ use Rattle.refine.specs.Represents.{SameAreas}
 use Rattle.refine.specs.OnDisc.{OnDisc}
 use Rattle.refine.specs.Writes.{changedImage}
 use Rattle.preservation.proofs.ChangeStep.{change-on}
-use Rattle.preservation.proofs.ChangeAreas.{areas-grown, areas-changed}
+use Rattle.preservation.proofs.AreaSteps.{areas-grown, areas-changed}
 
 module _ (p : Plain) (n m size attributes : ℕ) (f : File) (lent : List ℕ) (g : Good p) (found : tableFind n (p .files) ≡ some f)
     (asked : ChangeAsked p n m size attributes f lent) where

@@ -1,13 +1,13 @@
 -- Output: a block of a file is replaced, or one is appended, with a slice taken where it is needed. The booked entry stays.
-use mathlib.Core.Path.{_≡_, refl, sym, ap, _∙_}
+use mathlib.Core.Path.{_≡_, refl, sym, ap, _∙_, ap₂, subst}
+use mathlib.Core.Bool.{true, _||_}
 use mathlib.Core.List.{List, [], _∷_, _++_}
-use mathlib.Core.Logic.{_≢_, _⊎_}
+use mathlib.Core.Logic.{_≢_, _⊎_, inl, inr}
 use mathlib.Core.Option.{Option, some}
 use Prim.Native.Nat.{ℕ, zero, suc, _+_, _*_, _/_, _≤_, _<_}
 use native.Mathlib.Omega.{arith}
-use native.Mathlib.Nat.{mul-le-mul-left}
-use lib.Dec.{T}
-use lib.ListN.{length, getD, set, length-append, length-set, List·getD-append}
+use lib.Dec.{T, leb, eqb, leb→le, eqb→eq}
+use lib.ListN.{length, getD, set, length-append, length-set, List·getD-append, take, drop}
 use lib.Seq.{getD-append-seam, getD-set-same, getD-set-other}
 use Rattle.disc.specs.Words.{Words, Holds}
 use Rattle.disc.specs.Attributes.{extendable}
@@ -16,12 +16,11 @@ use Rattle.disc.specs.Stretches.{sectorIn, stretchCount, indexWords, blockSecto
 use Rattle.disc.specs.Map.{onesInMap}
 use Rattle.disc.specs.Entries.{indexSector}
 use Rattle.disc.proofs.Compare.{same-or}
-use Rattle.disc.proofs.SliceLaws.{occurrences-append, sum-law, length-taken}
+use Rattle.disc.proofs.SliceLaws.{occurrences-append, length-taken}
 use Rattle.disc.proofs.TakenLaws.{free-same}
 use Rattle.words.specs.Store.{store, sectorWords, zeroWords}
-use Rattle.words.proofs.StoreLaws.{length-store, words-store, holds-store, store-same, length-zeroWords, words-zeroWords, length-sectorWords, getD-sectorWords, words-sectorWords}
+use Rattle.words.proofs.StoreLaws.{length-store, words-store, holds-store, store-same, length-zeroWords, words-zeroWords, length-sectorWords, getD-sectorWords, words-sectorWords, sectorWords-holds}
 use Rattle.map.specs.Marks.{allUsed}
-use Rattle.map.proofs.CountLaws.{ones-free}
 use Rattle.map.proofs.MarkLaws.{length-all-marked}
 use Rattle.plain.specs.Table.{Table, tableFind, tablePut}
 use Rattle.plain.specs.Unit.{Plain, File, AreaUser, M, held, freeSlices, freeSectors, fileEntry, entry}
@@ -35,10 +34,16 @@ use Rattle.refine.specs.Represents.{FileOnImage, Layout}
 use Rattle.refine.specs.OnDisc.{OnDisc}
 use Rattle.refine.specs.Writes.{takenImage, replacedImage, appendedImage, extendedImage}
 use Rattle.refine.proofs.Sectors.{Same, same-refl, same-trans, holds-kept, sector-outside}
-use Rattle.refine.proofs.Ground.{Ground, ground, top, first-in, block-in, file-data, in-file, part-file}
+use Rattle.refine.proofs.Ground.{Ground, ground, first-in, block-in, file-data, in-file, part-file}
 use Rattle.refine.proofs.Writers.{relabel, long, write-used, write-file, grown-sector}
-use Rattle.preservation.proofs.WriteLaws.{counted-on, taken-size, taken-keep, taken-holds, taken-index, words-taken, words-index-part, words-marks, counted-store}
+use Rattle.preservation.proofs.WriteLaws.{counted-on, counted-word, taken-size, taken-keep, taken-holds, taken-index, words-taken, words-index-part, words-marks, counted-store}
 use Rattle.preservation.specs.Units.{appendSlices}
+use borrow.Author.Tests.{leb-true}
+use Rattle.plain.specs.Questions.{fill}
+use Rattle.plain.specs.Areas.{moved}
+use Rattle.plain.proofs.QuestionLaws.{or-case}
+use Rattle.plain.proofs.WordLaws.{wordsOf-take}
+use Rattle.preservation.proofs.AreaMessages.{output-on}
 
 -- ---- the unit
 
@@ -140,13 +145,6 @@ module _ {i : List ℕ} {p : Plain} (o : OnDisc i p) (n : ℕ) {f : File} (found
       }
 
 -- ---- append
-
--- the free sectors of a unit, counted by the map
-pub counted-small : {i : List ℕ} {p : Plain} {v : ℕ} {E : ℕ → Option (List ℕ)} → Good p → Words i → Layout i p v (held p) E → p .s * onesInMap i < 65536
-counted-small {i} {p} g w r =
-    let e : onesInMap i ≡ freeSlices p = ones-free (M p) (held p) i (g .limits .slicesHigh) (r .map) w in
-    let le : p .s * onesInMap i ≤ p .s * M p = mul-le-mul-left (p .s) (omega (arith, sum-law (M p) (held p) (g .once))) in
-    omega (arith, top p (ground p g), g .limits .sectors)
 
 -- a list lengthened keeps its first slice
 index-append : (F s c : ℕ) (l m : List ℕ) → c ≤ length l → indexSector F s c (l ++ m) ≡ indexSector F s c l
@@ -256,11 +254,6 @@ module _ {i : List ℕ} {p : Plain} (o : OnDisc i p) (n : ℕ) {f : File} (found
   words₆ : Words (store i₅ (blockSector (p .F) (p .s) slices fileFrom (length (f .sectors)) * 256) words)
   words₆ = words-store i₅ _ words append-words w
 
-  -- the free sectors that are counted are a word
-  pub append-counts : p .s * onesInMap (store (takenImage i (sectorIn (p .F) (p .s) (f .slices ++ appendSlices p f) 0) (p .F) (p .s) (f .slices) (appendSlices p f))
-      (blockSector (p .F) (p .s) (f .slices ++ appendSlices p f) fileFrom (length (f .sectors)) * 256) words) < 65536
-  append-counts = counted-small good₂ words₆ r₆
-
   pub append-on : OnDisc (appendedImage p i f (appendSlices p f) words) (withFile n (rewritten f (f .slices ++ appendSlices p f) (f .sectors ++ (words ∷ []))) p)
   unfolding appendedImage
   append-on =
@@ -298,16 +291,80 @@ module _ {i : List ℕ} {p : Plain} (o : OnDisc i p) (n : ℕ) {f : File} (found
   stored-there : store longer (sector * 256) wordsThere ≡ longer
   stored-there = store-same longer (sector * 256) wordsThere (λ b h. sym (getD-sectorWords longer sector b (omega (arith, count-there))))
 
-  pub extended-counts : p .s * onesInMap longer < 65536
-  extended-counts = rw stored-there at (append-counts o n found live ext room few wordsThere count-there words-there)
-
   -- the block is the file's before it is stored, with the words that stand there
   pub extended-on : OnDisc (extendedImage p i f (appendSlices p f)) (withFile n (rewritten f (f .slices ++ appendSlices p f) (f .sectors ++ (wordsThere ∷ []))) p)
   unfolding extendedImage appendedImage
   extended-on = rw stored-there at (append-on o n found live ext room few wordsThere count-there words-there)
+
+  -- the free sectors that are counted are a word
+  pub extended-counts : p .s * onesInMap longer < 65536
+  unfolding extendedImage
+  extended-counts = counted-word longer (p .s) (omega (arith, long (ground p (o .good)) (o .layout), longer-size)) (extended-on .words)
 
   pub appended-stored : (words : List ℕ) → length words ≡ 256
       → store (extendedImage p i f (appendSlices p f)) (blockSector (p .F) (p .s) (f .slices ++ appendSlices p f) fileFrom (length (f .sectors)) * 256) words
       ≡ appendedImage p i f (appendSlices p f) words
   unfolding extendedImage appendedImage
   appended-stored words len = sym (counted-store longer words (p .s) sector (data-there .0) (omega arith))
+
+-- ---- input and output as the plain unit has them: the lent words that Input fills are the block's, and the image after each is that
+-- of the unit of the outcome.
+
+-- ---- the block at a position
+
+module _ {i : List ℕ} {p : Plain} (o : OnDisc i p) (n : ℕ) {f : File} (found : tableFind n (p .files) ≡ some f) (k : ℕ) (below : k < length (f .sectors)) where
+  pub block-inside : blockSector (p .F) (p .s) (f .slices) fileFrom k * 256 + 256 ≤ length i
+  block-inside =
+      let g = ground p (o .good) in
+      let d = file-data p g n f found (k + 1) (block-in p g n f found k below) in
+      omega (arith, d .1, o .layout .size)
+
+  pub block-words : sectorWords i (blockSector (p .F) (p .s) (f .slices) fileFrom k) ≡ getD (f .sectors) k []
+  block-words =
+      sectorWords-holds i (blockSector (p .F) (p .s) (f .slices) fileFrom k) (getD (f .sectors) k []) block-inside (o .good .catalog .files n f found .sectors k below .count)
+      (o .layout .files n f found .blocks k below)
+
+  -- "Input hands out the sector there."
+  pub input-filled : (lent : List ℕ) → sectorWords i (blockSector (p .F) (p .s) (f .slices) fileFrom k) ++ drop 256 lent ≡ fill (getD (f .sectors) k []) lent
+  input-filled lent = ap₂ (λ (x : List ℕ) (c : ℕ). x ++ drop c lent) block-words (sym (o .good .catalog .files n f found .sectors k below .count))
+
+-- ---- the questions of an append give the step's premises
+
+-- The questions of an append, each answered yes: "extendable; where a slice is needed: one free; at most 127 stretches with it".
+pub record Appends (p : Plain) (f : File) : Type 0 where
+  pub extends : extendable (f .attributes) ≡ true
+  pub free : leb (slicesToTake (p .s) f) (freeSlices p) ≡ true
+  pub few : (eqb (slicesToTake (p .s) f) 0 || leb (stretchCount (f .slices ++ appendSlices p f)) 127) ≡ true
+
+module _ {p : Plain} {f : File} (a : Appends p f) where
+  pub appends-extends : T (extendable (f .attributes))
+  appends-extends = subst T (sym (a .extends)) tt
+
+  pub appends-room : slicesToTake (p .s) f ≤ freeSlices p
+  appends-room = leb-true (slicesToTake (p .s) f) (freeSlices p) (a .free)
+
+  pub appends-few : (slicesToTake (p .s) f ≡ 0) ⊎ (stretchCount (f .slices ++ appendSlices p f) ≤ 127)
+  appends-few =
+      or-case (eqb (slicesToTake (p .s) f) 0) (leb (stretchCount (f .slices ++ appendSlices p f)) 127)
+      (λ t. inl (eqb→eq (slicesToTake (p .s) f) 0 t)) (λ t. inr (leb→le (stretchCount (f .slices ++ appendSlices p f)) 127 t)) (subst T (sym (a .few)) tt)
+
+-- ---- the image after input and output at position k
+
+module _ {i : List ℕ} {p : Plain} (o : OnDisc i p) (n sender : ℕ) {users : Table AreaUser} {u : AreaUser} {f : File} (live : tableFind n (p .areas) ≡ some users)
+    (w : tableFind sender users ≡ some u) (found : tableFind n (p .files) ≡ some f) (k : ℕ) where
+  module _ (lent : List ℕ) (long : 256 ≤ length lent) (words : Words lent) where
+    pub replaced-on : k < length (f .sectors)
+        → OnDisc (replacedImage p i f k (take 256 lent)) (withFile n (rewritten f (f .slices) (set (f .sectors) k (take 256 lent))) (moved p n sender users u (suc k)))
+    replaced-on below =
+        let t = wordsOf-take 256 lent long words in
+        output-on p n sender (rewritten f (f .slices) (set (f .sectors) k (take 256 lent))) (suc k) live w (omega (arith, length-set (f .sectors) k (take 256 lent)))
+        (replace-on o n found k below (take 256 lent) (t .count) (t .words))
+
+    pub appended-on : k ≤ length (f .sectors) → Appends p f
+        → OnDisc (appendedImage p i f (appendSlices p f) (take 256 lent))
+        (withFile n (rewritten f (f .slices ++ appendSlices p f) (f .sectors ++ (take 256 lent ∷ []))) (moved p n sender users u (suc k)))
+    appended-on low a =
+        let t = wordsOf-take 256 lent long words in
+        output-on p n sender (rewritten f (f .slices ++ appendSlices p f) (f .sectors ++ (take 256 lent ∷ []))) (suc k) live w
+        (omega (arith, length-append (f .sectors) (take 256 lent ∷ [])))
+        (append-on o n found live (appends-extends a) (appends-room a) (appends-few a) (take 256 lent) (t .count) (t .words))

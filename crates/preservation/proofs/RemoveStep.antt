@@ -1,12 +1,11 @@
 -- Remove: the place of the name is emptied, its slices are marked free, the free word is counted.
-use mathlib.Core.Path.{_≡_, ap}
+use mathlib.Core.Path.{_≡_}
 use mathlib.Core.List.{List}
 use mathlib.Core.Logic.{_≢_}
 use mathlib.Core.Option.{none, some}
-use Prim.Native.Nat.{ℕ, _+_, _<_}
+use Prim.Native.Nat.{ℕ, _<_}
 use native.Mathlib.Omega.{arith}
 use Rattle.disc.specs.Words.{Words}
-use Rattle.disc.specs.Slices.{occurrences}
 use Rattle.disc.specs.Stretches.{sysFrom}
 use Rattle.disc.specs.Entries.{placeWord, placeCount, nameAt}
 use Rattle.words.specs.Store.{zeroWords}
@@ -15,8 +14,8 @@ use Rattle.map.specs.Marks.{allFree}
 use Rattle.plain.specs.Table.{tableFind, tableRemove}
 use Rattle.plain.specs.Unit.{Plain, File, sysOf, held, freeSectors, entry, withFiles}
 use Rattle.plain.specs.Good.{Good}
-use Rattle.plain.proofs.TableLaws.{weightAt, find-remove-other, total-remove}
-use Rattle.plain.proofs.UnitLaws.{legal-positive, holds, occurrences-held, entry-removed, entry-beside}
+use Rattle.plain.proofs.TableLaws.{find-remove-other}
+use Rattle.plain.proofs.UnitLaws.{legal-positive, entry-removed, entry-beside}
 use Rattle.plain.proofs.KeepsCatalog.{removed-good}
 use Rattle.refine.specs.Represents.{Layout}
 use Rattle.refine.specs.OnDisc.{OnDisc}
@@ -24,6 +23,7 @@ use Rattle.refine.specs.Writes.{emptyPlace, removedImage}
 use Rattle.refine.proofs.Ground.{Ground, ground, entry-named, part-file}
 use Rattle.refine.proofs.Writers.{long, write-zero, write-freed, forget-file}
 use Rattle.preservation.proofs.WriteLaws.{counted-on, words-marks}
+use Rattle.preservation.proofs.ResizeLaws.{entered}
 
 module _ {i : List ℕ} {p : Plain} (o : OnDisc i p) (n : ℕ) (f : File) (found : tableFind n (p .files) ≡ some f) (shut : tableFind n (p .areas) ≡ none)
     (t : ℕ) (in₀ : t < placeCount (p .H) (p .layers)) (was : nameAt (placeWord i (p .F) (p .s) (p .sys) sysFrom) t ≡ n) where
@@ -42,16 +42,6 @@ module _ {i : List ℕ} {p : Plain} (o : OnDisc i p) (n : ℕ) (f : File) (found
   gone : entry left n ≡ none
   gone = entry-removed p n (o .good .catalog .names) (o .good .catalog .files n f found .ordinary)
 
-  given : (x : ℕ) → occurrences x (held left) + occurrences x (f .slices) ≡ occurrences x (held p)
-  given x =
-      omega (
-        arith,
-        occurrences-held x (p .sys) (p .files),
-        occurrences-held x (p .sys) (tableRemove n (p .files)),
-        total-remove (holds x) n (p .files),
-        ap (weightAt (holds x) n) found,
-      )
-
   -- the place emptied, and the slices given back
   emptied : Layout (emptyPlace p (sysOf p) i t) p (freeSectors p) (held p) (entry left)
   emptied =
@@ -59,7 +49,7 @@ module _ {i : List ℕ} {p : Plain} (o : OnDisc i p) (n : ℕ) (f : File) (found
       write-zero gr (o .layout) t in₀ (entry left) n (entry-named p (o .good .catalog .names)) stay gone was nz
 
   pub freed-layout : Layout (allFree (emptyPlace p (sysOf p) i t) (f .slices)) p (freeSectors p) (held left) (entry left)
-  freed-layout = write-freed gr emptied (f .slices) (held left) (o .good .once) given
+  freed-layout = write-freed gr emptied (f .slices) (held left) (o .good .once) (entered gr (o .layout) n found .slices)
 
   pub freed-words : Words (allFree (emptyPlace p (sysOf p) i t) (f .slices))
   freed-words =

@@ -23,14 +23,14 @@ use Rattle.map.specs.Marks.{allUsed, allFree}
 use Rattle.map.proofs.MarkLaws.{length-all-marked}
 use Rattle.index.specs.Block.{wholeIndex}
 use Rattle.index.proofs.BlockLaws.{length-wholeIndex, holds-stored}
-use Rattle.plain.specs.Table.{tableFind, tablePut, tableRemove}
+use Rattle.plain.specs.Table.{Table, tableFind, tablePut, tableRemove}
 use Rattle.plain.specs.Unit.{Plain, File, held, withFiles}
 use Rattle.plain.specs.Taking.{zeroSectors}
 use Rattle.plain.specs.Catalog.{resized}
 use Rattle.plain.proofs.TableLaws.{weightAt, find-put, sorted-remove, total-put, total-remove, remove-some}
 use Rattle.plain.proofs.UnitLaws.{holds, occurrences-held}
 use Rattle.plain.proofs.WordLaws.{length-resized}
-use Rattle.refine.specs.Represents.{Layout}
+use Rattle.refine.specs.Represents.{FileOnImage, Layout}
 use Rattle.refine.specs.Writes.{zeroedSectors, takenImage, cutBlock, cutImage, resizedImage}
 use Rattle.refine.proofs.Sectors.{Same, same-refl, same-trans, holds-kept, sector-outside, marked-outside-map}
 use Rattle.refine.proofs.Ground.{Ground, part-file, first-in, block-in, catalog-data, sys-ground, file-data, catalog-file, in-file}
@@ -206,11 +206,58 @@ resized-joined n b l x y =
     ∙ getD-append-add l (zeroSectors (n - length l)) (b - length l) []
     ∙ getD-replicate (n - length l) (b - length l) (replicate 256 0) [] (omega arith)
 
--- ---- resizedImage: file f of name n becomes f′ of name m, the other files stay
+-- ---- the file that is resized: one of the unit, or, for a new file, one with no slices and no sectors
 
-module _ {i : List ℕ} {p : Plain} {v : ℕ} {E : ℕ → Option (List ℕ)} (g : Ground p) (r : Layout i p v (held p) E) (n m : ℕ) (f f′ : File)
-    (found : tableFind n (p .files) ≡ some f) (vacant : tableFind m (tableRemove n (p .files)) ≡ none)
-    (g′ : Ground (withFiles p (tablePut m f′ (tableRemove n (p .files))))) (re : Resizes (f .slices) (f′ .slices)) (few : stretchCount (f′ .slices) ≤ 127) where
+-- File f on the image, beside the files that stay.
+pub record Beside (i : List ℕ) (p : Plain) (v : ℕ) (E : ℕ → Option (List ℕ)) (others : Table File) (f : File) : Type 0 where
+  pub ground : Ground (withFiles p others)
+  pub layout : Layout i (withFiles p others) v (held p) E
+  pub slices : (k : ℕ) → occurrences k (held (withFiles p others)) + occurrences k (f .slices) ≡ occurrences k (held p)
+  pub file : FileOnImage i (p .F) (p .s) f
+  pub inside : (b : ℕ) → b < length (f .sectors) → (b + 1) / p .s < length (f .slices)
+
+abbrev pub noFile : File
+noFile = record { attributes = 0; optional = []; tail = []; booked = 0; bookedSlices = 0; slices = []; sectors = [] }
+
+module _ {i : List ℕ} {p : Plain} {v : ℕ} {E : ℕ → Option (List ℕ)} (g : Ground p) (r : Layout i p v (held p) E) where
+  pub entered : (n : ℕ) {f : File} → tableFind n (p .files) ≡ some f → Beside i p v E (tableRemove n (p .files)) f
+  entered n {f} found = record {
+    ground = record {
+      limits = g .limits;
+      once = λ k. omega (arith, g .once k, slices k);
+      names = sorted-remove 0 n (p .files) (g .names);
+      sysCover = g .sysCover;
+      cover = λ k a h. g .cover k a (remove-some k n 0 (p .files) a (g .names) h .1);
+    };
+    layout = forget-file g r n;
+    slices = slices;
+    file = r .files n f found;
+    inside = block-in p g n f found;
+  }
+    where
+      slices : (k : ℕ) → occurrences k (held (withFiles p (tableRemove n (p .files)))) + occurrences k (f .slices) ≡ occurrences k (held p)
+      slices k =
+          omega (
+            arith,
+            occurrences-held k (p .sys) (p .files),
+            occurrences-held k (p .sys) (tableRemove n (p .files)),
+            total-remove (holds k) n (p .files),
+            ap (weightAt (holds k) n) found,
+          )
+
+  pub unentered : Beside i p v E (p .files) noFile
+  unentered = record {
+    ground = g;
+    layout = r;
+    slices = λ k. omega arith;
+    file = record { index = λ x. absurd (omega arith); blocks = λ b x. absurd (omega arith) };
+    inside = λ b x. absurd (omega arith);
+  }
+
+-- ---- resizedImage: the file f becomes f′ of name m, the other files stay
+
+module _ {i : List ℕ} {p : Plain} {v : ℕ} {E : ℕ → Option (List ℕ)} {others : Table File} {f : File} (g : Ground p) (old : Beside i p v E others f) (m : ℕ) (f′ : File)
+    (vacant : tableFind m others ≡ none) (g′ : Ground (withFiles p (tablePut m f′ others))) (re : Resizes (f .slices) (f′ .slices)) (few : stretchCount (f′ .slices) ≤ 127) where
   abbrev l : List ℕ
   l = f .slices
 
@@ -218,62 +265,43 @@ module _ {i : List ℕ} {p : Plain} {v : ℕ} {E : ℕ → Option (List ℕ)} (g
   l′ = f′ .slices
 
   abbrev without : Plain
-  without = withFiles p (tableRemove n (p .files))
+  without = withFiles p others
 
   abbrev after : Plain
-  after = withFiles p (tablePut m f′ (tableRemove n (p .files)))
+  after = withFiles p (tablePut m f′ others)
 
   here : tableFind m (after .files) ≡ some f′
-  here = find-put m f′ (tableRemove n (p .files))
-
-  occurrences-without : (k : ℕ) → occurrences k (held without) + occurrences k l ≡ occurrences k (held p)
-  occurrences-without k =
-      omega (
-        arith,
-        occurrences-held k (p .sys) (p .files),
-        occurrences-held k (p .sys) (tableRemove n (p .files)),
-        total-remove (holds k) n (p .files),
-        ap (weightAt (holds k) n) found,
-      )
+  here = find-put m f′ others
 
   occurrences-after : (k : ℕ) → occurrences k (held after) ≡ occurrences k l′ + occurrences k (held without)
   occurrences-after k =
       omega (
         arith,
-        occurrences-held k (p .sys) (tableRemove n (p .files)),
-        occurrences-held k (p .sys) (tablePut m f′ (tableRemove n (p .files))),
-        total-put (holds k) m f′ (tableRemove n (p .files)),
+        occurrences-held k (p .sys) others,
+        occurrences-held k (p .sys) (tablePut m f′ others),
+        total-put (holds k) m f′ others,
         ap (weightAt (holds k) m) vacant,
       )
-
-  g₁ : Ground without
-  g₁ = record {
-    limits = g .limits;
-    once = λ k. omega (arith, g .once k, occurrences-without k);
-    names = sorted-remove 0 n (p .files) (g .names);
-    sysCover = g .sysCover;
-    cover = λ k a h. g .cover k a (remove-some k n 0 (p .files) a (g .names) h .1);
-  }
 
   -- what is held between giving back and taking
   abbrev between : List ℕ
   between = take (length l′) l ++ held without
 
   part-given : (k : ℕ) → occurrences k (drop (length l′) l) ≤ occurrences k (held p)
-  part-given k = omega (arith, occurrences-old re k, occurrences-without k)
+  part-given k = omega (arith, occurrences-old re k, old .slices k)
 
   part-taken : (k : ℕ) → occurrences k (drop (length l) l′) ≤ occurrences k (held after)
   part-taken k = omega (arith, occurrences-new re k, occurrences-after k)
 
   marked-layout : Layout (remarked i l l′) without v (held after) E
   marked-layout =
-      let r₁ = write-freed g₁ (forget-file g r n) (drop (length l′) l) between (g .once)
-      (λ k. omega (arith, occurrences-append k (take (length l′) l) (held without), occurrences-old re k, occurrences-without k)) in
-      write-used g₁ r₁ (drop (length l) l′) (held after) (g′ .once)
+      let r₁ = write-freed (old .ground) (old .layout) (drop (length l′) l) between (g .once)
+      (λ k. omega (arith, occurrences-append k (take (length l′) l) (held without), occurrences-old re k, old .slices k)) in
+      write-used (old .ground) r₁ (drop (length l) l′) (held after) (g′ .once)
       (λ k. omega (arith, occurrences-append k (take (length l′) l) (held without), occurrences-new re k, occurrences-after k))
 
   far : 2560 ≤ length i
-  far = long g r
+  far = long (old .ground) (old .layout)
 
   -- beside the map the marks leave every sector
   marked-keep : (x : ℕ) → x ≢ mapSector → Same i (remarked i l l′) x
@@ -329,9 +357,9 @@ module _ {i : List ℕ} {p : Plain} {v : ℕ} {E : ℕ → Option (List ℕ)} (g
   resized-index has =
       let here₀ = file-data after g′ m f′ here 0 (zero-in has) in
       holds-kept
-      (resliced-index i q (p .F) (p .s) re few has (omega (arith, here₀ .1, r .size))
+      (resliced-index i q (p .F) (p .s) re few has (omega (arith, here₀ .1, old .layout .size))
       (λ x. holds-kept
-      (rw (same-sector re (p .F) (p .s) 0 (first-in p g l x) (zero-in has)) (r .files n f found .index x)) (marked-keep q (omega (arith, here₀ .0)))))
+      (rw (same-sector re (p .F) (p .s) 0 (first-in p g l x) (zero-in has)) (old .file .index x)) (marked-keep q (omega (arith, here₀ .0)))))
       (zeroed-keep longer (p .F) (p .s) l′ from more q
       (λ b lo hi e. let z : 0 ≡ b = in-file after g′ m f′ here 0 b (zero-in has) (joined-in b lo hi) e in omega arith))
 
@@ -341,7 +369,7 @@ module _ {i : List ℕ} {p : Plain} {v : ℕ} {E : ℕ → Option (List ℕ)} (g
       let inside = block-in after g′ m f′ here b y in
       let d = file-data after g′ m f′ here (b + 1) inside in
       holds-kept
-      (rw (same-sector re (p .F) (p .s) (b + 1) (block-in p g n f found b x) inside) (r .files n f found .blocks b x))
+      (rw (same-sector re (p .F) (p .s) (b + 1) (old .inside b x) inside) (old .file .blocks b x))
       (resized-keep (sectorIn (p .F) (p .s) l′ (b + 1)) (omega (arith, d .0))
       (λ has e. let z : b + 1 ≡ 0 = in-file after g′ m f′ here (b + 1) 0 inside (zero-in has) e in omega arith)
       (λ c lo hi e. let z : b + 1 ≡ c = in-file after g′ m f′ here (b + 1) c inside (joined-in c lo hi) e in omega arith))
@@ -352,14 +380,14 @@ module _ {i : List ℕ} {p : Plain} {v : ℕ} {E : ℕ → Option (List ℕ)} (g
   resized-zero b x y =
       zero-holds (zeroedSectors longer (p .F) (p .s) l′ from more) (sectorIn (p .F) (p .s) l′ (b + 1)) (λ w h.
       zeroed-zero longer (p .F) (p .s) l′ from more
-      (λ c lo hi. let d = file-data after g′ m f′ here c (joined-in c lo hi) in omega (arith, d .1, r .size, resliced-size i q (p .F) (p .s) re))
+      (λ c lo hi. let d = file-data after g′ m f′ here c (joined-in c lo hi) in omega (arith, d .1, old .layout .size, resliced-size i q (p .F) (p .s) re))
       (b + 1) w (omega arith) (omega arith) h)
 
   pub write-resized : (size : ℕ) → f′ .sectors ≡ resized size (f .sectors) → Layout (resizedImage p i f f′) after v (held after) E
   write-resized size e =
       let len : length (f′ .sectors) ≡ size = ap length e ∙ length-resized size (f .sectors) in
       let at : (b : ℕ) → getD (f′ .sectors) b [] ≡ getD (resized size (f .sectors)) b [] = λ b. ap (λ (k : List (List ℕ)). getD k b []) e in
-      write-file g₁ marked-layout m f′ g′ (resizedImage p i f f′) (resized-size ∙ sym (remarked-size i q (p .F) (p .s) re))
+      write-file (old .ground) marked-layout m f′ g′ (resizedImage p i f f′) (resized-size ∙ sym (remarked-size i q (p .F) (p .s) re))
       (λ x off. written-keep x (λ h. off 0 (zero-in h)) (λ b lo hi. off b (joined-in b lo hi)))
       (record {
         index = resized-index;

@@ -7,10 +7,10 @@ use Prim.Native.Nat.{ℕ, zero, suc, _+_, _*_, _/_, _%_, _≤_, _<_}
 use native.Mathlib.Omega.{arith}
 use native.Mathlib.Nat.{mul-le-mul-left}
 use lib.Dec.{T}
-use lib.ListN.{length, replicate, getD-replicate}
+use lib.ListN.{length, getD, replicate, getD-replicate}
 use Rattle.disc.specs.Words.{word, Words, Holds}
 use Rattle.disc.specs.Names.{SYS, legalName, keyOf}
-use Rattle.disc.specs.Slices.{occurrences, oneIfNone, freeCount}
+use Rattle.disc.specs.Slices.{occurrences, freeCount}
 use Rattle.disc.specs.Stretches.{sectorIn, indexWords, stretchCount, sysFrom}
 use Rattle.disc.specs.Kit.{kitSector, mapSector}
 use Rattle.disc.specs.Map.{onesInMap, MapOf}
@@ -18,11 +18,11 @@ use Rattle.disc.specs.Entries.{entryWords, indexSector, sysEntry, placeWord, pl
 use Rattle.disc.proofs.Compare.{same-or}
 use Rattle.disc.proofs.NameLaws.{legal-begins}
 use Rattle.disc.proofs.WordLaws.{words-none, words-cons, words-append, words-replicate}
-use Rattle.disc.proofs.SliceLaws.{inUnit-mono}
+use Rattle.disc.proofs.SliceLaws.{inUnit-mono, sum-law}
 use Rattle.disc.proofs.Geometry.{in-range}
 use Rattle.disc.proofs.EntryLaws.{sector-first}
 use Rattle.words.specs.Store.{store, zeroWords}
-use Rattle.words.proofs.StoreLaws.{length-store, store-store, words-store, length-zeroWords, getD-zeroWords, words-zeroWords, word-sector-in}
+use Rattle.words.proofs.StoreLaws.{length-store, store-in, store-store, words-store, length-zeroWords, getD-zeroWords, words-zeroWords, word-sector-in}
 use Rattle.map.specs.Marks.{allMarked, allUsed}
 use Rattle.map.proofs.CountLaws.{ones-free}
 use Rattle.map.proofs.MarkLaws.{InMap, in-map, words-all-marked}
@@ -47,25 +47,25 @@ pub counted-free : (m s : ℕ) (held image : List ℕ) → m ≤ 4096 → MapOf 
 unfolding countedFree
 counted-free m s held image few is w = ap (λ (x : ℕ). setFree image (s * x)) (ones-free m held image few is w)
 
-free-most : (m : ℕ) (held : List ℕ) → freeCount m held ≤ m
-free-most zero held = omega arith
-free-most (suc m) held = omega (arith, free-most m held, none-most (occurrences (suc m) held))
-  where
-    none-most : (x : ℕ) → oneIfNone x ≤ 1
-    none-most zero = omega arith
-    none-most (suc x) = omega arith
-
 -- the end of a message: its free word is counted
 pub counted-on : {i : List ℕ} {p : Plain} {v : ℕ} → Good p → Words i → Layout i p v (held p) (entry p) → OnDisc (countedFree i (p .s)) p
 counted-on {i} {p} g w r =
     let e : countedFree i (p .s) ≡ setFree i (freeSectors p) = counted-free (M p) (p .s) (held p) i (g .limits .slicesHigh) (r .map) w in
-    let some-words : p .s * freeCount (M p) (held p) ≤ p .s * M p = mul-le-mul-left (p .s) (free-most (M p) (held p)) in
+    let some-words : p .s * freeCount (M p) (held p) ≤ p .s * M p = mul-le-mul-left (p .s) (omega (arith, sum-law (M p) (held p) (g .once))) in
     let small : freeSectors p < 65536 = omega (arith, top p (ground p g), g .limits .sectors) in
     record {
       good = g;
       words = rw e (words-store i (8 * 256 + 3) (freeSectors p ∷ []) w (words-cons (freeSectors p) [] small words-none));
       layout = rw e (write-free (ground p g) r (freeSectors p));
     }
+
+-- where the image with its free word counted is one of words, the free word fits
+pub counted-word : (image : List ℕ) (s : ℕ) → 2560 ≤ length image → Words (countedFree image s) → s * onesInMap image < 65536
+unfolding countedFree
+counted-word image s far w =
+    let v : ℕ = s * onesInMap image in
+    let e : getD (store image 2051 (v ∷ [])) (2051 + 0) 0 ≡ v = store-in image 2051 (v ∷ []) 0 (omega arith) (omega arith) in
+    omega (arith, w .each 2051)
 
 pub counted-keep : (image : List ℕ) (s q : ℕ) → q ≢ kitSector → Same image (countedFree image s) q
 unfolding countedFree

@@ -43,6 +43,13 @@ place-cong P Q {H} {E} {D} t h d u = record {
   key = u .key ∙ ap (keyOf H) (sym (name-cong P Q t h));
 }
 
+-- a place with the same words is used as before
+place-kept : (P Q : ℕ → ℕ → ℕ) {H : ℕ} {E D : ℕ → Option (List ℕ)} (t : ℕ) → ((w : ℕ) → w < 16 → Q t w ≡ P t w) → D (nameAt P t) ≡ E (nameAt P t)
+    → Unused P t ⊎ PlaceOf P H E t → Unused Q t ⊎ PlaceOf Q H D t
+place-kept P Q {H} {E} t h d = ⊎-elim
+    (λ (z : Unused P t). inl (record { zero = λ w x. h w x ∙ z .zero w x }))
+    (λ (u : PlaceOf P H E t). inr (place-cong P Q t h d u))
+
 module _ {P : ℕ → ℕ → ℕ} {N H : ℕ} {E : ℕ → Option (List ℕ)} (c : CatalogOf P N H E) (nm : Named E) where
   -- where a name's entry stands
   pub record At (n : ℕ) (e : List ℕ) : Type 0 where
@@ -77,10 +84,7 @@ module _ {P : ℕ → ℕ → ℕ} {N H : ℕ} {E : ℕ → Option (List ℕ)} (
         record {
           each = λ t l. same-or t t₀
               (λ q. rw q (inr (record { words = e; entered = ap D here ∙ new; holds = holds; key = key ∙ ap (keyOf H) (sym here) })))
-              (λ d. ⊎-elim
-              (λ (z : Unused P t). inl (record { zero = λ w x. off t w l d x ∙ z .zero w x }))
-              (λ (u : PlaceOf P H E t). inr (place-cong P Q t (λ w x. off t w l d x) (other (nameAt P t) (λ q. d (only t l q))) u))
-              (c .each t l));
+              (λ d. place-kept P Q t (λ w x. off t w l d x) (other (nameAt P t) (λ q. d (only t l q))) (c .each t l));
           there = λ m f h. same-or m n
               (λ q. (t₀, in₀, here ∙ sym q))
               (λ d.
@@ -105,10 +109,7 @@ module _ {P : ℕ → ℕ → ℕ} {N H : ℕ} {E : ℕ → Option (List ℕ)} (
         record {
           each = λ t l. same-or t t₀
               (λ q. rw q (inl zeroed))
-              (λ d. ⊎-elim
-              (λ (z : Unused P t). inl (record { zero = λ w x. off t w l d x ∙ z .zero w x }))
-              (λ (u : PlaceOf P H E t). inr (place-cong P Q t (λ w x. off t w l d x) (other (nameAt P t) (λ q. d (c .alone t t₀ l in₀ (q ∙ sym was) (λ y. nz (sym q ∙ y))))) u))
-              (c .each t l));
+              (λ d. place-kept P Q t (λ w x. off t w l d x) (other (nameAt P t) (λ q. d (c .alone t t₀ l in₀ (q ∙ sym was) (λ y. nz (sym q ∙ y))))) (c .each t l));
           there = λ m f h. same-or m n
               (λ q. absurd (some≢none (sym h ∙ ap D q ∙ gone)))
               (λ d.
@@ -129,10 +130,7 @@ catalog-grow {P} {N} {H} {E} c Q D K le old new other =
     let inner : (t : ℕ) → t < K → nameAt Q t ≢ 0 → t < N = λ t l z. below-or t N (λ x. x) (λ x. absurd (z (name-zero Q t (new t x l)))) in
     record {
       each = λ t l. below-or t N
-          (λ x. ⊎-elim
-          (λ (z : Unused P t). inl (record { zero = λ w y. old t w x y ∙ z .zero w y }))
-          (λ (u : PlaceOf P H E t). inr (place-cong P Q t (λ w y. old t w x y) (other (nameAt P t)) u))
-          (c .each t x))
+          (λ x. place-kept P Q t (λ w y. old t w x y) (other (nameAt P t)) (c .each t x))
           (λ x. inl (new t x l));
       there = λ m f h. let p = c .there m f (sym (other m) ∙ h) in (p .0, omega (arith, p .1), kept (p .0) (p .1) ∙ p .2);
       alone = λ t u lt lu q z.

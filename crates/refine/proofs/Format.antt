@@ -4,7 +4,7 @@ use mathlib.Core.Bool.{true}
 use mathlib.Core.List.{List, [], _∷_, append-nil}
 use mathlib.Core.Logic.{_≢_, inl}
 use mathlib.Core.Option.{Option, none, some}
-use Prim.Native.Nat.{ℕ, zero, suc, _+_, _*_, _-_, _/_, _%_, _≤_, _<_, compare, Ordering}
+use Prim.Native.Nat.{ℕ, zero, suc, _+_, _*_, _-_, _/_, _%_, _≤_, _<_, compare}
 use native.Mathlib.Nat.{mul-div-le, mul-le-mul-left, mod-eq-of-lt}
 use native.Mathlib.Omega.{arith}
 use lib.ListN.{length, getD}
@@ -19,7 +19,7 @@ use Rattle.disc.specs.Stretches.{indexWords, sectorIn, sysFrom, span}
 use Rattle.disc.specs.Kit.{Limits, Kit, kitSector, mapSector}
 use Rattle.disc.specs.Map.{MapOf}
 use Rattle.disc.specs.Entries.{placeWord, placeCount, mapEntry}
-use Rattle.disc.proofs.Compare.{Tri, less, same, more, tri, same-or, below-or}
+use Rattle.disc.proofs.Compare.{compare-cases, same-or, below-or}
 use Rattle.disc.proofs.DecideLaws.{never-true}
 use Rattle.disc.proofs.NumberLaws.{ceilDiv-some}
 use Rattle.disc.proofs.WordLaws.{words-none, words-cons}
@@ -228,12 +228,8 @@ module _ (image : List ℕ) (unit H s F N k6 k7 : ℕ) (lim : Limits H s F N) (s
 
   -- MAP's place is another one
   map-apart : mapT ≢ sysT
-  map-apart = go (compare (keyOf H MAP) (keyOf H SYS)) (tri (keyOf H MAP) (keyOf H SYS))
-    where
-      go : (o : Ordering) → Tri (keyOf H MAP) (keyOf H SYS) o → 16 * keyOf H MAP + oneIfSame o ≢ 16 * keyOf H SYS
-      go o (less h) = λ e. omega arith
-      go o (same h) = λ e. omega arith
-      go o (more h) = λ e. omega arith
+  map-apart =
+      compare-cases (keyOf H MAP) (keyOf H SYS) (λ o. 16 * keyOf H MAP + oneIfSame o ≢ 16 * keyOf H SYS) (λ h e. omega arith) (λ h e. omega arith) (λ h e. omega arith)
 
   map-unused : Unused (P first) mapT
   map-unused = record {

@@ -37,13 +37,10 @@ pub record Ground (p : Plain) : Type 0 where
   pub cover : Every (λ n f. need (p .s) (length (f .sectors)) ≤ length (f .slices)) (p .files)
 
 pub ground : (p : Plain) → Good p → Ground p
-ground p g = record {
-  limits = g .limits;
-  once = g .once;
-  names = g .catalog .names;
-  sysCover = omega (arith, catalog-cover (g .catalog) (omega (arith, g .limits .sliceLow)));
-  cover = λ n f h. g .catalog .files n f h .covered;
-}
+ground p g =
+    let room : p .H * p .layers ≤ length (p .sys) * p .s = omega (arith, catalog-cover (g .catalog) (omega (arith, g .limits .sliceLow))) in
+    let cover : Every (λ n f. need (p .s) (length (f .sectors)) ≤ length (f .slices)) (p .files) = λ n f h. g .catalog .files n f h .covered in
+    search g
 
 -- ---- entries by name
 

@@ -1,12 +1,12 @@
 -- Sums over a range, and the places of a key among those of SYS: sixteen for each layer.
 use mathlib.Core.Path.{_≡_, refl, sym, ap, _∙_}
-use Prim.Native.Nat.{ℕ, zero, suc, _+_, _*_, _/_, _%_, _≤_, _<_, compare, Ordering}
+use Prim.Native.Nat.{ℕ, zero, suc, _+_, _*_, _/_, _%_, _≤_, _<_, compare}
 use native.Mathlib.Omega.{arith}
-use native.Mathlib.Nat.{add-suc, mod-eq-of-lt, mul-add-mod-self-left}
+use native.Mathlib.Nat.{add-suc, mod-eq-of-lt, mul-add-mod-self-left, mul-le-mul-left}
 use Rattle.disc.specs.Slices.{oneIfSame}
 use Rattle.disc.specs.Entries.{placeCount}
-use Rattle.disc.proofs.SliceLaws.{same-le}
-use Rattle.disc.proofs.Compare.{Tri, less, same, more, tri, tri-same, same-or, below-or}
+use Rattle.disc.proofs.SliceLaws.{same-le, one-other}
+use Rattle.disc.proofs.Compare.{tri-same, same-or, below-or}
 use Rattle.plain.proofs.Collect.{sumBelow, sum-ext}
 
 -- ---- sums over a range
@@ -92,68 +92,38 @@ pub is-key : (k : ℕ) → isKey k k ≡ 1
 is-key k = rw (tri-same k) refl
 
 pub is-same : (k x : ℕ) → 1 ≤ isKey k x → x ≡ k
-is-same k x h = go (compare x k) (tri x k) h
-  where
-    go : (o : Ordering) → Tri x k o → 1 ≤ oneIfSame o → x ≡ k
-    go o (less l) h = absurd (omega arith)
-    go o (same e) h = e
-    go o (more l) h = absurd (omega arith)
+is-same k x h = same-or x k (λ e. e) (λ d. absurd (omega (arith, one-other x k d)))
 
 -- one number is k
 one-key : (n k : ℕ) → sumBelow n (isKey k) ≤ 1
 one-key n k = sum-alone n (isKey k) (λ t x. is-most k t) (λ t u x y a b. is-same k t a ∙ sym (is-same k u b))
 
--- one sector of each layer
-sectors-of : (H L k : ℕ) → sumBelow (H * L) (λ q. isKey k (q % H)) ≤ L
-sectors-of H L k =
-    omega (
-      arith,
-      sum-regroup H L (λ q. isKey k (q % H)),
-      sum-most L 1 (λ l. sumBelow H (λ j. isKey k ((H * l + j) % H))) (λ l x.
-          omega (arith, one-key H k, sum-ext H (λ j. isKey k ((H * l + j) % H)) (isKey k) (λ j y. ap (isKey k) (mul-add-mod-self-left H l j ∙ mod-eq-of-lt y)))),
-    )
-
-pub places-of : (H L k : ℕ) → sumBelow (placeCount H L) (λ t. isKey k (t / 16 % H)) ≤ 16 * L
-places-of H L k =
-    omega (
-      arith,
-      sum-regroup 16 (H * L) (λ t. isKey k (t / 16 % H)),
-      sum-le (H * L) (λ q. sumBelow 16 (λ j. isKey k ((16 * q + j) / 16 % H))) (λ q. 16 * isKey k (q % H)) (λ q x.
-          sum-most 16 (isKey k (q % H)) (λ j. isKey k ((16 * q + j) / 16 % H)) (λ j y.
-          omega (arith, ap (λ (n : ℕ). isKey k (n % H)) (let e : (16 * q + j) / 16 ≡ q = omega arith in e)))),
-      sum-times (H * L) 16 (λ q. isKey k (q % H)),
-      sectors-of H L k,
-    )
-
--- n terms of at least c each
-sum-least : (n c : ℕ) (f : ℕ → ℕ) → ((t : ℕ) → t < n → c ≤ f t) → n * c ≤ sumBelow n f
+-- n terms of c each
+sum-const : (n c : ℕ) (f : ℕ → ℕ) → ((t : ℕ) → t < n → f t ≡ c) → sumBelow n f ≡ n * c
 unfolding sumBelow
-sum-least zero c f h = omega arith
-sum-least (suc n) c f h = omega (arith, sum-least n c f (λ t x. h t (omega arith)), h n (omega arith))
+sum-const zero c f h = omega arith
+sum-const (suc n) c f h = omega (arith, sum-const n c f (λ t x. h t (omega arith)), h n (omega arith))
 
--- every layer has a sector of the key, and sixteen places in it
-sectors-least : (H L k : ℕ) → k < H → L ≤ sumBelow (H * L) (λ q. isKey k (q % H))
-sectors-least H L k low =
-    omega (
-      arith,
-      sum-regroup H L (λ q. isKey k (q % H)),
-      sum-least L 1 (λ l. sumBelow H (λ j. isKey k ((H * l + j) % H))) (λ l x.
-          omega (
-            arith,
-            sum-term H k (λ j. isKey k ((H * l + j) % H)) low,
-            ap (isKey k) (mul-add-mod-self-left H l k ∙ mod-eq-of-lt low),
-            is-key k,
-          )),
-    )
+-- every layer has the same sectors of the key, and sixteen places in each
+module _ (H L k : ℕ) where
+  sectors-of : sumBelow (H * L) (λ q. isKey k (q % H)) ≡ L * sumBelow H (isKey k)
+  sectors-of =
+      sum-regroup H L (λ q. isKey k (q % H))
+      ∙ sum-const L (sumBelow H (isKey k)) (λ l. sumBelow H (λ j. isKey k ((H * l + j) % H))) (λ l x.
+      sum-ext H (λ j. isKey k ((H * l + j) % H)) (isKey k) (λ j y. ap (isKey k) (mul-add-mod-self-left H l j ∙ mod-eq-of-lt y)))
 
-pub places-least : (H L k : ℕ) → k < H → 16 * L ≤ sumBelow (placeCount H L) (λ t. isKey k (t / 16 % H))
-places-least H L k low =
-    omega (
-      arith,
-      sum-regroup 16 (H * L) (λ t. isKey k (t / 16 % H)),
-      sum-le (H * L) (λ q. 16 * isKey k (q % H)) (λ q. sumBelow 16 (λ j. isKey k ((16 * q + j) / 16 % H))) (λ q x.
-          sum-least 16 (isKey k (q % H)) (λ j. isKey k ((16 * q + j) / 16 % H)) (λ j y.
-          omega (arith, ap (λ (n : ℕ). isKey k (n % H)) (let e : (16 * q + j) / 16 ≡ q = omega arith in e)))),
-      sum-times (H * L) 16 (λ q. isKey k (q % H)),
-      sectors-least H L k low,
-    )
+  places-sum : sumBelow (placeCount H L) (λ t. isKey k (t / 16 % H)) ≡ 16 * (L * sumBelow H (isKey k))
+  places-sum =
+      sum-regroup 16 (H * L) (λ t. isKey k (t / 16 % H))
+      ∙ sum-ext (H * L) (λ q. sumBelow 16 (λ j. isKey k ((16 * q + j) / 16 % H))) (λ q. 16 * isKey k (q % H)) (λ q x.
+      sum-const 16 (isKey k (q % H)) (λ j. isKey k ((16 * q + j) / 16 % H)) (λ j y.
+      ap (λ (n : ℕ). isKey k (n % H)) (let e : (16 * q + j) / 16 ≡ q = omega arith in e)))
+      ∙ sum-times (H * L) 16 (λ q. isKey k (q % H)) ∙ ap (λ (n : ℕ). 16 * n) sectors-of
+
+  -- no number is twice a key, and each below H once
+  pub places-of : sumBelow (placeCount H L) (λ t. isKey k (t / 16 % H)) ≤ 16 * L
+  places-of = omega (arith, places-sum, mul-le-mul-left L (one-key H k))
+
+  pub places-least : k < H → 16 * L ≤ sumBelow (placeCount H L) (λ t. isKey k (t / 16 % H))
+  places-least low =
+      let once : 1 ≤ sumBelow H (isKey k) = omega (arith, sum-term H k (isKey k) low, is-key k) in omega (arith, places-sum, mul-le-mul-left L once)

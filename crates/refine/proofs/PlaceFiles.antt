@@ -5,7 +5,7 @@ use Prim.Native.Nat.{ℕ, _<_}
 use native.Mathlib.Omega.{arith}
 use Rattle.disc.specs.Entries.{nameAt}
 use Rattle.plain.specs.Table.{Row, Table, tableFind, SortedFrom, total}
-use Rattle.plain.proofs.TableLaws.{some≢none, some-inj, find-above, find-ext}
+use Rattle.plain.proofs.TableLaws.{some≢none, some-inj, never-some, find-above, find-ext}
 use Rattle.plain.proofs.Collect.{sumBelow, collect, weightIf, sorted-collect, collect-find, find-collect, total-collect}
 
 -- a row of a name, if it has a value
@@ -39,15 +39,14 @@ module _ {A : Type 0} (P : ℕ → ℕ → ℕ) {N : ℕ} (T : Table A) (sorted 
   pub collected : collect (rowAt P T) N ≡ T
   collected = find-ext 0 (collect (rowAt P T) N) T (sorted-collect (rowAt P T) positive-name N) sorted (λ n. go n (tableFind n T) refl)
     where
-      absent : (n : ℕ) → tableFind n T ≡ none → (o : Option A) → tableFind n (collect (rowAt P T) N) ≡ o → o ≡ none
-      absent n e none h = refl
-      absent n e (some f) h =
+      absent : (n : ℕ) → tableFind n T ≡ none → tableFind n (collect (rowAt P T) N) ≡ none
+      absent n e = never-some (tableFind n (collect (rowAt P T) N)) (λ f h.
           let c = collect-find (rowAt P T) positive-name N n f h in
           let q = row-some (nameAt P (c .0)) (tableFind (nameAt P (c .0)) T) (record { key = n; val = f }) (c .2) in
-          absurd (some≢none (sym (q .1) ∙ ap (λ (k : ℕ). tableFind k T) (q .0) ∙ e))
+          some≢none (sym (q .1) ∙ ap (λ (k : ℕ). tableFind k T) (q .0) ∙ e))
 
       go : (n : ℕ) (o : Option A) → tableFind n T ≡ o → tableFind n (collect (rowAt P T) N) ≡ tableFind n T
-      go n none e = absent n e (tableFind n (collect (rowAt P T) N)) refl ∙ sym e
+      go n none e = absent n e ∙ sym e
       go n (some f) e =
           let s = there n f e in
           let here : rowAt P T (s .0) ≡ some (record { key = n; val = f }) = ap (λ (k : ℕ). rowOf k (tableFind k T)) (s .2) ∙ ap (rowOf n) e in

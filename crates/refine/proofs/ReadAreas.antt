@@ -1,9 +1,8 @@
 -- The open area processes of a state, collected by name: what the state's search finds, the tables find.
 use mathlib.Core.Path.{_≡_, refl, sym, ap, _∙_}
-use mathlib.Core.Bool.{Bool, true, false}
 use mathlib.Core.List.{List}
 use mathlib.Core.Option.{Option, none, some}
-use Prim.Native.Nat.{ℕ, zero, suc, _≤_, _<_}
+use Prim.Native.Nat.{ℕ, _≤_, _<_}
 use native.Mathlib.Omega.{arith}
 use lib.ListN.{length}
 use lib.Dec.{T}
@@ -18,9 +17,9 @@ use Rattle.state.specs.Areas.{areaNamed}
 use Rattle.plain.specs.Table.{Row, Table, tableFind, SortedFrom}
 use Rattle.plain.specs.Unit.{File, AreaUser}
 use Rattle.plain.specs.Good.{GoodArea}
-use Rattle.plain.proofs.TableLaws.{some≢none, some-inj, one, total-length}
+use Rattle.plain.proofs.TableLaws.{some≢none, some-inj, never-some, one, total-length}
 use Rattle.plain.proofs.UnitLaws.{legal-positive}
-use Rattle.plain.proofs.Collect.{collect, weightIf, sorted-collect, collect-find, find-collect, total-collect}
+use Rattle.plain.proofs.Collect.{collect, rowIf, IsRow, row-some, row-is, weightIf, sorted-collect, collect-find, find-collect, total-collect}
 use Rattle.sound.specs.Places.{Used}
 use Rattle.sound.specs.State.{Shaped, areaName, openArea, liveIndex, liveLength, DistinctAreas}
 use Rattle.sound.specs.Sound.{indexOf, SoundEntries, SoundAreas}
@@ -34,38 +33,15 @@ use Rattle.refine.proofs.StateLaws.{open-found, open-absent, named-insi
 
 -- ---- the areas by name
 
-abbrev areaBy : Bool → ℕ → Table AreaUser → Option (Row (Table AreaUser))
-areaBy false n users = none
-areaBy true zero users = none
-areaBy true (suc n) users = some (record { key = suc n; val = users })
-
-record IsArea (b : Bool) (n : ℕ) (users : Table AreaUser) (r : Row (Table AreaUser)) : Type 0 where
-  pub live : b ≡ true
-  pub key : n ≡ r .key
-  pub val : users ≡ r .val
-  pub positive : 0 < n
-
-area-some : (b : Bool) (n : ℕ) (users : Table AreaUser) (r : Row (Table AreaUser)) → areaBy b n users ≡ some r → IsArea b n users r
-area-some false n users r e = absurd (some≢none (sym e))
-area-some true zero users r e = absurd (some≢none (sym e))
-area-some true (suc n) users r e =
-    let q = some-inj e in
-    record { live = refl; key = ap (λ (x : Row (Table AreaUser)). x .key) q; val = ap (λ (x : Row (Table AreaUser)). x .val) q; positive = omega arith }
-
-area-is : (b : Bool) (n : ℕ) (users : Table AreaUser) → b ≡ true → 0 < n → areaBy b n users ≡ some (record { key = n; val = users })
-area-is false n users e h = absurd (let z : _≡_ {A = ℕ} 0 1 = cc in omega arith)
-area-is true zero users e h = absurd (omega arith)
-area-is true (suc n) users e h = refl
-
 module _ (state : State) where
   abbrev rowAt : ℕ → Option (Row (Table AreaUser))
-  rowAt j = areaBy (areaAt state j .live) (areaName (areaAt state j)) (usersIn (areaAt state j .users))
+  rowAt j = rowIf (areaAt state j .live) (areaName (areaAt state j)) (usersIn (areaAt state j .users))
 
   unfoldable pub readAreas : Table (Table AreaUser)
   readAreas = collect rowAt 8
 
-  row-of : (j : ℕ) (r : Row (Table AreaUser)) → rowAt j ≡ some r → IsArea (areaAt state j .live) (areaName (areaAt state j)) (usersIn (areaAt state j .users)) r
-  row-of j r e = area-some (areaAt state j .live) (areaName (areaAt state j)) (usersIn (areaAt state j .users)) r e
+  row-of : (j : ℕ) (r : Row (Table AreaUser)) → rowAt j ≡ some r → IsRow (areaAt state j .live) (areaName (areaAt state j)) (usersIn (areaAt state j .users)) r
+  row-of j r e = row-some (areaAt state j .live) (areaName (areaAt state j)) (usersIn (areaAt state j .users)) r e
 
   positive-key : (j : ℕ) (r : Row (Table AreaUser)) → rowAt j ≡ some r → 0 < r .key
   positive-key j r e = let q = row-of j r e in omega (arith, q .key, q .positive)
@@ -76,7 +52,7 @@ module _ (state : State) where
 
   -- what the table finds is an open descriptor
   row-there : (n : ℕ) (users : Table AreaUser) → tableFind n readAreas ≡ some users
-      → (j : ℕ) × (j < 8) × IsArea (areaAt state j .live) (areaName (areaAt state j)) (usersIn (areaAt state j .users)) (record { key = n; val = users })
+      → (j : ℕ) × (j < 8) × IsRow (areaAt state j .live) (areaName (areaAt state j)) (usersIn (areaAt state j .users)) (record { key = n; val = users })
   unfolding readAreas
   row-there n users e = let c = collect-find rowAt positive-key 8 n users e in (c .0, c .1, row-of (c .0) (record { key = n; val = users }) (c .2))
 
@@ -85,7 +61,7 @@ module _ (state : State) where
     one-row j k x y a b e f z =
         let q = row-of j x e in
         let v = row-of k y f in
-        distinct j k a b (q .live) (v .live) (q .key ∙ z ∙ sym (v .key))
+        distinct j k a b (q .given) (v .given) (q .key ∙ z ∙ sym (v .key))
 
     pub eight-areas : length readAreas ≤ 8
     unfolding readAreas
@@ -105,16 +81,12 @@ module _ (state : State) where
     area-find j h live p =
         find-collect rowAt positive-key 8 one-row 8 (omega arith) j
         (record { key = areaName (areaAt state j); val = usersIn (areaAt state j .users) }) h
-        (area-is (areaAt state j .live) (areaName (areaAt state j)) (usersIn (areaAt state j .users)) live p)
+        (row-is (areaAt state j .live) (areaName (areaAt state j)) (usersIn (areaAt state j .users)) live p)
 
     pub area-none : (n : ℕ) → openArea state n ≡ none → tableFind n readAreas ≡ none
-    area-none n e = go (tableFind n readAreas) refl
-      where
-        go : (o : Option (Table AreaUser)) → tableFind n readAreas ≡ o → o ≡ none
-        go none h = refl
-        go (some users) h =
-            let c = row-there n users h in
-            absurd (some≢none (sym (open-at (c .0) (c .1) (c .2 .live)) ∙ ap (openArea state) (c .2 .key) ∙ e))
+    area-none n e = never-some (tableFind n readAreas) (λ users h.
+        let c = row-there n users h in
+        some≢none (sym (open-at (c .0) (c .1) (c .2 .given)) ∙ ap (openArea state) (c .2 .key) ∙ e))
 
 -- ---- with the entries
 
@@ -168,7 +140,7 @@ module _ (image : List ℕ) (state : State) (H s F : ℕ) (c : Catalog)
   by-users : (n : ℕ) (users : Table AreaUser) → tableFind n (readAreas state) ≡ some users → Open n
   by-users n users e =
       let w = row-there state n users e in
-      opened (w .0) (w .1) (w .2 .live) n (w .2 .key)
+      opened (w .0) (w .1) (w .2 .given) n (w .2 .key)
 
   by-search : (n : ℕ) (a : Area) → openArea state n ≡ some a → Open n
   by-search n a e = go (areaNamed n state) refl
@@ -179,11 +151,7 @@ module _ (image : List ℕ) (state : State) (H s F : ℕ) (c : Catalog)
 
   -- a name without users in the tables is not open
   pub not-open : (n : ℕ) → tableFind n (readAreas state) ≡ none → openArea state n ≡ none
-  not-open n h = go (openArea state n) refl
-    where
-      go : (x : Option Area) → openArea state n ≡ x → x ≡ none
-      go none e = refl
-      go (some a) e = absurd (some≢none (sym (by-search n a e .users) ∙ h))
+  not-open n h = never-some (openArea state n) (λ a e. some≢none (sym (by-search n a e .users) ∙ h))
 
   module _ (n : ℕ) (o : Open n) where
     live-index : indexOf state P (o .place) ≡ areaAt state (o .area) .index .0

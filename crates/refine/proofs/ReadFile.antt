@@ -9,9 +9,8 @@ use native.Mathlib.Nat.{div-eq-of-eq-mul-right}
 use lib.ListN.{length, getD}
 use Rattle.types.specs.declared.Area.{Area}
 use Rattle.types.specs.declared.State.{State}
-use Rattle.disc.specs.Numbers.{need, sliceStart}
+use Rattle.disc.specs.Numbers.{need}
 use Rattle.disc.specs.Words.{word, Words, Holds}
-use Rattle.disc.specs.Slices.{firstOf}
 use Rattle.disc.specs.Stretches.{stretchCount, indexWords, slicesAt, sectorIn, blockSector, fileFrom}
 use Rattle.disc.specs.Entries.{nameAt, indexSector}
 use Rattle.disc.proofs.WordLaws.{words-none, words-cons}
@@ -24,6 +23,7 @@ use Rattle.plain.specs.Good.{WordsOf}
 use Rattle.sound.specs.Places.{IndexBlock, OwnIndex, slicesFrom, indexIf}
 use Rattle.sound.specs.State.{openArea, liveIndex, liveLength}
 use Rattle.sound.specs.Sound.{indexOf, lengthOf, slicesOf, SoundFile}
+use Rattle.refine.proofs.UnitFiles.{index-some}
 
 -- ---- a list by its elements
 
@@ -50,10 +50,6 @@ words-listOf n f small = record { count = length-listOf n f; words = go n f smal
     go (suc n) f small = words-cons (f 0) (listOf n (λ b. f (suc b))) (small 0) (go n (λ b. f (suc b)) (λ b. small (suc b)))
 
 -- ---- a live index sector, 0 if there is none
-
-index-some : (F s n : ℕ) (l : List ℕ) → 1 ≤ n → indexSector F s n l ≡ sliceStart F s (firstOf l)
-index-some F s zero l h = absurd (omega arith)
-index-some F s (suc n) l h = refl
 
 -- as many stretches as the block counts, and some slice
 pub block-count : (image : List ℕ) (F s q : ℕ) → IndexBlock image F s q → word image q 0 ≡ stretchCount (slicesAt image F s q)

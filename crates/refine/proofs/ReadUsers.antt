@@ -125,8 +125,4 @@ module _ (a : Area) (three : length (a .users) ≡ 3) (ok : LegalUsers a) where
   good-user sender v e =
       let x = user-there (a .users) sender v e in
       let inside : x .entry < 3 = omega (arith, x .inside) in
-      rw (← x .is) (record {
-        opensLow = ok .opensLow (x .entry) inside (x .taken);
-        opensHigh = ok .opensHigh (x .entry) inside (x .taken);
-        inside = ok .inside (x .entry) inside (x .taken);
-      })
+      rw (← x .is) (search (ok .opensLow (x .entry) inside, ok .opensHigh (x .entry) inside, ok .inside (x .entry) inside))

@@ -10,7 +10,7 @@ use Rattle.disc.specs.Words.{word, Holds}
 use Rattle.disc.specs.Kit.{mapSector}
 use Rattle.disc.specs.Map.{mapBit, onesBelow, onesInMap}
 use Rattle.words.specs.Store.{store}
-use Rattle.words.proofs.StoreLaws.{length-store, word-store-other, word-sector-other}
+use Rattle.words.proofs.StoreLaws.{length-store, word-store-other}
 use Rattle.map.specs.Marks.{allMarked}
 use Rattle.map.proofs.MarkLaws.{InMap, length-all-marked, all-marked-outside}
 
@@ -57,10 +57,7 @@ store-outside i vs q a fits = record {
 
 -- words stored from the start of sector q
 pub sector-outside : (i vs : List ℕ) (q : ℕ) → length vs ≤ 256 → Outside i (store i (q * 256) vs) (q ∷ [])
-sector-outside i vs q fits = record {
-  size = length-store i (q * 256) vs;
-  same = λ r h. record { at = λ b l. word-sector-other i q vs fits r b (h .0) l };
-}
+sector-outside i vs q fits = let e : q * 256 ≡ q * 256 + 0 = omega arith in rw e (store-outside i vs q 0 (omega arith))
 
 -- slices marked in the map
 pub marked-outside-map : (v : ℕ) (i l : List ℕ) → v ≤ 1 → InMap l → 2560 ≤ length i → Outside i (allMarked v i l) (mapSector ∷ [])

@@ -6,7 +6,7 @@ use Rattle.types.specs.declared.State.{State}
 use Rattle.disc.specs.Catalog.{sysCatalog}
 use Rattle.plain.specs.Unit.{Plain, sysOf}
 use Rattle.plain.specs.Good.{Good}
-use Rattle.sound.specs.Sound.{SoundWith, SoundUnit}
+use Rattle.sound.specs.Sound.{SoundCatalog, SoundWith, SoundUnit}
 use Rattle.refine.specs.Represents.{Represents}
 use Rattle.refine.specs.Claims.{SoundRepresents}
 use Rattle.refine.proofs.Unique.{represents-unique}
@@ -18,27 +18,10 @@ use Rattle.refine.proofs.Read.{sound-reads}
 module _ {image : List ℕ} {state : State} {p : Plain} (g : Good p) (r : Represents image state p) where
   -- the rules with the plain unit's numbers and slices
   with-unit : SoundWith image state (p .H) (p .s) (p .F) (p .N) (sysOf p)
-  with-unit = record {
-    words = r .words;
-    shaped = r .areas .shaped;
-    size = r .layout .size;
-    kit = kit-ones g r;
-    limits = g .limits;
-    sysEntered = sys-entered g r;
-    mapEntered = map-entered g r;
-    mapIndex = r .layout .mapIndex;
-    catalog = record {
-      layered = g .catalog .layered;
-      described = sym (sys-read image p g (r .layout .sys .index));
-      index = sys-index image p g (r .layout .sys .index);
-      count = g .catalog .count;
-      entries = sound-entries g r;
-    };
-    sysFirst = g .sysFirst;
-    once = sound-once g r;
-    map = sound-map g r;
-    areas = sound-areas g r;
-  }
+  with-unit =
+      let index = r .layout .sys .index in
+      let catalog : SoundCatalog image state (p .H) (p .s) (p .F) (sysOf p) = search (g .catalog, sym (sys-read image p g index), sys-index image p g index, sound-entries g r) in
+      search (kit-ones g r, sys-entered g r, map-entered g r, sound-once g r, sound-map g r, sound-areas g r)
 
   -- the kit and sector 6 have those numbers and slices
   pub represents-sound : SoundUnit image state

@@ -19,7 +19,7 @@ use Rattle.disc.specs.Entries.{indexSector}
 use Rattle.disc.proofs.Compare.{same-or}
 use Rattle.plain.specs.Table.{Table, tableFind, tablePut, SortedFrom, isSome}
 use Rattle.plain.specs.Unit.{Plain, File, AreaUser, withAreas}
-use Rattle.plain.proofs.TableLaws.{find-put, find-put-other, some-inj, some≢none}
+use Rattle.plain.proofs.TableLaws.{find-put, find-put-other, some-inj}
 use Rattle.state.specs.declared.Found.the-variants.{At, Absent}
 use Rattle.disc.specs.Names.{packed}
 use Rattle.state.specs.Areas.{countOf, isVacant, isNamed, areaNamed, vacantAreaOf, setArea, areaClosed}
@@ -167,15 +167,17 @@ is-some-unit F s (some users) none = refl
 is-some-unit F s (some users) (some f) = refl
 
 -- the users of an area of the unit
-users-of : (F s : ℕ) (users : Option (Table AreaUser)) (f : Option File) (a : LiveArea) → some a ≡ areaOfUnit F s users f → users ≡ some (a .users)
-users-of F s none f a e = absurd (some≢none e)
-users-of F s (some users) none a e = ap (λ (x : LiveArea). some (x .users)) (sym (some-inj e))
-users-of F s (some users) (some f) a e = ap (λ (x : LiveArea). some (x .users)) (sym (some-inj e))
+abbrev pub usersOfArea : Option LiveArea → Option (Table AreaUser)
+usersOfArea none = none
+usersOfArea (some l) = some (l .users)
 
-pub none-of : (F s : ℕ) (users : Option (Table AreaUser)) (f : Option File) → none ≡ areaOfUnit F s users f → users ≡ none
-none-of F s none f e = refl
-none-of F s (some users) none e = absurd (some≢none (sym e))
-none-of F s (some users) (some f) e = absurd (some≢none (sym e))
+pub users-of-unit : (F s : ℕ) (users : Option (Table AreaUser)) (f : Option File) → usersOfArea (areaOfUnit F s users f) ≡ users
+users-of-unit F s none f = refl
+users-of-unit F s (some users) none = refl
+users-of-unit F s (some users) (some f) = refl
+
+pub users-of : (F s : ℕ) (users : Option (Table AreaUser)) (f : Option File) {o : Option LiveArea} → o ≡ areaOfUnit F s users f → users ≡ usersOfArea o
+users-of F s users f e = sym (users-of-unit F s users f) ∙ ap usersOfArea (sym e)
 
 -- an area as the unit has it, and as the state has it
 abbrev pub unitArea : Plain → ℕ → Option LiveArea
@@ -199,11 +201,11 @@ module _ (state : State) (p : Plain) (r : SameAreas state p) where
 
   pub same-found : (n j : ℕ) → areaNamed n state ≡ At j → tableFind n (p .areas) ≡ some (usersIn (areaAt state j .users))
   same-found n j e =
-      users-of (p .F) (p .s) (tableFind n (p .areas)) (tableFind n (p .files)) (liveArea (areaAt state j))
+      users-of (p .F) (p .s) (tableFind n (p .areas)) (tableFind n (p .files))
       (ap areaOfState (sym (open-found state n j e)) ∙ r .each n)
 
   pub same-absent : (n : ℕ) → areaNamed n state ≡ Absent → tableFind n (p .areas) ≡ none
-  same-absent n e = none-of (p .F) (p .s) (tableFind n (p .areas)) (tableFind n (p .files)) (ap areaOfState (sym (open-absent state n e)) ∙ r .each n)
+  same-absent n e = users-of (p .F) (p .s) (tableFind n (p .areas)) (tableFind n (p .files)) (ap areaOfState (sym (open-absent state n e)) ∙ r .each n)
 
   -- the index sector and live length of an open area whose file is entered
   live-of : (n j : ℕ) (f : File) → areaNamed n state ≡ At j → tableFind n (p .files) ≡ some f

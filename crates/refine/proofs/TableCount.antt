@@ -2,13 +2,14 @@
 use mathlib.Core.Path.{_≡_, refl, sym, ap, _∙_}
 use mathlib.Core.List.{List, [], _∷_}
 use mathlib.Core.Bool.{Bool, true, false, cond, true≢false}
-use mathlib.Core.Option.{Option, none, some}
+use mathlib.Core.Option.{some}
 use Prim.Native.Nat.{ℕ, suc, _+_}
 use native.Mathlib.Omega.{arith}
 use lib.ListN.{length}
 use borrow.Author.Tests.{eq-eqb, ne-eqb}
 use Rattle.disc.proofs.Compare.{tri-same, same-or}
 use Rattle.plain.specs.Table.{Table, tableFind, tablePut, tableRemove, SortedFrom, isSome}
+use Rattle.plain.proofs.QuestionLaws.{true-yes, is-some}
 use Rattle.plain.proofs.TableLaws.{find-put, find-put-other, find-remove, find-remove-other, find-above, sorted-put, sorted-remove, find-ext, length-put}
 use Rattle.state.specs.Areas.{countOf}
 use Rattle.state.proofs.SearchLaws.{firstThat, that-nowhere}
@@ -41,17 +42,12 @@ module _ {A B : Type 0} (test : A → Bool) (key : A → ℕ) (d : A) where
   table-count [] b t ok o h = no-rows t h
   table-count (x ∷ l) b t ok o h = go (test x) refl (λ u s g. table-count l b u s (distinct-tail test key d x l o) g)
     where
-      -- ask for the row of the head's key
-      row : (o : Option B) → isSome o ≡ true → (a : B) × (o ≡ some a)
-      row none e = absurd (true≢false (sym e))
-      row (some a) e = (a, refl)
-
       go : (v : Bool) → test x ≡ v → ((u : Table B) → SortedFrom b u → ((n : ℕ) → isSome (tableFind n u) ≡ isSome (firstThat (keyed test key n) l)) → length u ≡ countOf test l)
           → length t ≡ cond v 1 0 + countOf test l
       go true e ih =
           let n : ℕ = key x in
           let own : isSome (tableFind n t) ≡ true = rw (e, eq-eqb n n refl) at (h n) in
-          let found = row (tableFind n t) own in
+          let found = is-some (tableFind n t) (true-yes own) in
           let rest : (k : ℕ) → isSome (tableFind k (tableRemove n t)) ≡ isSome (firstThat (keyed test key k) l) = λ k. same-or
           k
           n

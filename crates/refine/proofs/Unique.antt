@@ -19,11 +19,12 @@ use Rattle.disc.proofs.EntryLaws.{sector-first, index-zero, index-none, no-slic
 use Rattle.plain.specs.Table.{Table, tableFind}
 use Rattle.plain.specs.Unit.{Plain, File, AreaUser, held, fileEntry, entry, freeSectors, withTables, withFiles}
 use Rattle.plain.specs.Good.{Good}
-use Rattle.plain.proofs.TableLaws.{some≢none, some-inj, find-ext}
+use Rattle.plain.proofs.TableLaws.{some≢none, never-some, some-inj, find-ext}
 use Rattle.plain.proofs.UnitLaws.{entry-sys, not-system, entry-of, entry-cases}
 use Rattle.sound.specs.Places.{Unused}
 use Rattle.refine.specs.Represents.{PlaceOf, Layout, LiveArea, areaOfUnit, Represents}
 use Rattle.refine.proofs.CatalogLaws.{At, at, Named, name-zero, no-zero}
+use Rattle.refine.proofs.StateLaws.{usersOfArea, users-of-unit}
 use Rattle.refine.proofs.Ground.{Ground, ground, entry-named, entry-length, positive, catalog-slices, sys-ground, file-slices}
 
 -- ---- entries
@@ -181,14 +182,7 @@ module _ (image : List ℕ) (p : Plain) (fs : Table File) (a : Is image p) (b : 
 
     file-same : f ≡ k
     file-same =
-        let o = t .optional in
-        let at₀ = t .attributes in
-        let bo = t .booked in
-        let bs = booked-slices in
-        let ta = t .tail in
-        let sl = slices-same in
-        let se = sectors-same in
-        λ z. record { attributes = at₀ z; optional = o z; tail = ta z; booked = bo z; bookedSlices = bs z; slices = sl z; sectors = se z }
+        λ z. record { attributes = t .attributes z; optional = t .optional z; tail = t .tail z; booked = t .booked z; bookedSlices = booked-slices z; slices = slices-same z; sectors = sectors-same z }
 
 -- what the areas of the state say of two units' files
 record Lives (p : Plain) (fs : Table File) : Type 0 where
@@ -198,12 +192,11 @@ module _ (image : List ℕ) (p : Plain) (fs : Table File) (a : Is image p) (b : 
   files-unique : fs ≡ p .files
   files-unique = find-ext 0 fs (p .files) (b .good .catalog .names) (a .good .catalog .names) (λ n. go n (tableFind n (p .files)) refl)
     where
-      back : (n : ℕ) → tableFind n (p .files) ≡ none → (o : Option File) → tableFind n fs ≡ o → o ≡ none
-      back n h none e = refl
-      back n h (some k) e = let x = file-there image (withFiles p fs) (p .files) b a n k e in absurd (some≢none (sym (x .1) ∙ h))
+      back : (n : ℕ) → tableFind n (p .files) ≡ none → tableFind n fs ≡ none
+      back n h = never-some (tableFind n fs) (λ k e. some≢none (sym (file-there image (withFiles p fs) (p .files) b a n k e .1) ∙ h))
 
       go : (n : ℕ) (o : Option File) → tableFind n (p .files) ≡ o → tableFind n fs ≡ tableFind n (p .files)
-      go n none h = back n h (tableFind n fs) refl ∙ sym h
+      go n none h = back n h ∙ sym h
       go n (some f) h =
           let x = file-there image p fs a b n f h in
           x .1 ∙ ap some (sym (file-same image p fs a b n f (x .0) h (x .1) (x .2) (λ users e. live .same n f (x .0) users h (x .1) e))) ∙ sym h
@@ -226,15 +219,6 @@ unit-unique image p q a b u r live =
     λ z. record { unit = u z; H = eH z; s = es z; F = eF z; N = eN z; layers = e₃ z; sys = e₂ z; files = e₄ z; areas = r z }
 
 -- ---- with the state
-
-abbrev usersOfArea : Option LiveArea → Option (Table AreaUser)
-usersOfArea none = none
-usersOfArea (some l) = some (l .users)
-
-users-of-unit : (F s : ℕ) (a : Option (Table AreaUser)) (o : Option File) → usersOfArea (areaOfUnit F s a o) ≡ a
-users-of-unit F s none o = refl
-users-of-unit F s (some users) none = refl
-users-of-unit F s (some users) (some f) = refl
 
 pub represents-unique : (image : List ℕ) (state : State) (p q : Plain) → Good p → Good q → Represents image state p → Represents image state q → q ≡ p
 represents-unique image state p q gp gq a b =

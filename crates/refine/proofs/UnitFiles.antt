@@ -31,9 +31,14 @@ use Rattle.sound.specs.State.{openArea, liveIndex, liveLength}
 use Rattle.sound.specs.Sound.{indexOf, lengthOf, slicesOf, SoundFile}
 use Rattle.refine.specs.Represents.{PlaceOf, FileOnImage, LiveArea, areaOfState, areaOfUnit, Represents}
 use Rattle.refine.proofs.Ground.{Ground, ground, positive, catalog-slices, sys-ground, file-slices, length-small}
-use Rattle.refine.proofs.StateLaws.{none-of}
+use Rattle.refine.proofs.StateLaws.{users-of}
 
 -- ---- one file's index block
+
+-- the index sector is the first slice's where there is one
+pub index-some : (F s n : ℕ) (l : List ℕ) → 1 ≤ n → indexSector F s n l ≡ sliceStart F s (firstOf l)
+index-some F s zero l h = absurd (omega arith)
+index-some F s (suc n) l h = refl
 
 -- a file with slices has an index block in the sector of its first slice
 pub index-block : (image : List ℕ) (F s q : ℕ) (l : List ℕ) → 0 < s → ((j : ℕ) → j < length l → 1 ≤ getD l j 0) → 0 < length l → stretchCount l ≤ 127 → Holds image q (indexWords F s l)
@@ -76,10 +81,6 @@ pub own-index : (image : List ℕ) (F s : ℕ) (f : File) → 10 ≤ F → 0 < s
     → FileOnImage image F s f → indexSector F s (length (f .slices)) (f .slices) ≢ 0 → OwnIndex image F s (indexSector F s (length (f .slices)) (f .slices))
 own-index image F s f low pos above few h nz = below-or 0 (length (f .slices)) own (λ y. absurd (nz (index-none F s (f .slices) y)))
   where
-    at-first : (l : List ℕ) → 0 < length l → sliceStart F s (firstOf l) ≡ indexSector F s (length l) l
-    at-first [] x = absurd (omega arith)
-    at-first (x ∷ l) y = refl
-
     own : 0 < length (f .slices) → OwnIndex image F s (indexSector F s (length (f .slices)) (f .slices))
     own has =
         let q : ℕ = indexSector F s (length (f .slices)) (f .slices) in
@@ -87,7 +88,7 @@ own-index image F s f low pos above few h nz = below-or 0 (length (f .slices)) o
         let read : slicesAt image F s q ≡ f .slices = slices-read image F s q pos (f .slices) above few words in
         record {
           block = index-block image F s q (f .slices) pos above has few words;
-          first = ap (λ (l : List ℕ). sliceStart F s (firstOf l)) read ∙ at-first (f .slices) has;
+          first = ap (λ (l : List ℕ). sliceStart F s (firstOf l)) read ∙ sym (index-some F s (length (f .slices)) (f .slices) has);
         }
 
 -- ---- the file in a place
@@ -126,7 +127,7 @@ module _ {image : List ℕ} {state : State} {p : Plain} (g : Good p) (r : Repres
         go (some users) z = (ap (λ (l : LiveArea). l .index) (some-inj z), ap (λ (l : LiveArea). l .size) (some-inj z))
 
     pub no-live-area : openArea state n ≡ none → tableFind n (p .areas) ≡ none
-    no-live-area e = none-of (p .F) (p .s) (tableFind n (p .areas)) (tableFind n (p .files)) (ap areaOfState (sym e) ∙ r .areas .each n)
+    no-live-area e = users-of (p .F) (p .s) (tableFind n (p .areas)) (tableFind n (p .files)) (ap areaOfState (sym e) ∙ r .areas .each n)
 
     module _ (t : ℕ) (same : n ≡ nameAt P t) (words : (w : ℕ) → w < 16 → P t w ≡ getD (fileEntry (p .F) (p .s) n f) w 0) where
       abbrev opt : length (f .optional) ≡ 3
@@ -177,11 +178,7 @@ module _ {image : List ℕ} {state : State} {p : Plain} (g : Good p) (r : Repres
       -- the booked index sector beside the live one
       booked-index : (b : ℕ) → b ≤ length (f .slices) → indexSector (p .F) (p .s) b (f .slices) ≡ indexIf b index
       booked-index zero le = refl
-      booked-index (suc b) le = go (f .slices) le
-        where
-          go : (l : List ℕ) → suc b ≤ length l → sliceStart (p .F) (p .s) (firstOf l) ≡ indexSector (p .F) (p .s) (length l) l
-          go [] le = absurd (omega arith)
-          go (x ∷ l) le = refl
+      booked-index (suc b) le = sym (index-some (p .F) (p .s) (length (f .slices)) (f .slices) (omega arith))
 
       pub sound-file : SoundFile image state (p .F) (p .s) P t
       sound-file = record {

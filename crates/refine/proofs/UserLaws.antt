@@ -1,7 +1,7 @@
 -- The users of an area descriptor and the plain unit's table of users: searches, insertion, removal, numbers and roles.
 use mathlib.Core.Path.{_≡_, refl, sym, ap, _∙_}
 use mathlib.Core.List.{List, [], _∷_}
-use mathlib.Core.Bool.{Bool, true, false, not, cond, _&&_}
+use mathlib.Core.Bool.{Bool, true, false, not, cond, not-and-self}
 use mathlib.Core.Logic.{_≢_}
 use mathlib.Core.Option.{Option, none, some}
 use Prim.Native.Nat.{ℕ, zero, suc, _+_, _<_}
@@ -122,53 +122,36 @@ live-users a index size o = record { three = o .three; only = o .only }
 
 -- ---- an entry set
 
+-- a sorted table that has what the entries have of k and of every other user
+users-are : (l : List User) (t : Table AreaUser) (k : ℕ) → SortedFrom 0 t → tableFind k (usersIn l) ≡ tableFind k t
+    → ((m : ℕ) → m ≢ 0 → m ≢ k → tableFind m (usersIn l) ≡ tableFind m t) → usersIn l ≡ t
+users-are l t k ok own past = find-ext 0 (usersIn l) t (users-sorted l) ok (λ m. same-or m 0
+    (λ z. rw z (users-zero l ∙ sym (find-below 0 0 t ok (omega arith))))
+    (λ z. same-or m k (λ q. rw q own) (past m z)))
+
 module _ (l : List User) (u : ℕ) (new : User) (k : ℕ) (h : k ≢ 0) where
   -- the new entry is the first of its user, the old one was of the same user or vacant
   put-law : new .id ≡ k → u < length l → ((v : ℕ) → v < u → hasId k (getD l v vacantUser) ≡ false) → ((m : ℕ) → m ≢ 0 → m ≢ k → hasId m (getD l u vacantUser) ≡ false)
       → usersIn (set l u new) ≡ tablePut k (plainUser new) (usersIn l)
   put-law e inside before old =
-      find-ext 0 (usersIn (set l u new)) (tablePut k (plainUser new) (usersIn l)) (users-sorted (set l u new)) (sorted-put 0 k (plainUser new) (usersIn l) (omega arith) (users-sorted l)) at
-    where
-      own : tableFind k (usersIn (set l u new)) ≡ tableFind k (tablePut k (plainUser new) (usersIn l))
-      own = users-find k (set l u new) h ∙ ap (mapSome plainUser) (that-set (hasId k) vacantUser l u new inside before (eq-eqb (new .id) k e)) ∙ sym (find-put k (plainUser new) (usersIn l))
-
-      past : (m : ℕ) → m ≢ 0 → m ≢ k → tableFind m (usersIn (set l u new)) ≡ tableFind m (tablePut k (plainUser new) (usersIn l))
-      past m z d =
-          users-find m (set l u new) z
-          ∙ ap (mapSome plainUser) (that-set-other (hasId m) vacantUser l u new (old m z d) (ne-eqb (new .id) m (λ q. d (sym q ∙ e))))
-          ∙ sym (users-find m l z)
-          ∙ sym (find-put-other m k (plainUser new) (usersIn l) d)
-
-      at : (m : ℕ) → tableFind m (usersIn (set l u new)) ≡ tableFind m (tablePut k (plainUser new) (usersIn l))
-      at m =
-          same-or
-          m
-          0
-          (λ z. rw z (users-zero (set l u new) ∙ sym (users-zero l) ∙ sym (find-put-other 0 k (plainUser new) (usersIn l) (λ q. h (sym q)))))
-          (λ z. same-or m k (λ q. rw q own) (past m z))
+      users-are (set l u new) (tablePut k (plainUser new) (usersIn l)) k (sorted-put 0 k (plainUser new) (usersIn l) (omega arith) (users-sorted l))
+      (users-find k (set l u new) h ∙ ap (mapSome plainUser) (that-set (hasId k) vacantUser l u new inside before (eq-eqb (new .id) k e)) ∙ sym (find-put k (plainUser new) (usersIn l)))
+      (λ m z d.
+      users-find m (set l u new) z
+      ∙ ap (mapSome plainUser) (that-set-other (hasId m) vacantUser l u new (old m z d) (ne-eqb (new .id) m (λ q. d (sym q ∙ e))))
+      ∙ sym (users-find m l z)
+      ∙ sym (find-put-other m k (plainUser new) (usersIn l) d))
 
   -- the entry of the only one of that user is vacated
   remove-law : new .id ≡ 0 → getD l u vacantUser .id ≡ k → ((v : ℕ) → v < length l → v ≢ u → hasId k (getD l v vacantUser) ≡ false) → usersIn (set l u new) ≡ tableRemove k (usersIn l)
   remove-law e own rest =
-      find-ext 0 (usersIn (set l u new)) (tableRemove k (usersIn l)) (users-sorted (set l u new)) (sorted-remove 0 k (usersIn l) (users-sorted l)) at
-    where
-      gone : tableFind k (usersIn (set l u new)) ≡ tableFind k (tableRemove k (usersIn l))
-      gone = users-find k (set l u new) h ∙ ap (mapSome plainUser) (that-set-none (hasId k) vacantUser l u new rest (ne-eqb (new .id) k (λ q. h (sym q ∙ e)))) ∙ sym (find-remove k 0 (usersIn l) (users-sorted l))
-
-      past : (m : ℕ) → m ≢ 0 → m ≢ k → tableFind m (usersIn (set l u new)) ≡ tableFind m (tableRemove k (usersIn l))
-      past m z d =
-          users-find m (set l u new) z
-          ∙ ap (mapSome plainUser) (that-set-other (hasId m) vacantUser l u new (ne-eqb (getD l u vacantUser .id) m (λ q. d (sym q ∙ own))) (ne-eqb (new .id) m (λ q. z (sym q ∙ e))))
-          ∙ sym (users-find m l z)
-          ∙ sym (find-remove-other m k 0 (usersIn l) (users-sorted l) d)
-
-      at : (m : ℕ) → tableFind m (usersIn (set l u new)) ≡ tableFind m (tableRemove k (usersIn l))
-      at m =
-          same-or
-          m
-          0
-          (λ z. rw z (users-zero (set l u new) ∙ sym (users-zero l) ∙ sym (find-remove-other 0 k 0 (usersIn l) (users-sorted l) (λ q. h (sym q)))))
-          (λ z. same-or m k (λ q. rw q gone) (past m z))
+      users-are (set l u new) (tableRemove k (usersIn l)) k (sorted-remove 0 k (usersIn l) (users-sorted l))
+      (users-find k (set l u new) h ∙ ap (mapSome plainUser) (that-set-none (hasId k) vacantUser l u new rest (ne-eqb (new .id) k (λ q. h (sym q ∙ e)))) ∙ sym (find-remove k 0 (usersIn l) (users-sorted l)))
+      (λ m z d.
+      users-find m (set l u new) z
+      ∙ ap (mapSome plainUser) (that-set-other (hasId m) vacantUser l u new (ne-eqb (getD l u vacantUser .id) m (λ q. d (sym q ∙ own))) (ne-eqb (new .id) m (λ q. z (sym q ∙ e))))
+      ∙ sym (users-find m l z)
+      ∙ sym (find-remove-other m k 0 (usersIn l) (users-sorted l) d))
 
 module _ (a : Area) (sender u : ℕ) (h : sender ≢ 0) where
   pub put-own : (new : User) → entryOf sender a ≡ At u → new .id ≡ sender → usersIn (set (a .users) u new) ≡ tablePut sender (plainUser new) (usersIn (a .users))
@@ -198,11 +181,7 @@ first-keyed : (n : ℕ) → n ≢ 0 → (l : List User) → firstThat (hasId n) 
 first-keyed n h l = sym (λ i. firstThat (λ u. keyed-id n h u i) l)
 
 keyed-zero : (u : User) → keyed isTaken idOf 0 u ≡ false
-keyed-zero u = go (hasId 0 u)
-  where
-    go : (b : Bool) → (not b && b) ≡ false
-    go true = refl
-    go false = refl
+keyed-zero u = not-and-self (hasId 0 u)
 
 same-keys : (l : List User) (n : ℕ) → isSome (tableFind n (usersIn l)) ≡ isSome (firstThat (keyed isTaken idOf n) l)
 same-keys l n = same-or n 0 (λ e. rw (e, users-zero l, that-nowhere (keyed isTaken idOf 0) vacantUser l (record { fails = λ v k. keyed-zero (getD l v vacantUser) }))) other

@@ -3,7 +3,7 @@ use mathlib.Core.Path.{_≡_, refl, sym, ap, _∙_}
 use mathlib.Core.List.{List, [], _∷_, _++_}
 use mathlib.Core.Logic.{_≢_, _⊎_, inl, inr}
 use mathlib.Core.Option.{Option, none, some}
-use Prim.Native.Nat.{ℕ, zero, suc, _+_, _*_, _-_, _/_, _%_, _≤_, _<_}
+use Prim.Native.Nat.{ℕ, zero, suc, _+_, _*_, _/_, _%_, _≤_, _<_}
 use native.Mathlib.Omega.{arith}
 use lib.ListN.{length, getD, List·getD-append}
 use Rattle.disc.specs.Numbers.{sliceStart}
@@ -21,7 +21,7 @@ use Rattle.words.specs.Store.{zeroWords}
 use Rattle.words.proofs.StoreLaws.{length-zeroWords, getD-zeroWords, word-store-in, word-store-beside}
 use Rattle.map.specs.Marks.{allUsed, allFree}
 use Rattle.map.proofs.MarkLaws.{map-taken, map-freed, in-map}
-use Rattle.plain.specs.Table.{Table, tableFind, tablePut, tableRemove}
+use Rattle.plain.specs.Table.{Table, tableFind, tablePut, tableRemove, Every}
 use Rattle.plain.specs.Unit.{Plain, File, AreaUser, sysOf, M, withFiles, withTables}
 use Rattle.plain.proofs.TableLaws.{some-inj, find-put, find-put-other, remove-some}
 use Rattle.sound.specs.Places.{Unused}
@@ -212,15 +212,16 @@ module _ {i : List ℕ} {p : Plain} {v : ℕ} {h : List ℕ} {E : ℕ → Option
   map-write j k o m =
       low-write j v k (o .size) (λ q x. o .same q (omega arith, tt)) (o .same 6 (omega arith, tt)) (o .same 7 (omega arith, tt)) (kit-kept (r .kit) (o .same 8 (omega arith, tt))) m
 
+  -- a slice of the unit is one of the map
+  few : (x : ℕ) → inUnit (M p) x ≤ inUnit 4096 x
+  few x = inUnit-mono (M p) 4096 x (g .limits .slicesHigh)
+
   -- slices l marked free: k is left
   pub write-freed : (l k : List ℕ) → InRangeOnce (M p) h → ((x : ℕ) → occurrences x k + occurrences x l ≡ occurrences x h) → Layout (allFree i l) p v k E
   write-freed l k once left =
       map-write (allFree i l) k
       (marked-outside-map 1 i l (omega arith) (in-map l (λ x. omega (arith, left x, once x, few x))) long)
       (map-freed (M p) l k h i (g .limits .slicesHigh) long (r .map) once (λ x. omega (arith, left x)))
-    where
-      few : (x : ℕ) → inUnit (M p) x ≤ inUnit 4096 x
-      few x = inUnit-mono (M p) 4096 x (g .limits .slicesHigh)
 
   -- slices l marked used: k is held then
   pub write-used : (l k : List ℕ) → InRangeOnce (M p) k → ((x : ℕ) → occurrences x k ≡ occurrences x l + occurrences x h) → Layout (allUsed i l) p v k E
@@ -234,9 +235,6 @@ module _ {i : List ℕ} {p : Plain} {v : ℕ} {h : List ℕ} {E : ℕ → Option
         occurrences-append x l h,
         both x,
       ))
-    where
-      few : (x : ℕ) → inUnit (M p) x ≤ inUnit 4096 x
-      few x = inUnit-mono (M p) 4096 x (g .limits .slicesHigh)
 
   -- ---- a place of SYS
 
@@ -274,14 +272,9 @@ module _ {i : List ℕ} {p : Plain} {v : ℕ} {h : List ℕ} {E : ℕ → Option
 
   -- its name and lists dropped: nothing is written
   pub forget-file : (n : ℕ) → Layout i (withFiles p (tableRemove n (p .files))) v h E
-  forget-file n = record {
-    size = r .size;
-    kit = r .kit;
-    map = r .map;
-    sys = record { index = r .sys .index; places = r .sys .places };
-    mapIndex = r .mapIndex;
-    files = λ m a e. r .files m a (remove-some m n 0 (p .files) a (g .names) e .1);
-  }
+  forget-file n =
+      let files : Every (λ m a. FileOnImage i (p .F) (p .s) a) (tableRemove n (p .files)) = λ m a e. r .files m a (remove-some m n 0 (p .files) a (g .names) e .1) in
+      search r
 
   -- writes inside the sectors of the file's new slices only
   pub write-file : (n : ℕ) (f : File) → Ground (withFiles p (tablePut n f (p .files))) → (j : List ℕ) → length j ≡ length i → ((q : ℕ) → Off (p .F) (p .s) (f .slices) q → Same i j q)

@@ -1,7 +1,6 @@
 pub mod Represents
 pub mod Writes
 pub mod OnDisc
-pub mod Replies
 pub mod Leaves
 pub mod Format
 pub mod Claims

@@ -6,7 +6,6 @@ use native.Mathlib.Omega.{arith}
 use lib.ListN.{length}
 use Rattle.disc.specs.Slices.{InRangeOnce}
 use Rattle.disc.specs.Map.{onesInMap}
-use Rattle.disc.specs.Entries.{indexSector}
 use Rattle.words.specs.Store.{store, zeroWords}
 use Rattle.words.proofs.StoreLaws.{length-store}
 use Rattle.map.specs.Marks.{allFree}
@@ -21,17 +20,16 @@ use Rattle.refine.specs.Writes.{countedFree, emptyPlace, removedImage}
 use Rattle.refine.proofs.Ground.{Ground, ground, top, part-file}
 use Rattle.refine.proofs.Writers.{long}
 use Rattle.preservation.proofs.RemoveStep.{freed-layout, freed-words}
-use Rattle.lookup.specs.Files.{BlockOf}
+use Rattle.lookup.specs.Files.{ClosedFile, BlockOf}
 use Rattle.lookup.proofs.UnitLaws.{on-catalog}
 use Rattle.lookup.proofs.FindLaws.{place-room}
-use Rattle.lookup.proofs.FileLaws.{block-is, block-total, total-fits, live-index}
+use Rattle.lookup.proofs.FileLaws.{closed-block, closed-total}
 use Rattle.slices.specs.Give.{CanFreeFrom, CanCutFrom, CanFree, Freed}
 use Rattle.slices.proofs.BlockLaws.{unit-file}
 use Rattle.slices.proofs.GiveLaws.{free-from}
 use Rattle.slices.proofs.ZeroLaws.{count-fits}
-use Rattle.remove.specs.Remove.{CanDropFrom}
 
-module _ {image : List ℕ} {o : Unit} {place : Place} {p : Plain} {n : ℕ} {f : File} (can : CanDropFrom image o place p n f) where
+module _ {image : List ℕ} {o : Unit} {place : Place} {p : Plain} {n : ℕ} {f : File} (can : ClosedFile image o place p n f) where
   gr : Ground p
   gr = ground p (can .on .good)
 
@@ -44,12 +42,6 @@ module _ {image : List ℕ} {o : Unit} {place : Place} {p : Plain} {n : ℕ} {f 
 
   -- the index block, read from the sector that the entry names
   module _ {index : ℕ} {block : List ℕ} (e : index ≡ entryWord image place 8) (of : BlockOf image index block) where
-    abbrev own : index ≡ indexSector (p .F) (p .s) (length (f .slices)) (f .slices)
-    own = e ∙ live-index (can .on .good) (can .at) f (can .file) (can .closed)
-
-    pub slices-fit : (1 ≤ o .slice) × (sliceTotal (o .slice) block 0 < 65536)
-    slices-fit = total-fits (can .on) (can .numbers) n f (can .file) of own
-
     -- the place emptied, all slices are given back
     module _ {cleared : List ℕ} {total : ℕ} (empty : cleared ≡ store image (placeStart place) (zeroWords 16)) (all : total ≡ sliceTotal (o .slice) block 0) where
       cleared-is : cleared ≡ emptyPlace p (sysOf p) image (can .at .number)
@@ -60,8 +52,8 @@ module _ {image : List ℕ} {o : Unit} {place : Place} {p : Plain} {n : ℕ} {f 
           let g = can .on .good in
           let once : InRangeOnce (M p) (f .slices) = λ k. omega (arith, g .once k, part-file p gr n f (can .file) k) in
           let cut : CanCutFrom cleared block (p .F) (p .s) (M p) total (f .slices) = record {
-            file = unit-file cleared block (f .slices) (g .limits) (ap length empty ∙ length-store image _ _ ∙ can .on .layout .size) (block-is (can .on) (can .numbers) n f (can .file) of own) (g .catalog .files n f (can .file) .few) once;
-            count = omega (arith, block-total (can .on) (can .numbers) n f (can .file) of own);
+            file = unit-file cleared block (f .slices) (g .limits) (ap length empty ∙ length-store image _ _ ∙ can .on .layout .size) (closed-block can e of) (g .catalog .files n f (can .file) .few) once;
+            count = omega (arith, closed-total can e of);
           } in
           free-from cut
 

@@ -14,31 +14,16 @@ use Rattle.plain.specs.Unit.{Plain, File, sysOf, withFiles}
 use Rattle.plain.specs.Good.{Good}
 use Rattle.plain.specs.Catalog.{stepRemove}
 use Rattle.refine.specs.Represents.{Represents}
-use Rattle.refine.specs.OnDisc.{OnDisc}
 use Rattle.refine.specs.Writes.{removedImage}
-use Rattle.refine.specs.Replies.{Replies}
+use Rattle.refine.specs.Leaves.{Replies}
 use Rattle.lookup.specs.Unit.{NumbersOf, unitPlaces}
-use Rattle.lookup.specs.Find.{NameAt}
+use Rattle.lookup.specs.Files.{ClosedFile}
 
 -- ---- the writes
 
--- The entry of file f under name n, which has no area process, stands in the place.
-pub record CanDropFrom (image : List ℕ) (o : Unit) (place : Place) (p : Plain) (n : ℕ) (f : File) : Type 0 where
-  pub on : OnDisc image p
-  pub numbers : NumbersOf o p
-  pub file : tableFind n (p .files) ≡ some f
-  pub closed : tableFind n (p .areas) ≡ none
-  pub at : NameAt image p n place
-
-pub record CanDrop (image : List ℕ) (o : Unit) (place : Place) : Type 0 where
-  pub unit : Plain
-  pub name : ℕ
-  pub file : File
-  pub can : CanDropFrom image o place unit name file
-
 -- The place of the name is emptied, its slices are given back, and the free sectors are counted.
 pub record Dropped (image : List ℕ) (o : Unit) (place : Place) (after : List ℕ) : Type 0 where
-  pub all : (p : Plain) (n : ℕ) (f : File) (can : CanDropFrom image o place p n f)
+  pub all : (p : Plain) (n : ℕ) (f : File) (can : ClosedFile image o place p n f)
       → after ≡ removedImage p (sysOf p) image (can .at .number) f
 
 -- ---- the message

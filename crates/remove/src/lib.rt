@@ -2,7 +2,8 @@
 
 ghost use Rattle.disc.specs.Names.{unitIn};
 ghost use Rattle.lookup.specs.Unit.{Meant};
-ghost use Rattle.remove.specs.Remove.{CanDrop, Dropped, Removes};
+ghost use Rattle.lookup.specs.Files.{SomeClosedFile};
+ghost use Rattle.remove.specs.Remove.{Dropped, Removes};
 use catalog::Found;
 use catalog::Place;
 use catalog::Unit;
@@ -12,7 +13,7 @@ use types::State;
 
 // Empties the place of a file and gives back its slices. The index block is read before anything is written.
 fn drop_file(image: &mut [u16], unit: Unit, place: Place)
-    requires { ⌜ CanDrop (now image) unit place ⌝ }
+    requires { ⌜ SomeClosedFile (now image) unit place ⌝ }
     ensures { λ _. ⌜ Dropped (now (image .entry)) unit place (now (image .exit)) ⌝ }
 {
     let index = catalog::entry_word(image, place, 8);

@@ -21,6 +21,7 @@ use Rattle.plain.specs.Table.{Row, Table}
 use Rattle.plain.specs.Unit.{Plain, sysOf, M, entries, entry}
 use Rattle.plain.specs.Questions.{answer, fill}
 use Rattle.plain.specs.Reports.{joined, stepListing}
+use Rattle.plain.specs.Good.{Good}
 use Rattle.plain.proofs.QuestionLaws.{and-right, asks-yes, asks-no}
 use Rattle.plain.proofs.UnitLaws.{sorted-entries}
 use Rattle.sound_entries.proofs.PlaceLaws.{legal-first}
@@ -52,6 +53,11 @@ record-made a b c g e = omega arith
 -- a legal name's sixth character
 legal-sixth : (n : ℕ) → T (legalName n) → n % 256 ≡ 0
 legal-sixth n t = eqb→eq (n % 256) 0 (and-right (letter (n / 0x10000000000) && _) (eqb (n % 256) 0) t)
+
+-- each entry of a unit has 16 words, with its name
+pub entries-named : (p : Plain) → Good p → Entries (entries p)
+unfolding entry
+entries-named p g n e h = (entry-length p g n e h, entry-named p (g .catalog .names) .name n e h)
 
 -- ---- the places of a unit on the image
 
@@ -171,10 +177,6 @@ module _ {image : List ℕ} {p : Plain} (on : OnDisc image p) where
 
   -- ---- the plain unit's listing
 
-  entered : Entries (entries p)
-  unfolding entry
-  entered n e h = (entry-length p (on .good) n e h, nm .name n e h)
-
   module _ (lent : List ℕ) (room : 16 * length (entries p) ≤ length lent) where
     abbrev noted : List ℕ
     noted = store lent (4 * length (entries p)) (blockRecords image (valueOf (p .H) (sysOf p)) (p .H * p .layers))
@@ -185,7 +187,7 @@ module _ {image : List ℕ} {p : Plain} (on : OnDisc image p) where
     listing-done : {after : List ℕ} → ByName image (length (entries p)) noted after → after ≡ fill (joined (entries p)) lent
     listing-done by =
         let sorted = sorted-entries p (on .good .catalog .names) in
-        in-name-order places-noted lent room by (table-listing 0 (entries p) sorted entered) (names-increase 0 (entries p) sorted entered)
+        in-name-order places-noted lent room by (table-listing 0 (entries p) sorted (entries-named p (on .good))) (names-increase 0 (entries p) sorted (entries-named p (on .good)))
 
   -- as many entries as are counted
   entries-counted : {o : Unit} {count : ℕ} → NumbersOf o p → CountOf (blockRecords image (o .catalog) (o .catalog .keys * o .catalog .layers)) count → count ≡ length (entries p)

@@ -5,9 +5,9 @@ use Prim.Native.Nat.{ℕ, _/_, _%_, _≤_, _<_}
 use native.Mathlib.Omega.{arith}
 use lib.Dec.{lit<}
 use Rattle.disc.specs.Names.{keyOf, SYS, MAP}
-use Rattle.disc.specs.Entries.{placeCount, nameAt, sysEntry, mapEntry}
+use Rattle.disc.specs.Entries.{placeCount, nameAt, sysEntry}
 use Rattle.disc.specs.Catalog as disc
-use Rattle.sound.specs.Places.{Used}
+use Rattle.sound.specs.Places.{Used, Entered}
 use Rattle.sound.specs.Parts.{SoundNames}
 use Rattle.catalog.specs.declared.Catalog.{Catalog}
 use Rattle.catalog.specs.declared.Place.{Place}
@@ -44,20 +44,13 @@ module _ (image : List ℕ) (H s F : ℕ) (c : disc.Catalog) where
     sound-map = let e = n .mapEntered in omega (arith, e .holds 0 (lit< tt), e .holds 1 (lit< tt), e .holds 2 (lit< tt))
 
     -- any place with the name of an entered one is that place
-    same-place : (e t x : ℕ) → e < count → t < count → nameAt P e ≡ x → nameAt P t ≡ x → 1 ≤ x → e ≡ t
-    same-place e t x he ht a b p = n .alone e t he ht (named-used P e (omega arith)) (named-used P t (omega arith)) (a ∙ sym b)
+    same-words : {entry : List ℕ} {x : ℕ} (p : Entered P count entry) → nameAt P (p .place) ≡ x → 1 ≤ x → (t : ℕ) → t < count → nameAt P t ≡ x → HoldsEntry P t entry
+    same-words p e some t h f =
+        let same = n .alone (p .place) t (p .inside) h (named-used P (p .place) (omega arith)) (named-used P t (omega arith)) (e ∙ sym f) in
+        record { at = λ w l. ap (λ (x : ℕ). P x w) (sym same) ∙ p .holds w l }
 
     pub sound-sys-words : (t : ℕ) → t < count → nameAt P t ≡ SYS → HoldsEntry P t own
-    sound-sys-words t h e =
-        let p = n .sysEntered in
-        let same = same-place (p .place) t SYS (p .inside) h sound-sys e (lit< tt) in
-        record { at = λ w l. ap (λ (x : ℕ). P x w) (sym same) ∙ p .holds w l }
-
-    sound-map-words : (t : ℕ) → t < count → nameAt P t ≡ MAP → HoldsEntry P t mapEntry
-    sound-map-words t h e =
-        let p = n .mapEntered in
-        let same = same-place (p .place) t MAP (p .inside) h sound-map e (lit< tt) in
-        record { at = λ w l. ap (λ (x : ℕ). P x w) (sym same) ∙ p .holds w l }
+    sound-sys-words = same-words (n .sysEntered) sound-sys (lit< tt)
 
     pub sound-legal : NamesLegal P H own count
     sound-legal =
@@ -67,15 +60,12 @@ module _ (image : List ℕ) (H s F : ℕ) (c : disc.Catalog) where
                 record {
                   name = λ u. n .legal t h u .name;
                   key = λ u. n .legal t h u .key;
-                  system = record { sysWords = sound-sys-words t h; mapWords = sound-map-words t h };
+                  system = record { sysWords = sound-sys-words t h; mapWords = same-words (n .mapEntered) sound-map (lit< tt) t h };
                 };
           };
           sysMet = record { place = n .sysEntered .place; inside = n .sysEntered .inside; named = sound-sys };
           mapMet = record { place = n .mapEntered .place; inside = n .mapEntered .inside; named = sound-map };
         }
-
-    pub sound-alone : NamesAlone P count
-    sound-alone = record { alone = n .alone }
 
     -- SYS stands in a sector of its key
     pub sound-key : n .sysEntered .place / 16 % H ≡ keyOf H SYS

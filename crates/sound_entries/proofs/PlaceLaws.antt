@@ -42,6 +42,10 @@ module _ {P : ℕ → ℕ → ℕ} {t : ℕ} where
   pub first-used : {name : Name} → NameIn P t name → (name .0 ≡ 0 → ⊥) → Used P t
   first-used n d u = d (n .first ∙ u .zero 0 (lit< tt))
 
+  -- where the first word is 0, no legal name stands
+  pub zero-unused : {name : Name} {H k : ℕ} {sys : List ℕ} → NameIn P t name → PlaceLegal P H k sys t → name .0 ≡ 0 → Used P t → ⊥
+  zero-unused n legal z used = legal-first (nameAt P t) (legal .name used) (omega (arith, n .first, n .second, n .third, n .secondWord, n .thirdWord))
+
   -- an unused place has no name
   pub unused-name : Unused P t → nameAt P t ≡ 0
   unused-name u = omega (arith, u .zero 0 (lit< tt), u .zero 1 (lit< tt), u .zero 2 (lit< tt))
@@ -83,17 +87,13 @@ module _ {P : ℕ → ℕ → ℕ} {t : ℕ} where
   module _ {H k : ℕ} {sys : List ℕ} where
     -- a place whose first word is 0 is legal exactly if it is unused
     pub judged-unused : {name : Name} {r : Bool} → NameIn P t name → name .0 ≡ 0 → Decides r (Unused P t) → Decides r (PlaceLegal P H k sys t)
-    judged-unused {name} n z d = record { yes = λ y. legal (d .yes y); not = λ y p. illegal (d .not y) p }
-      where
-        legal : Unused P t → PlaceLegal P H k sys t
-        legal u =
-            let e = unused-name u in
-            record { name = λ x. absurd (x u); key = λ x. absurd (x u); system = ordinary (λ s. omega arith) (λ m. omega arith) }
-
-        illegal : Used P t → PlaceLegal P H k sys t → ⊥
-        illegal u p =
-            let e : nameAt P t / 0x10000000000 ≡ 0 = omega (arith, n .first, n .second, n .third, n .secondWord, n .thirdWord) in
-            legal-first (nameAt P t) (p .name u) e
+    judged-unused n z d = record {
+      yes = λ y.
+          let u = d .yes y in
+          let e = unused-name u in
+          record { name = λ x. absurd (x u); key = λ x. absurd (x u); system = ordinary (λ s. omega arith) (λ m. omega arith) };
+      not = λ y p. zero-unused n p z (d .not y);
+    }
 
     -- a used place: its name, its key, and the rest
     module _ {name : Name} (n : NameIn P t name) (used : Used P t) where

@@ -3,7 +3,7 @@ use mathlib.Core.Path.{_≡_, refl, sym, ap, _∙_, subst}
 use mathlib.Core.Bool.{Bool, true, false}
 use mathlib.Core.Bool as B
 use mathlib.Core.List.{List, _++_, append-nil}
-use mathlib.Core.Option.{Option, none, some}
+use mathlib.Core.Option.{Option, some}
 use Prim.Native.Nat.{ℕ, zero, suc, _*_, _/_, _≤_}
 use native.Mathlib.Nat.{add-zero, mul-comm, mul-div-cancel-left}
 use native.Mathlib.Omega.{arith}
@@ -27,12 +27,13 @@ use Rattle.marks.specs.Marked.{Marked}
 use Rattle.marks.specs.Indexed.{IndexMarking}
 use Rattle.marks.proofs.MarkLaws.{refuses}
 use Rattle.sound.specs.Places.{slicesFrom, OwnIndex, indexIf, Booked}
-use Rattle.sound.specs.State.{openArea}
+use Rattle.sound.specs.State.{openArea, liveIndex, liveLength}
 use Rattle.sound.specs.Sound.{SoundFile}
 use Rattle.sound_files.specs.declared.Live.{Live}
 use Rattle.sound_files.specs.declared.Entry.{Entry}
 use Rattle.sound_files.specs.Live.{liveOf, indexBy, lengthBy}
 use Rattle.sound_files.specs.Rules.{FileNumbers, FileRules, DataSector, OwnMarking, FileMarking}
+use Rattle.sound_files.proofs.LiveLaws.{index-of, length-of, live-shut, live-open}
 
 -- ---- the numbers of an entry beside an open area process
 
@@ -51,18 +52,12 @@ module _ {s size index reserved len q count : ℕ} (pos : 1 ≤ s) where
   pub booked-covered : Booked s size index reserved len q count → need s size ≤ reserved / s
   booked-covered b = subst (λ (n : ℕ). need s size ≤ n) (booked-own b) (b .covered)
 
-  pub booked-index : Booked s size index reserved len q count → index ≡ indexIf (reserved / s) q
-  booked-index b = b .at ∙ ap (λ (n : ℕ). indexIf n q) (booked-own b)
-
-  pub booked-is : reserved / s * s ≡ reserved → reserved / s ≤ count → size ≤ len → need s size ≤ reserved / s → index ≡ indexIf (reserved / s) q → Booked s size index reserved len q count
-  booked-is whole few short enough at = record {
-    slices = reserved / s;
-    sectors = sym whole ∙ mul-comm (reserved / s) s;
-    lengthLow = short;
-    slicesLow = few;
-    covered = enough;
-    at = at;
-  }
+  -- the index sector decides, where the other numbers are as they must be
+  pub booked-decided : reserved / s * s ≡ reserved → reserved / s ≤ count → size ≤ len → need s size ≤ reserved / s → (x : ℕ) → indexIf (reserved / s) q ≡ x
+      → Decides (eqb index x) (Booked s size index reserved len q count)
+  booked-decided whole few short enough x e = decides-eq index x
+      (λ i. record { slices = reserved / s; sectors = sym whole ∙ mul-comm (reserved / s) s; lengthLow = short; slicesLow = few; covered = enough; at = i ∙ sym e })
+      (λ b. b .at ∙ ap (λ (n : ℕ). indexIf n q) (booked-own b) ∙ e)
 
 -- ---- all numbers of an entry
 
@@ -79,10 +74,6 @@ module _ {s : ℕ} {entry : Entry} {live : Live} {count : ℕ} (allowed : T (leg
   numbers-closed o = decides-eq (entry .reserved) (s * count)
       (λ e. record { allowed = allowed; entryOnly = only; short = short; covered = enough; closed = λ _. e; booked = λ f. absurd (true≢false (sym f ∙ o)) })
       (λ n. n .closed o)
-
--- the same with an entry that is written otherwise
-pub numbers-moved : {r : Bool} {s : ℕ} {other entry : Entry} {live : Live} {count : ℕ} → other ≡ entry → Decides r (FileNumbers s other live count) → Decides r (FileNumbers s entry live count)
-numbers-moved {r} {s} {live = live} {count} e d = subst (λ (x : Entry). Decides r (FileNumbers s x live count)) e d
 
 -- ---- the index block
 
@@ -173,57 +164,33 @@ module _ (image : List ℕ) (state : State) (F s : ℕ) (P : ℕ → ℕ → ℕ
   abbrev area : Option Area
   area = openArea state (nameAt P t)
 
-  -- the rules by the area process that is open
-  rules-by : (o : Option Area) → area ≡ o → FileRules image F s entryIn (liveOf o) → SoundFile image state F s P t
-  rules-by none e r =
-      let n = r .numbers in
-      record {
-        legal = rw e (record { allowed = n .allowed; entryOnly = n .entryOnly; short = n .short; covered = n .covered; index = r .index });
-        closed = λ _. rw e (n .closed refl);
-        booked = λ a f. absurd (let z : _≡_ {A = ℕ} 0 1 = cc in omega arith);
-      }
-  rules-by (some a) e r =
-      let n = r .numbers in
-      record {
-        legal = rw e (record { allowed = n .allowed; entryOnly = n .entryOnly; short = n .short; covered = n .covered; index = r .index });
-        closed = λ f. absurd (let z : _≡_ {A = ℕ} 0 1 = cc in omega arith);
-        booked = λ b f. rw e (n .booked refl);
-      }
+  -- what counts, by the entry's numbers beside the area process
+  index-is : indexBy (liveOf area) (P t 8) ≡ liveIndex area (P t 8)
+  index-is = index-of area (P t 8)
+
+  length-is : lengthBy (liveOf area) (P t 7) ≡ liveLength area (P t 7)
+  length-is = length-of area (P t 7)
 
   pub rules-sound : FileRules image F s entryIn (liveOf area) → SoundFile image state F s P t
-  rules-sound r = rules-by area refl r
-
-  sound-by : (o : Option Area) → area ≡ o → SoundFile image state F s P t → FileRules image F s entryIn (liveOf o)
-  sound-by none e f =
-      let l = f .legal in
-      let n = rw e at l in
-      let c = f .closed e in
+  rules-sound r =
+      let n = r .numbers in
       record {
-        index = n .index;
-        numbers = record {
-          allowed = n .allowed;
-          entryOnly = n .entryOnly;
-          short = n .short;
-          covered = n .covered;
-          closed = λ _. rw e at c;
-          booked = λ y. absurd (true≢false (sym y));
-        };
-      }
-  sound-by (some a) e f =
-      let l = f .legal in
-      let n = rw e at l in
-      let b = f .booked a e in
-      record {
-        index = n .index;
-        numbers = record {
-          allowed = n .allowed;
-          entryOnly = n .entryOnly;
-          short = n .short;
-          covered = n .covered;
-          closed = λ y. absurd (true≢false y);
-          booked = λ _. rw e at b;
-        };
+        legal = rw (← length-is, ← index-is) (record { allowed = n .allowed; entryOnly = n .entryOnly; short = n .short; covered = n .covered; index = r .index });
+        closed = λ e. rw (← index-is) (n .closed (ap (λ (o : Option Area). liveOf o .opened) e));
+        booked = λ a e. let b = n .booked (ap (λ (o : Option Area). liveOf o .opened) e) in rw e (rw e at b);
       }
 
   pub sound-rules : SoundFile image state F s P t → FileRules image F s entryIn (liveOf area)
-  sound-rules f = sound-by area refl f
+  sound-rules f =
+      let l = f .legal in
+      record {
+        index = rw index-is (l .index);
+        numbers = record {
+          allowed = l .allowed;
+          entryOnly = rw index-is (l .entryOnly);
+          short = rw length-is (l .short);
+          covered = rw (length-is, index-is) (l .covered);
+          closed = λ e. rw index-is (f .closed (live-shut area e));
+          booked = λ e. let o = live-open area e in let b = f .booked (o .0) (o .1) in rw (o .1) (rw (o .1) at b);
+        };
+      }

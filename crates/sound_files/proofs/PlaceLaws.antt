@@ -12,7 +12,7 @@ use Rattle.marks.proofs.MarkLaws.{marks}
 use Rattle.sound.specs.Sound.{heldBy}
 use Rattle.sound_entries.proofs.PlaceLaws.{T-of, T-not}
 use Rattle.sound_files.specs.declared.Live.{Live}
-use Rattle.sound_files.specs.Rules.{entryOf, FileRules, fileSlices, FileMarking}
+use Rattle.sound_files.specs.Rules.{entryOf, FileMarking}
 use Rattle.sound_files.specs.Walk.{placeSlices, PlaceRules, PlaceMarking}
 use Rattle.sound_files.proofs.SequenceLaws.{marking-map}
 
@@ -46,19 +46,11 @@ module _ {image : List ℕ} {g : Geometry} {lives : ℕ → Live} {w : ℕ → �
   pub place-file : {before after : List ℕ} {r a : Bool} {live : Live} (name : ℕ) → name ≡ nameBy w → (name ≡ 0 → ⊥) → r ≡ isSystem name → r ≡ false → live ≡ lives name
       → FileMarking image g (entryOf w) live before after a → PlaceMarking image g lives w before after a
   unfolding placeSlices
-  place-file {before} {after} {r} {a} name e d s y l m = record { marking = λ held k. marking-map to fro same (moved .marking held k) }
-    where
-      t : isSystem (nameBy w) ≡ false
-      t = ap isSystem (sym e) ∙ sym s ∙ y
-
-      moved : FileMarking image g (entryOf w) (lives (nameBy w)) before after a
-      moved = subst (λ (x : Live). FileMarking image g (entryOf w) x before after a) (l ∙ ap lives e) m
-
-      to : FileRules image (g .first .0) (g .slice) (entryOf w) (lives (nameBy w)) → PlaceRules image g lives w
-      to f = record { file = λ _ _. f }
-
-      fro : PlaceRules image g lives w → FileRules image (g .first .0) (g .slice) (entryOf w) (lives (nameBy w))
-      fro p = p .file (λ z. d (e ∙ z)) (T-not t)
-
-      same : fileSlices image (g .first .0) (g .slice) (entryOf w) (lives (nameBy w)) ≡ heldBy (SYS ∷ MAP ∷ []) (nameBy w) (fileSlices image (g .first .0) (g .slice) (entryOf w) (lives (nameBy w)))
-      same = sym (held-file (SYS ∷ MAP ∷ []) (nameBy w) _ (λ z. d (e ∙ z)) t)
+  place-file {before} {after} {r} {a} name e d s y l m =
+      let t : isSystem (nameBy w) ≡ false = ap isSystem (sym e) ∙ sym s ∙ y in
+      let named : nameBy w ≡ 0 → ⊥ = λ z. d (e ∙ z) in
+      let moved : FileMarking image g (entryOf w) (lives (nameBy w)) before after a = rw (← e, ← l) m in
+      record {
+        marking = λ held k. marking-map (λ f. record { file = λ _ _. f }) (λ p. p .file named (T-not t))
+            (sym (held-file (SYS ∷ MAP ∷ []) (nameBy w) _ named t)) (moved .marking held k);
+      }

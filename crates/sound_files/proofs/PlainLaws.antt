@@ -79,10 +79,6 @@ module _ {image : List ℕ} {g : Geometry} {before : List ℕ} (entry : Entry) w
       not = λ e. single .not e .1;
     }
 
--- the same with an entry that is written otherwise
-pub closed-moved : {image : List ℕ} {g : Geometry} {before after : List ℕ} {r : Bool} {other entry : Entry} → other ≡ entry → ClosedMarking image g other before after r → ClosedMarking image g entry before after r
-closed-moved {image} {g} {before} {after} {r} e m = subst (λ (x : Entry). ClosedMarking image g x before after r) e m
-
 -- ---- one place
 
 module _ {image : List ℕ} {g : Geometry} {w : ℕ → ℕ} where
@@ -97,11 +93,6 @@ module _ {image : List ℕ} {g : Geometry} {w : ℕ → ℕ} where
 
 -- ---- places one after the other
 
--- none of no area processes is open
-live-none : (names indexes lengths : List ℕ) {upto : ℕ} → upto ≡ 0 → (n : ℕ) → liveIn names indexes lengths upto n .opened ≡ false
-unfolding liveIn liveFrom
-live-none names indexes lengths e n = subst (λ (k : ℕ). liveIn names indexes lengths k n .opened ≡ false) (sym e) refl
-
 -- an area process is open by one of the names
 live-other : (names indexes lengths : List ℕ) (name n j : ℕ) → ((i : ℕ) → j ≤ i → i < j + n → getD names i 0 ≡ name → ⊥) → liveFrom names indexes lengths name j n ≡ closedFile
 unfolding liveFrom
@@ -111,17 +102,10 @@ live-other names indexes lengths name (suc n) j d =
 
 pub live-cell : (names indexes lengths : List ℕ) {upto : ℕ} {cells : List ℕ} → CellsOf names upto cells → (n : ℕ) → Unopened upto cells n → liveIn names indexes lengths upto n .opened ≡ false
 unfolding liveIn
-live-cell names indexes lengths {upto} {cells} filled n free = same-or upto 0
-    (λ z. live-none names indexes lengths z n)
-    (λ d.
-    let other : (i : ℕ) → 0 ≤ i → i < 0 + upto → getD names i 0 ≡ n → ⊥ = λ i _ h e.
-    omega (arith, filled .each i (omega arith), free d, ap (λ (k : ℕ). getD cells (nameCell k) 0) e) in
-    ap (λ (l : Live). l .opened) (live-other names indexes lengths n upto 0 other))
+live-cell names indexes lengths {upto} {cells} filled n free = ap (λ (l : Live). l .opened) (live-other names indexes lengths n upto 0 (λ i _ h e.
+    omega (arith, filled .each i (omega arith), free (λ z. omega arith), ap (λ (k : ℕ). getD cells (nameCell k) 0) e)))
 
 -- ---- the cells of names
-
-pub cells-none : (names cells : List ℕ) → CellsOf names 0 cells
-cells-none names cells = record { each = λ j h. absurd (omega arith) }
 
 pub cells-more : {names cells : List ℕ} {j : ℕ} (cell : ℕ) → cell ≡ nameCell (getD names j 0) → cell < length cells → CellsOf names j cells → CellsOf names (j + 1) (set cells cell 1)
 cells-more {names} {cells} {j} cell e room filled = record {

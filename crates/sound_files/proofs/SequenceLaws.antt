@@ -27,10 +27,6 @@ unfolding joined
 joined-same f h zero e = refl
 joined-same f h (suc n) e = ap₂ (λ (a b : List ℕ). a ++ b) (joined-same f h n (λ i l. e i (omega arith))) (e n (omega arith))
 
-pub joined-one : (f : ℕ → List ℕ) → joined f 1 ≡ f 0
-unfolding joined
-joined-one f = refl
-
 pub joined-join : (f : ℕ → List ℕ) (b n : ℕ) → joined f (b + n) ≡ joined f b ++ joined (λ i. f (b + i)) n
 unfolding joined
 joined-join f b zero = ap (joined f) (add-zero b) ∙ sym (append-nil (joined f b))
@@ -98,9 +94,10 @@ module _ (m : ℕ) (R : ℕ → Type 0) (f : ℕ → List ℕ) where
 
   -- one place as a sequence
   pub one-more : {after held : List ℕ} {r : Bool} (b : ℕ) → Marking r (R b) m after held (f b) → Marking r ((i : ℕ) → i < 1 → R (b + i)) m after held (joined (λ i. f (b + i)) 1)
+  unfolding joined
   one-more b k =
       let z : b + 0 ≡ b = add-zero b in
       marking-map
       (λ x i h. let e : b ≡ b + i = omega arith in subst R e x)
       (λ x. subst R z (x 0 (omega arith)))
-      (ap f (sym z) ∙ sym (joined-one (λ i. f (b + i)))) k
+      (ap f (sym z)) k

@@ -1,18 +1,20 @@
 -- The rules of all places are those of a sound unit's ordinary files, and the slices that they hold are the files'.
 use mathlib.Core.Path.{_≡_, refl, sym, ap, ap₂, _∙_, subst}
-use mathlib.Core.Bool.{Bool, true, false}
+use mathlib.Core.Bool.{Bool}
 use mathlib.Core.List.{List, [], _∷_, _++_}
-use Prim.Native.Nat.{ℕ, zero, suc, _≤_, _<_}
+use Prim.Native.Nat.{ℕ, zero, suc, _<_}
 use native.Mathlib.Omega.{arith}
 use lib.Dec.{T}
 use lib.ListN.{length}
 use Rattle.types.specs.declared.State.{State}
 use Rattle.disc.specs.Names.{legalName, isSystem, SYS, MAP}
 use Rattle.disc.specs.Entries.{placeCount, nameAt}
+use Rattle.disc.proofs.DecideLaws.{never-true}
 use Rattle.kit.specs.declared.Geometry.{Geometry}
 use Rattle.marks.specs.Marked.{Marked}
 use Rattle.sound_entries.specs.Sys.{sysSlices, placesIn, sysWith}
-use Rattle.sound.specs.Places.{Unused, slicesFrom}
+use Rattle.sound_entries.proofs.PlaceLaws.{unused-name}
+use Rattle.sound.specs.Places.{slicesFrom}
 use Rattle.sound.specs.State.{openArea}
 use Rattle.sound.specs.Sound.{slicesOf, heldBy, slicesBelow}
 use Rattle.sound.specs.Parts.{Marking}
@@ -24,23 +26,16 @@ use Rattle.sound_files.proofs.LiveLaws.{live-state, index-of}
 use Rattle.sound_files.proofs.FileLaws.{rules-sound, sound-rules}
 use Rattle.sound_files.proofs.SequenceLaws.{marking-map}
 
--- a legal name is not 0, and that of an unused place is
+-- a legal name is not 0
 legal-some : (n : ℕ) → T (legalName n) → n ≡ 0 → ⊥
 legal-some n t e = subst (λ (x : ℕ). T (legalName x)) e t
-
-unused-name : {P : ℕ → ℕ → ℕ} {t : ℕ} → Unused P t → nameAt P t ≡ 0
-unused-name u = omega (arith, u .zero 0 (omega arith), u .zero 1 (omega arith), u .zero 2 (omega arith))
 
 -- a place with a data sector as its index sector is used, and not SYS's or MAP's
 pub ordinary-known : {image : List ℕ} {g : Geometry} {count : ℕ} → NamesKnown image g count → OrdinaryPlaces (placesIn image g) count
 ordinary-known {image} {g} known t h = record {
   named = λ far z. legal-some (nameAt (placesIn image g) t) (known .legal t h (λ u. omega (arith, u .zero 8 (omega arith)))) z;
-  ordinary = λ far. by far (isSystem (nameAt (placesIn image g) t)) refl;
+  ordinary = λ far. never-true (isSystem (nameAt (placesIn image g) t)) (λ e. omega (arith, known .system t h e));
 }
-  where
-    by : 10 ≤ placesIn image g t 8 → (b : Bool) → isSystem (nameAt (placesIn image g) t) ≡ b → b ≡ false
-    by far true e = absurd (omega (arith, known .system t h e))
-    by far false e = refl
 
 held-same : (reserved : List ℕ) (n : ℕ) {a b : List ℕ} → ((n ≡ 0 → ⊥) → a ≡ b) → heldBy reserved n a ≡ heldBy reserved n b
 held-same reserved zero e = refl

@@ -30,7 +30,5 @@ turn-places {image} {g} {size} {j} {b} {n} {start} t i h = λ k w. each w k
 
     each : (w : ℕ) → placesFrom image (start * 256) i w ≡ placesIn image g (16 * b + i) w
     each w =
-        let r : (16 * b + i) % 16 ≡ i % 16 = omega arith in
-        let x : start * 256 + 16 * i + w ≡ (start + i / 16) * 256 + (i % 16 * 16 + w) = omega arith in
-        let y : (start + i / 16) * 256 + (i % 16 * 16 + w) ≡ sectorIn (g .first .0) (g .slice) (sysSlices image g) ((16 * b + i) / 16 + 0) * 256 + ((16 * b + i) % 16 * 16 + w) = omega (arith, sector, r) in
-        ap (λ (n : ℕ). getD image n 0) (x ∙ y)
+        let e : start * 256 + 16 * i + w ≡ sectorIn (g .first .0) (g .slice) (sysSlices image g) ((16 * b + i) / 16 + 0) * 256 + ((16 * b + i) % 16 * 16 + w) = omega (arith, sector) in
+        ap (λ (n : ℕ). getD image n 0) e

@@ -7,6 +7,7 @@ use Prim.Native.Nat.{ℕ, _+_, _*_, _/_, _%_, _≤_, _<_}
 use native.Mathlib.Omega.{arith}
 use native.Mathlib.Nat.{mul-comm}
 use lib.ListN.{length}
+use borrow.Author.Count.{below-more}
 use borrow.Author.Tests.{not-true, not-false}
 use Rattle.types.specs.declared.Name.{Name}
 use Rattle.disc.specs.Decide.{Decides}
@@ -28,7 +29,7 @@ use Rattle.sound_entries.specs.Legal.{NameIn, PlaceLegal, PlacesLegal, Judging}
 use Rattle.sound_entries.specs.Names.{NamesAlone}
 use Rattle.sound_entries.specs.Sys.{sysSlices, placesIn, SysIn}
 use Rattle.sound_entries.proofs.FindLaws.{FirstNamed, sys-at, sys-none}
-use Rattle.sound_entries.proofs.PlaceLaws.{legal-first, name-packed, first-used}
+use Rattle.sound_entries.proofs.PlaceLaws.{name-packed, first-used}
 use Rattle.sound_entries.proofs.NamesLaws.{named-used}
 use Rattle.sound_names.specs.Filter.{Has, Noted}
 use Rattle.sound_names.specs.Scan.{Standing, NoneBefore, Passed, Scanned}
@@ -65,16 +66,10 @@ module _ {P : ℕ → ℕ → ℕ} where
           → ((u : ℕ) → u < t → Used P u → Used P t → nameAt P u ≡ nameAt P t → ⊥) → Passed P H sys h (t + 1)
       passed-more {h} size kept now new =
           record {
-            legal = record {
-              each = λ u l. below-or u t
-                  (λ k. p .legal .each u k)
-                  (λ k. let z : u ≡ t = omega arith in subst (λ (i : ℕ). PlaceLegal P H (i / 16 % H) sys i) (sym z) legal);
-            };
+            legal = record { each = below-more (λ u. PlaceLegal P H (u / 16 % H) sys u) t (p .legal .each) legal };
             alone = alone-more t (p .alone) new;
             size = size;
-            has = λ u l used. below-or u t
-                (λ k. kept (nameAt P u) (p .has u k used))
-                (λ k. let z : u ≡ t = omega arith in subst (λ (i : ℕ). Has h (nameAt P i)) (sym z) (now (subst (λ (i : ℕ). Used P i) z used)));
+            has = below-more (λ u. Used P u → Has h (nameAt P u)) t (λ u k used. kept (nameAt P u) (p .has u k used)) now;
           }
 
       -- an unused place
@@ -134,16 +129,10 @@ fewer h l = record { catalog = l .catalog; whole = l .whole; room = omega (arith
 pub not-noted : {r : Bool} {f h : List ℕ} {n : ℕ} → B.not r ≡ true → Noted r f h n → Noted false f h n
 not-noted {r} {f} {h} {n} e k = subst (λ (x : Bool). Noted x f h n) (not-true r e) k
 
-module _ {P : ℕ → ℕ → ℕ} {t : ℕ} {name : Name} (n : NameIn P t name) {H : ℕ} {sys : List ℕ} (legal : PlaceLegal P H (t / 16 % H) sys t) where
-  -- where the first word is 0, no legal name stands
-  pub zero-unused : name .0 ≡ 0 → Used P t → ⊥
-  zero-unused z used =
-      let e : nameAt P t / 0x10000000000 ≡ 0 = omega (arith, n .first, n .second, n .third, n .secondWord, n .thirdWord) in
-      legal-first (nameAt P t) (legal .name used) e
-
-  -- it is in a sector of its key
-  pub own-key : (name .0 ≡ 0 → ⊥) → t / 16 % H ≡ keyOf H (packed name)
-  own-key d = legal .key (first-used n d) ∙ ap (keyOf H) (sym (name-packed n))
+-- a place that is used is in a sector of its key
+pub own-key : {P : ℕ → ℕ → ℕ} {t : ℕ} {name : Name} → NameIn P t name → {H k : ℕ} {sys : List ℕ} → PlaceLegal P H k sys t → (name .0 ≡ 0 → ⊥)
+    → k ≡ keyOf H (packed name)
+own-key n {H} legal d = legal .key (first-used n d) ∙ ap (keyOf H) (sym (name-packed n))
 
 pub some-name : (name : Name) → (name .0 ≡ 0 → ⊥) → 1 ≤ packed name
 some-name name d = omega arith

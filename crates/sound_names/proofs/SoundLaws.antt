@@ -15,7 +15,7 @@ use Rattle.sound_entries.specs.declared.Expected.{Expected}
 use Rattle.sound_entries.specs.Legal.{ownEntry, PlacesLegal}
 use Rattle.sound_entries.specs.Sys.{sysSlices, placesIn, SysNames}
 use Rattle.sound_entries.specs.Names.{NamesLegal, NamesAlone}
-use Rattle.sound_entries.proofs.NamesLaws.{sound-legal, sound-alone, names-sound}
+use Rattle.sound_entries.proofs.NamesLaws.{sound-legal, names-sound}
 
 module _ (image : List ℕ) (g : Geometry) (L : ℕ) (expected : Expected) (index : expected .catalog .index .0 ≡ sysIndexSector) (size : expected .size ≡ g .keys * L)
     (reserved : expected .reserved ≡ g .slice * length (sysSlices image g)) where
@@ -33,7 +33,7 @@ module _ (image : List ℕ) (g : Geometry) (L : ℕ) (expected : Expected) (inde
   module _ {r : Bool}
       (judged : Decides r (PlacesLegal (placesIn image g) (g .keys) (ownEntry expected) (placeCount (g .keys) L) × NamesAlone (placesIn image g) (placeCount (g .keys) L))) where
     pub not-sound : B.not r ≡ true → Decides false (SysNames image g L)
-    not-sound e = fails (λ n. refutes r judged e (own-legal n .places, sound-alone _ _ _ _ _ n))
+    not-sound e = fails (λ n. refutes r judged e (own-legal n .places, record { alone = n .alone }))
 
     pub judged-entered : {s : Bool} → B.not r ≡ false → Decides s (NamesLegal (placesIn image g) (g .keys) (ownEntry expected) (placeCount (g .keys) L))
         → Decides s (SysNames image g L)

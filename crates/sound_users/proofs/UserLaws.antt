@@ -8,6 +8,7 @@ use Rattle.types.specs.declared.Role.{Role}
 use Rattle.types.specs.declared.Role.the-variants.{Sharing, ExclusiveWriter, ExclusiveUser}
 use Rattle.types.specs.declared.Area.{Area}
 use Rattle.types.specs.State.{userAt}
+use Rattle.disc.proofs.Compare.{same-or}
 use Rattle.disc.proofs.DecideLaws.{true≢false}
 use Rattle.sound.specs.State.{IsTaken, LegalUsers}
 use Rattle.sound_users.specs.Rules.{rolesAgree, LegalUser, LegalPair}
@@ -18,12 +19,9 @@ first-not-exclusive : (x y : Role) → rolesAgree x y ≡ true → x ≢ Exclusi
 first-not-exclusive x y e q = true≢false (sym (rw q at e))
 
 second-not-exclusive : (x y : Role) → rolesAgree x y ≡ true → y ≢ ExclusiveUser
-second-not-exclusive x y e q = go x (rw q at e)
-  where
-    go : (x : Role) → rolesAgree x ExclusiveUser ≡ true → ⊥
-    go Sharing e = true≢false (sym e)
-    go ExclusiveWriter e = true≢false (sym e)
-    go ExclusiveUser e = true≢false (sym e)
+second-not-exclusive Sharing y e q = true≢false (sym (rw q at e))
+second-not-exclusive ExclusiveWriter y e q = true≢false (sym (rw q at e))
+second-not-exclusive ExclusiveUser y e q = true≢false (sym e)
 
 not-two-writers : (x y : Role) → rolesAgree x y ≡ true → x ≡ ExclusiveWriter → y ≢ ExclusiveWriter
 not-two-writers x y e p q = true≢false (sym (rw (p, q) at e))
@@ -46,15 +44,11 @@ three-each P a b c (suc (suc zero)) h = c
 three-each P a b c (suc (suc (suc u))) h = absurd (omega arith)
 
 pub three-pairs : (P : ℕ → ℕ → Type 0) → P 0 1 → P 0 2 → P 1 2 → (u v : ℕ) → u < v → v < 3 → P u v
-three-pairs P a b c zero zero h k = absurd (omega arith)
-three-pairs P a b c zero (suc zero) h k = a
-three-pairs P a b c zero (suc (suc zero)) h k = b
-three-pairs P a b c zero (suc (suc (suc v))) h k = absurd (omega arith)
-three-pairs P a b c (suc zero) zero h k = absurd (omega arith)
-three-pairs P a b c (suc zero) (suc zero) h k = absurd (omega arith)
-three-pairs P a b c (suc zero) (suc (suc zero)) h k = c
-three-pairs P a b c (suc zero) (suc (suc (suc v))) h k = absurd (omega arith)
-three-pairs P a b c (suc (suc u)) v h k = absurd (omega arith)
+three-pairs P a b c u v h k = three-each (λ w. (x : ℕ) → x < w → P x w)
+    (λ x l. absurd (omega arith))
+    (λ x l. let e : x ≡ 0 = omega arith in rw e a)
+    (λ x l. same-or x 0 (λ e. rw e b) (λ d. let e : x ≡ 1 = omega arith in rw e c))
+    v k u h
 
 -- ---- the rules of an area's users
 

@@ -3,7 +3,7 @@
 use mathlib.Core.Path.{_≡_, refl, ap, _∙_}
 use mathlib.Core.Bool.{true, false}
 use mathlib.Core.List.{List, [], _∷_}
-use Prim.Native.Nat.{ℕ, zero, suc, _-_, _≤_}
+use Prim.Native.Nat.{ℕ, _-_, _≤_}
 use native.Mathlib.Omega.{arith}
 use native.Mathlib.Nat.{mul-le-mul-right}
 use Rattle.disc.specs.Numbers.{sliceStart}
@@ -11,6 +11,7 @@ use Rattle.disc.specs.Words.{word, Holds}
 use Rattle.disc.specs.Slices.{InRangeOnce, firstOf}
 use Rattle.disc.specs.Stretches.{indexWords}
 use Rattle.disc.specs.Kit.{sysIndexSector}
+use Rattle.disc.proofs.Compare.{same-or}
 use Rattle.disc.proofs.SliceLaws.{inUnit-out, occurrences-self}
 use Rattle.sound.specs.Places.{IndexBlock}
 use Rattle.sound.specs.Parts.{MarksOf}
@@ -30,11 +31,7 @@ first-some F s m (x ∷ l) holds some once = inUnit-out m x (omega (arith, once 
 
 -- the slice that begins at the first data sector is slice 1
 starts-first : (F s k : ℕ) → 1 ≤ s → 1 ≤ k → sliceStart F s k ≡ F → k ≡ 1
-starts-first F s zero pos some e = absurd (omega arith)
-starts-first F s (suc zero) pos some e = refl
-starts-first F s (suc (suc k)) pos some e =
-    let l : 1 ≤ suc (suc k) - 1 = omega arith in
-    absurd (omega (arith, mul-le-mul-right s l))
+starts-first F s k pos some e = same-or k 1 (λ one. one) (λ d. let l : 1 ≤ k - 1 = omega arith in absurd (omega (arith, mul-le-mul-right s l)))
 
 module _ {image : List ℕ} {g : Geometry} {before after : List ℕ} {sys : Indexed} (unit : UnitOf image g) (none : Marked (g .slices) before [])
     (marked : IndexMarking image g sysIndexSector before after sys) where

@@ -2,14 +2,13 @@
 -- was read.
 use mathlib.Core.Path.{_≡_, refl, sym, subst}
 use mathlib.Core.Bool.{Bool}
-use mathlib.Core.List.{List, _++_}
+use mathlib.Core.List.{List}
 use Prim.Native.Nat.{ℕ, _*_}
 use native.Mathlib.Omega.{arith}
 use lib.ListN.{length}
 use Rattle.types.specs.declared.State.{State}
 use Rattle.disc.specs.Decide.{Decides}
 use Rattle.disc.specs.Words.{Words}
-use Rattle.disc.specs.Slices.{InRangeOnce}
 use Rattle.disc.proofs.NumberLaws.{ceilDiv-le}
 use Rattle.disc.proofs.SliceLaws.{occurrences-append}
 use Rattle.disc.proofs.DecideLaws.{holds, fails}
@@ -36,9 +35,6 @@ unit-users u = record { distinct = u .rules .areas .distinct; users = u .rules .
 
 pub unit-kit : {image : List ℕ} {state : State} → SoundUnit image state → SoundByKit image
 unit-kit u = record { size = u .rules .size; kit = u .rules .kit; limits = u .rules .limits; mapIndex = u .rules .mapIndex }
-
-once-left : (m : ℕ) (l r : List ℕ) → InRangeOnce m (l ++ r) → InRangeOnce m l
-once-left m l r once k = omega (arith, once k, occurrences-append k l r)
 
 -- ---- by the geometry
 
@@ -75,11 +71,7 @@ module _ {image : List ℕ} {g : Geometry} (is : GeometryOf image g) where
     by-sys {L} w = record {
       some = w .catalog .layered;
       index = w .catalog .index;
-      once = once-left
-          (g .slices)
-          (sysSlices image g)
-          (sysHeld image state g L)
-          (by-layers w .once);
+      once = λ k. omega (arith, by-layers w .once k, occurrences-append k (sysSlices image g) (sysHeld image state g L));
       first = w .sysFirst;
       count = w .catalog .count;
     }

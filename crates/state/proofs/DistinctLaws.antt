@@ -32,13 +32,6 @@ module _ {A : Type 0} (test : A → Bool) (key : A → ℕ) where
   pub keyed-key : (n : ℕ) (x : A) → keyed test key n x ≡ true → key x ≡ n
   keyed-key n x e = eqb-true (key x) n (rw (keyed-test n x e) at e)
 
-  pub keyed-other : (n : ℕ) (x : A) → key x ≢ n → keyed test key n x ≡ false
-  keyed-other n x h = go (test x)
-    where
-      go : (b : Bool) → (b && eqb (key x) n) ≡ false
-      go true = ne-eqb (key x) n h
-      go false = refl
-
   -- not a true test: either the element fails, or its key is another
   pub keyed-false : (n : ℕ) (x : A) → (test x ≡ true → key x ≡ n → ⊥) → keyed test key n x ≡ false
   keyed-false n x h = go (test x) refl
@@ -46,6 +39,9 @@ module _ {A : Type 0} (test : A → Bool) (key : A → ℕ) where
       go : (b : Bool) → test x ≡ b → (b && eqb (key x) n) ≡ false
       go true t = ne-eqb (key x) n (h t)
       go false t = refl
+
+  pub keyed-other : (n : ℕ) (x : A) → key x ≢ n → keyed test key n x ≡ false
+  keyed-other n x h = keyed-false n x (λ _. h)
 
 module _ {A : Type 0} (test : A → Bool) (key : A → ℕ) (d : A) where
   pub distinct-tail : (x : A) (l : List A) → Distinct test key d (x ∷ l) → Distinct test key d l

@@ -1,7 +1,6 @@
 -- What a value of the declared types is known to have: the lengths of its arrays, and names of words.
 use mathlib.Core.Path.{_≡_, sym, _∙_}
 use mathlib.Core.List.{List}
-use native.Mathlib.Omega.{arith}
 use lib.ListN.{length, length-map}
 use mir.Val.{Val}
 use denote.Laws.{Is}

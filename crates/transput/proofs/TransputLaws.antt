@@ -1,6 +1,6 @@
 -- Transput by what the code finds: each answer is the plain unit's, and image and state are those of its unit.
 use mathlib.Core.Path.{_≡_, refl, sym, ap, ap₂, _∙_, subst}
-use mathlib.Core.Bool.{Bool, true, false, cond}
+use mathlib.Core.Bool.{Bool, true, false, not, _&&_, cond}
 use mathlib.Core.List.{List, []}
 use mathlib.Core.Logic.{_≢_}
 use mathlib.Core.Option.{some}
@@ -13,7 +13,6 @@ use borrow.Author.Tests.{lt-ltb, le-ltb, le-leb, lt-leb, eq-eqb, ne-eqb, leb-tru
 use Rattle.types.specs.declared.Area.{Area}
 use Rattle.types.specs.declared.State.{State}
 use Rattle.types.specs.State.{areaAt, userAt}
-use Rattle.disc.specs.Numbers.{negative}
 use Rattle.disc.specs.Attributes.{writeProtected}
 use Rattle.catalog.specs.declared.Unit.{Unit}
 use Rattle.state.specs.declared.Kind.the-variants.{Writer}
@@ -21,24 +20,22 @@ use Rattle.disc.specs.Names.{packed}
 use Rattle.state.specs.Areas.{anyOther}
 use Rattle.plain.specs.Table.{Table, tableFind}
 use Rattle.plain.specs.Unit.{Plain, File, AreaUser}
-use Rattle.plain.specs.Questions.{Outcome, fill}
-use Rattle.plain.specs.Areas.{isWriter, other, moved}
+use Rattle.plain.specs.Questions.{Outcome, asks, either, fill}
+use Rattle.plain.specs.Areas.{isWriter, other, moved, positioned}
 use Rattle.plain.specs.Transput.{isOutput, isRandom, refusedAt, endWord, input, stepTransput}
-use Rattle.plain.proofs.QuestionLaws.{end-law, true-yes, false-no, either-yes, either-no}
+use Rattle.plain.proofs.QuestionLaws.{end-law, true-yes, false-no, asks-yes, asks-no, either-yes, either-no}
 use Rattle.refine.specs.Represents.{Represents}
-use Rattle.refine.proofs.LeavesLaws.{leaves}
+use Rattle.refine.proofs.LeavesLaws.{leaves, leaves-as, leaves-by}
 use Rattle.refine.proofs.StateLaws.{named-name}
-use Rattle.preservation.proofs.Whole.{on-disc, represents}
+use Rattle.preservation.proofs.Whole.{on-disc}
 use Rattle.preservation.proofs.AreaMessages.{area-other}
-use Rattle.preservation.proofs.OutputUnit.{Allowed, input-allowed, output-allowed, transputAt, input-past, input-done, transput-bytes, transput-short, transput-writer, transput-protected, transput-here, transput-negative, transput-past, transput-there}
-use Rattle.preservation.proofs.OutputMessage.{input-filled}
+use Rattle.preservation.proofs.OutputStep.{input-filled}
 use Rattle.lookup.specs.Unit.{NumbersOf, Searchable}
 use Rattle.lookup.proofs.UnitLaws.{searchable}
 use Rattle.area_users.specs.declared.AreaReply.{AreaReply}
 use Rattle.area_users.specs.AreaUsers.{areaReply, atPosition, positionWord, positionReached}
-use Rattle.refine.specs.Leaves.{Leaves}
 use Rattle.area_users.specs.Seat.{Seat, areaUsers, areaUser}
-use Rattle.area_users.proofs.UserLaws.{seat-size, position-inside, moved-good, moved-represents, own-position, reached-low}
+use Rattle.area_users.proofs.UserLaws.{seat-size, position-inside, moved-stands, own-position, reached-low, Positioned, positioned-by}
 use Rattle.blocks.specs.Blocks.{AttributesOf, BlockRead}
 use Rattle.output.specs.Output.{Placed, SomePlaced, outputImage, outputState, Outputs}
 use Rattle.output.proofs.OutputLaws.{own-size, own-from, own-attributes, image-refused, state-refused}
@@ -119,24 +116,18 @@ done-state state j u k = ap (atPosition state j u) (add-one k)
 -- ---- input
 
 module _ {image : List ℕ} {state : State} {o : Unit} {p q : Plain} {n j sender u : ℕ} {f : File} {k : ℕ} (at : Placed image state o p q n j sender u f k) (lent : List ℕ) where
-  -- Input is transput with operation 1
-  is-input : input q (moved p n sender (areaUsers state j) (areaUser state j u)) f k lent ≡ transputAt p n sender (areaUsers state j) (areaUser state j u) f 1 lent q k
-  is-input = sym (either-no _ _ _ tt)
-
   pub input-refused : {w : ℕ} → length (f .sectors) ≤ k → w ≡ endWord (f .attributes) → InputLeaves image state p q n j sender u f k lent (areaReply (atPosition state j u k) w 0 k) lent
+  unfolding input
   input-refused {w} x e = record {
-    leaves =
-        leaves (is-input ∙ input-past p n sender (areaUsers state j) (areaUser state j u) f 1 lent q k refl (le-ltb k (length (f .sectors)) x) ∙ ap (λ (y : ℕ). refusedAt q y k lent) (sym e)) (at .good)
-        (at .represents);
+    leaves = leaves (asks-no _ _ _ (false-no (le-ltb k (length (f .sectors)) x)) ∙ ap (λ (y : ℕ). refusedAt q y k lent) (sym e)) (at .good) (at .represents);
     block = refl;
     reached = refused-state state j u k w (λ z. end-law (λ (y : ℕ). y ≢ 0) (f .attributes) (λ y. omega arith) (λ y. omega arith) (sym e ∙ z));
   }
 
   pub input-handed : k < length (f .sectors) → InputLeaves image state p q n j sender u f k lent (areaReply (atPosition state j u (k + 1)) 0 512 k) (fill (getD (f .sectors) k []) lent)
+  unfolding input
   input-handed x = record {
-    leaves =
-        leaves (is-input ∙ input-done p n sender (areaUsers state j) (areaUser state j u) f 1 lent q k refl (lt-ltb k (length (f .sectors)) x)) (moved-good (at .seat) (suc k) x)
-        (subst (λ (m : ℕ). Represents image (atPosition state j u m) (moved p n sender (areaUsers state j) (areaUser state j u) (suc k))) (sym (add-one k)) (moved-represents (at .seat) (suc k) x));
+    leaves = leaves-by (asks-yes _ _ _ (true-yes (lt-ltb k (length (f .sectors)) x))) (rw (add-one k) (moved-stands (at .seat) (suc k) x));
     block = refl;
     reached = done-state state j u k;
   }
@@ -164,7 +155,7 @@ module _ {image : List ℕ} {state : State} {o : Unit} {j u operation k : ℕ} {
     all = λ p q n sender f at.
         let l = h .all p q n sender f at in
         record {
-          leaves = subst (λ (x : Outcome). Leaves x (reply .answer) lent after (reply .state)) (sym (either-yes _ _ _ (true-yes out))) (l .leaves);
+          leaves = leaves-as (either-yes _ _ _ (true-yes out)) (l .leaves);
           written = rw (l .block) (l .written ∙ output-image p f k image lent operation (reply .answer .result) out);
           reached = rw (l .block) (l .reached ∙ output-reached p f k state j u operation (reply .answer .result) out);
         };
@@ -175,7 +166,7 @@ module _ {image : List ℕ} {state : State} {o : Unit} {j u operation k : ℕ} {
     all = λ p q n sender f at.
         let l = h .all p q n sender f at in
         record {
-          leaves = subst (λ (x : Outcome). Leaves x (reply .answer) filled image (reply .state)) (sym (either-no _ _ _ (false-no out))) (l .leaves);
+          leaves = leaves-as (either-no _ _ _ (false-no out)) (l .leaves);
           written = rw (l .block) (input-image p f k image lent operation (reply .answer .result) out);
           reached = rw (l .block) (l .reached ∙ input-reached p f k state j u operation (reply .answer .result) out);
         };
@@ -205,8 +196,8 @@ module _ {image : List ℕ} {state : State} {o : Unit} {p : Plain} {n j sender u
     seat = seat;
     numbers = num;
     low = x;
-    good = moved-good seat k x;
-    represents = moved-represents seat k x;
+    good = moved-stands seat k x .good;
+    represents = moved-stands seat k x .represents;
   }
 
   module _ (operation bytes block : ℕ) (lent : List ℕ) where
@@ -219,66 +210,36 @@ module _ {image : List ℕ} {state : State} {o : Unit} {p : Plain} {n j sender u
     writers : other isWriter sender (areaUsers state j) ≡ anyOther Writer sender (areaAt state j)
     writers = area-other (seat .represents .areas) n j (seat .named) Writer sender
 
-    -- the questions before the position is moved
-    record Asked : Type 0 where
-      refuses : word ≢ 0 → step ≡ refusedAt p word (pu .position) lent
-      allows : word ≡ 0 → Allowed sender users f operation bytes lent
-
-    asked : Asked
-    unfolding refusalWord
-    asked = go (eqb bytes 512) refl (leb 256 (length lent)) refl (isOutput operation) refl (anyOther Writer sender (areaAt state j)) refl (writeProtected (f .attributes)) refl
-      where
-        go : (a : Bool) → eqb bytes 512 ≡ a → (b : Bool) → leb 256 (length lent) ≡ b → (c : Bool) → isOutput operation ≡ c → (d : Bool) → anyOther Writer sender (areaAt state j) ≡ d
-            → (e : Bool) → writeProtected (f .attributes) ≡ e → Asked
-        go false x b y c z d w e t = record {
-          refuses = λ h. rw x (transput-bytes p n sender users pu f operation bytes block lent x);
-          allows = λ h. absurd (let v : 0x0880 ≡ 0 = rw x at h in omega arith);
-        }
-        go true x false y c z d w e t = record {
-          refuses = λ h. rw (x, y) (transput-short p n sender users pu f operation bytes block lent y);
-          allows = λ h. absurd (let v : 0x0880 ≡ 0 = rw (x, y) at h in omega arith);
-        }
-        go true x true y false z d w e t = record {
-          refuses = λ h. absurd (h (rw (x, y, z) refl));
-          allows = λ h. input-allowed sender users f operation bytes lent x y z;
-        }
-        go true x true y true z true w e t = record {
-          refuses = λ h. rw (x, y, z, w) (transput-writer p n sender users pu f operation bytes block lent x y z (writers ∙ w));
-          allows = λ h. absurd (let v : 0x0A00 ≡ 0 = rw (x, y, z, w) at h in omega arith);
-        }
-        go true x true y true z false w true t = record {
-          refuses = λ h. rw (x, y, z, w, t) (transput-protected p n sender users pu f operation bytes block lent x y z (writers ∙ w) t);
-          allows = λ h. absurd (let v : 0x0C00 ≡ 0 = rw (x, y, z, w, t) at h in omega arith);
-        }
-        go true x true y true z false w false t = record {
-          refuses = λ h. absurd (h (rw (x, y, z, w, t) refl));
-          allows = λ h. output-allowed sender users f operation bytes lent x y z (writers ∙ w) t;
-        }
-
     -- "5 and 7 do Position first"
     abbrev len : ℕ
     len = length (f .sectors)
 
-    record First : Type 0 where
-      refuses : positionWord block len ≢ 0 → step ≡ refusedAt (moved p n sender users pu (positionReached block len)) (positionWord block len) (positionReached block len) lent
-      goes : positionWord block len ≡ 0 → (step ≡ transputFrom state p (moved p n sender users pu block) n j sender u f operation block lent) × (block ≤ len)
+    abbrev at-position : Plain → ℕ → Outcome
+    at-position q k = transputFrom state p q n j sender u f operation k lent
 
-    first : Allowed sender users f operation bytes lent → isRandom operation ≡ true → First
-    first a r = go (negative block) refl (leb block len) refl
+    abbrev next : Outcome
+    next = either (isRandom operation) (positioned (moved p n sender users pu) block (length (f .sectors)) (λ q w k. refusedAt q w k lent) at-position) (at-position p (pu .position))
+
+    -- the questions before the position is moved
+    record Asked (refusal : ℕ) (x : Outcome) : Type 0 where
+      refuses : refusal ≢ 0 → x ≡ refusedAt p refusal (pu .position) lent
+      allows : refusal ≡ 0 → (x ≡ next) × (256 ≤ length lent)
+
+    asked : Asked (refusalWord (areaAt state j) (f .attributes) sender operation bytes (length lent)) step
+    unfolding refusalWord stepTransput asks
+    asked =
+        rw writers
+        (go (eqb bytes 512) (leb 256 (length lent)) (isOutput operation) (anyOther Writer sender (areaAt state j)) (writeProtected (f .attributes)) (leb-true 256 (length lent)))
       where
-        go : (b : Bool) → negative block ≡ b → (c : Bool) → leb block len ≡ c → First
-        go true x c y = record {
-          refuses = λ h. rw x (transput-negative p n sender users pu f operation bytes block lent a r x);
-          goes = λ h. absurd (let v : 0x0A00 ≡ 0 = rw x at h in omega arith);
-        }
-        go false x false y = record {
-          refuses = λ h. rw (x, y) (transput-past p n sender users pu f operation bytes block lent a r x y);
-          goes = λ h. absurd (let v : 0x0810 ≡ 0 = rw (x, y) at h in omega arith);
-        }
-        go false x true y = record {
-          refuses = λ h. absurd (h (rw (x, y) refl));
-          goes = λ h. (transput-there p n sender users pu f operation bytes block lent a r x y, leb-true block len y);
-        }
+        go : (a b c d e : Bool) → (b ≡ true → 256 ≤ length lent) → Asked (cond (a && b) (cond c (cond d 0x0A00 (cond e 0x0C00 0)) 0) 0x0880)
+            (asks a (refusedAt p 0x0880 (pu .position) lent) (asks b (refusedAt p 0x0880 (pu .position) lent)
+            (asks (not (c && d)) (refusedAt p 0x0A00 (pu .position) lent) (asks (not (c && e)) (refusedAt p 0x0C00 (pu .position) lent) next))))
+        go false b c d e long = record { refuses = λ h. refl; allows = λ z. absurd (omega arith) }
+        go true false c d e long = record { refuses = λ h. refl; allows = λ z. absurd (omega arith) }
+        go true true false d e long = record { refuses = λ h. absurd (h refl); allows = λ z. (refl, long refl) }
+        go true true true true e long = record { refuses = λ h. refl; allows = λ z. absurd (omega arith) }
+        go true true true false true long = record { refuses = λ h. refl; allows = λ z. absurd (omega arith) }
+        go true true true false false long = record { refuses = λ h. absurd (h refl); allows = λ z. (refl, long refl) }
 
     -- ---- the replies
 
@@ -296,33 +257,38 @@ module _ {image : List ℕ} {state : State} {o : Unit} {p : Plain} {n j sender u
         rw r (refused p w k d (asked .refuses (λ z. d (e ∙ z)) ∙ ap₂ (λ (x y : ℕ). refusedAt p x y lent) (sym e) (sym own)) (placed-own k own))
 
     module _ {w : ℕ} (e : w ≡ word) (yes : w ≡ 0) where
-      pub allowed : Allowed sender users f operation bytes lent
-      allowed = asked .allows (sym e ∙ yes)
+      pub allowed : 256 ≤ length lent
+      allowed = asked .allows (sym e ∙ yes) .1
 
       pub transput-own : {reply : AreaReply} {filled after : List ℕ} (k : ℕ) → isRandom operation ≡ false → k ≡ userAt (areaAt state j) u .position .0
           → TransputsAt image state o j u operation k lent reply filled after → TransputLeaves step image state p f j u operation lent reply filled after
       transput-own {reply} {filled} {after} k r own h =
           let is : step ≡ transputFrom state p p n j sender u f operation k lent =
-          transput-here p n sender users pu f operation bytes block lent allowed r ∙ ap (λ (x : ℕ). transputFrom state p p n j sender u f operation x lent) (sym own) in
+          asked .allows (sym e ∙ yes) .0 ∙ either-no _ _ _ (false-no r) ∙ ap (λ (x : ℕ). transputFrom state p p n j sender u f operation x lent) (sym own) in
           subst (λ (x : Outcome). TransputLeaves x image state p f j u operation lent reply filled after) (sym is) (h .all p p n sender f (placed-own k own))
 
       module _ (r : isRandom operation ≡ true) where
+        first : Positioned (moved p n sender users pu) block len (λ q w k. refusedAt q w k lent) at-position (positionWord block len) (positionReached block len) step
+        first =
+            subst (Positioned (moved p n sender users pu) block len (λ q w k. refusedAt q w k lent) at-position (positionWord block len) (positionReached block len))
+            (sym (asked .allows (sym e ∙ yes) .0 ∙ either-yes _ _ _ (true-yes r))) (positioned-by (moved p n sender users pu) block len _ _)
+
         pub refused-first : {reply : AreaReply} {v k : ℕ} → v ≡ positionWord block len → k ≡ positionReached block len → v ≢ 0 → reply ≡ areaReply (atPosition state j u k) v 0 k
             → TransputLeaves step image state p f j u operation lent reply lent image
         refused-first {v = v} {k = k} x y d q =
             rw q
-            (refused (moved p n sender users pu k) v k d (first allowed r .refuses (λ z. d (x ∙ z)) ∙ ap₂ (λ (a b : ℕ). refusedAt (moved p n sender users pu b) a b lent) (sym x) (sym y))
+            (refused (moved p n sender users pu k) v k d (first .refused (λ z. d (x ∙ z)) ∙ ap₂ (λ (a b : ℕ). refusedAt (moved p n sender users pu b) a b lent) (sym x) (sym y))
             (placed-moved k (omega (arith, reached-low block len))))
 
         pub transput-first : {reply : AreaReply} {filled after : List ℕ} {v : ℕ} → v ≡ positionWord block len → v ≡ 0 → TransputsAt image state o j u operation block lent reply filled after
             → TransputLeaves step image state p f j u operation lent reply filled after
         transput-first {reply} {filled} {after} x z h =
-            let g = first allowed r .goes (sym x ∙ z) in
+            let g = first .done (sym x ∙ z) in
             subst (λ (y : Outcome). TransputLeaves y image state p f j u operation lent reply filled after) (sym (g .0))
             (h .all p (moved p n sender users pu block) n sender f (placed-moved block (g .1)))
 
         pub first-low : {v : ℕ} → v ≡ positionWord block len → v ≡ 0 → block ≤ length (f .sectors)
-        first-low x z = first allowed r .goes (sym x ∙ z) .1
+        first-low x z = first .done (sym x ∙ z) .1
 
 -- ---- every unit on the image, by what the code finds
 
@@ -345,7 +311,7 @@ module _ {image : List ℕ} {state : State} {o : Unit} {j sender u operation byt
 
   module _ (yes : w ≡ 0) where
     long-lent : Seated image state o j sender u → 256 ≤ length lent
-    long-lent s = leb-true 256 (length lent) (allowed (s .seat) (s .numbers) operation bytes block lent (word-is (s .seat) (s .numbers)) yes .long)
+    long-lent s = allowed (s .seat) (s .numbers) operation bytes block lent (word-is (s .seat) (s .numbers)) yes
 
     pub some-own : {k : ℕ} → Seated image state o j sender u → k ≡ userAt (areaAt state j) u .position .0 → SomePlaced image state o j u k × (256 ≤ length lent)
     some-own {k} s q = (record { p = s .p; q = s .p; n = s .n; sender = sender; f = s .f; placed = placed-own (s .seat) (s .numbers) k q }, long-lent s)

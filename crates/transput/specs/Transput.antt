@@ -21,7 +21,7 @@ use Rattle.refine.specs.OnDisc.{OnDisc}
 use Rattle.lookup.specs.Unit.{NumbersOf}
 use Rattle.area_users.specs.declared.AreaReply.{AreaReply}
 use Rattle.area_users.specs.AreaUsers.{atPosition}
-use Rattle.refine.specs.Leaves.{Leaves}
+use Rattle.refine.specs.Leaves.{Leaves, StandFor}
 use Rattle.area_users.specs.Seat.{Seat, areaUsers, areaUser}
 use Rattle.output.specs.Output.{Placed, outputImage, outputState}
 
@@ -48,7 +48,7 @@ inputState state j u result k = atPosition state j u (cond (eqb result 0) (suc k
 -- Answer and lent words are the plain unit's, the block is the position; the image stays, and the state is determined.
 pub record InputLeaves (image : List ℕ) (state : State) (p q : Plain) (n j sender u : ℕ) (f : File) (k : ℕ) (lent : List ℕ)
     (r : AreaReply) (after : List ℕ) : Type 0 where
-  pub leaves : Leaves (input q (moved p n sender (areaUsers state j) (areaUser state j u)) f k lent) (r .answer) after image (r .state)
+  pub leaves : Leaves (input q (moved p n sender (areaUsers state j) (areaUser state j u)) f k lent) (r .answer) after (StandFor image (r .state))
   pub block : r .answer .block .0 ≡ k
   pub reached : r .state ≡ inputState state j u (r .answer .result) k
 
@@ -75,7 +75,7 @@ transputState p f state j u operation result k =
 -- The outcome's answer and lent words; image and state are those of its unit, and determined by result word and block.
 pub record TransputLeaves (x : Outcome) (image : List ℕ) (state : State) (p : Plain) (f : File) (j u operation : ℕ) (lent : List ℕ)
     (r : AreaReply) (filled after : List ℕ) : Type 0 where
-  pub leaves : Leaves x (r .answer) filled after (r .state)
+  pub leaves : Leaves x (r .answer) filled (StandFor after (r .state))
   pub written : after ≡ transputImage p image f operation (r .answer .result) (r .answer .block .0) lent
   pub reached : r .state ≡ transputState p f state j u operation (r .answer .result) (r .answer .block .0)
 

@@ -28,9 +28,9 @@ use Rattle.plain.proofs.QuestionLaws.{asks-yes, given-some}
 use Rattle.plain.proofs.UnitLaws.{entry-of}
 use Rattle.refine.specs.OnDisc.{OnDisc}
 use Rattle.refine.specs.Writes.{emptyPlace, resizedImage, changedImage, renamedImage}
-use Rattle.refine.specs.Replies.{refused, written}
+use Rattle.refine.proofs.LeavesLaws.{refuses, writes as replies-written}
 use Rattle.preservation.specs.Units.{grownUnit}
-use Rattle.preservation.proofs.RenameStep.{rename-emptied}
+use Rattle.preservation.proofs.ChangeStep.{rename-emptied}
 use Rattle.lookup.specs.Unit.{CatalogOn, unitPlaces}
 use Rattle.lookup.specs.Find.{FirstUnused}
 use Rattle.grow.specs.Grow.{GrownFrom}
@@ -137,11 +137,11 @@ change-ends {image} {p} on name lent words =
         record {
           result = 0;
           left = c .0;
-          step = λ _. written refl _ (change-outcome p n (newName n lent) (sizeThen f lent) (attributesThen f lent) f lent asked)
+          step = λ _. replies-written (change-outcome p n (newName n lent) (sizeThen f lent) (attributesThen f lent) f lent asked)
               (record { f = f; file = file; closed = shut (on .good) n file lent words rec asked; changed = c .1 });
         })
         (λ d. record {
           result = _;
           left = image;
-          step = λ _. refused d (change-no p n (newName n lent) (sizeThen f lent) (attributesThen f lent) f lent d) refl;
+          step = λ _. refuses d (change-no p n (newName n lent) (sizeThen f lent) (attributesThen f lent) f lent d) refl;
         })

@@ -56,7 +56,7 @@ module _ {image : List ℕ} {state : State} {p : Plain} (g : Good p) (r : Repres
   obeys : (message : Message) → Known state message → (x : Performed) × Obeyed p image state message lent x
   obeys (Init unit) k = (_, init-obeyed g r k)
   obeys (Set name) k = let e = set-ends (on-disc g r) name lent in (_, set-by g r w k (record { step = e .step tt }))
-  obeys (Create name size attributes) k = let e = create-ends (on-disc g r) name size attributes in (_, create-by g r w k (record { step = e .step }))
+  obeys (Create name size attributes) k = let e = create-ends (on-disc g r) name size attributes in (_, create-by g r k (record { step = e .step }))
   obeys (LookUp name) k = (_, stays g r (LookUp name) lent (k .ready) (look-up-left p lent name) (refl, refl))
   obeys (Change name) k = let e = change-ends (on-disc g r) name lent w in (_, change-by g r w k (record { step = e .step tt }))
   obeys (Remove name) k = let e = remove-ends (on-disc g r) name in (_, remove-by g r k (record { step = e .step }))

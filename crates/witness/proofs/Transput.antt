@@ -4,7 +4,6 @@ use mathlib.Core.Bool.{Bool, true, false}
 use mathlib.Core.List.{List}
 use Prim.Native.Nat.{ℕ, _≤_}
 use lib.ListN.{length}
-use borrow.Author.Tests.{leb-true}
 use Rattle.types.specs.declared.State.{State}
 use Rattle.types.specs.State.{areaAt, userAt}
 use Rattle.disc.specs.Words.{Words}
@@ -98,7 +97,7 @@ module _ {image : List ℕ} {state : State} {o : Unit} {p : Plain} {n j sender u
       own = userAt (areaAt state j) u .position .0
 
       here : {q : Plain} {k : ℕ} → word ≡ 0 → Placed image state o p q n j sender u f k → SomeReply (TransputsAt image state o j u operation k lent)
-      here z at = at-some at operation lent (leb-true 256 (length lent) (allowed seat num operation bytes block lent refl z .long)) words
+      here z at = at-some at operation lent (allowed seat num operation bytes block lent refl z) words
 
       go : word ≡ 0 → (b : Bool) → isRandom operation ≡ b → Result
       go z false r = told (transput-own seat num operation bytes block lent refl z own r refl (here z (placed-own seat num own refl) .holds))

@@ -6,7 +6,7 @@ use Rattle.area_messages.proofs.is_known.Statement.{statement}
 use Rattle.area_messages.proofs.is_known.Tie as tie
 
 returns : tie.Need-returns
-returns c = c .known-count .ensures ∙ sym (ap isKnown (c .before .before .operation .given .1))
+returns c = let operation = c .before .before in c .known-count .ensures ∙ sym (ap isKnown (operation .operation .given .1))
 
 returns-2 : tie.Need-returns-2
 returns-2 c = sym (ap isKnown (c .enum-told .given .1))
@@ -15,7 +15,9 @@ returns-3 : tie.Need-returns-3
 returns-3 c = sym (ap isKnown (c .enum-told2 .given .1))
 
 returns-4 : tie.Need-returns-4
-returns-4 c = c .known-transput .ensures ∙ sym (ap isKnown (c .before .before .operation2 .given .1))
+returns-4 c =
+    let operation = c .before .before in
+    c .known-transput .ensures ∙ sym (ap isKnown (operation .operation2 .given .1))
 
 returns-5 : tie.Need-returns-5
 returns-5 c = sym (ap isKnown (c .enum-told3 .given .1))

@@ -13,7 +13,10 @@ returns-2 : tie.Need-returns-2
 returns-2 c = sym (ap knownTransput (c .if2 .taken))
 
 returns-3 : tie.Need-returns-3
-returns-3 c = c .is-output .ensures ∙ transput-by (c .before .before .before .args .operation) (c .before .before .if1 .left) (c .before .if2 .left)
+returns-3 c =
+    let else1 = c .before .before in
+    let a = else1 .before .args in
+    c .is-output .ensures ∙ transput-by (a .operation) (else1 .if1 .left) (c .before .if2 .left)
 
 pub known-transput-spec : {M : Type 1} → statement M
 known-transput-spec =

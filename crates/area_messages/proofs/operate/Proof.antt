@@ -12,8 +12,9 @@ reserve-requires c κs =
 
 returns : tie.Need-returns
 returns c =
-    let a = c .before .before .before .before .before .args in
-    operate-reserve (a .image .now) (a .state) (a .unit) (a .j) (a .sender) (a .operation) (c .before .before .reserve-count .ensures) (c .before .if1 .taken) (c .reserve .ensures)
+    let counted = c .before .before in
+    let a = counted .before .before .before .args in
+    operate-reserve (a .image .now) (a .state) (a .unit) (a .j) (a .sender) (a .operation) (counted .reserve-count .ensures) (c .before .if1 .taken) (c .reserve .ensures)
 
 area-at-requires : tie.Need-area-at-requires
 area-at-requires c κs =

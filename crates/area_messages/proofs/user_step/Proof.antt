@@ -12,13 +12,13 @@ position-requires : tie.Need-position-requires
 position-requires c κs = let start = c .before .before .before .before .before in seat-low (start .pre .seat)
 
 transput-requires : tie.Need-transput-requires
-transput-requires c κs = c .before .before .before .before .before .before .before .pre
+transput-requires c κs = let start = c .before .before .before .before .before .before .before in start .pre
 
 returns : tie.Need-returns
 returns c = rw (c .before .enum-told .given .1) (step-release (c .release .ensures))
 
 returns-2 : tie.Need-returns-2
-returns-2 c = rw (c .before .before .operation .given .1) (step-position (c .position .ensures))
+returns-2 c = let operation = c .before .before in rw (operation .operation .given .1) (step-position (c .position .ensures))
 
 returns-3 : tie.Need-returns-3
 returns-3 c = rw (c .before .enum-told2 .given .1) (step-sense (c .reply .ensures))

@@ -4,7 +4,9 @@ use Rattle.area_users.proofs.at_position.Statement.{statement}
 use Rattle.area_users.proofs.at_position.Tie as tie
 
 returns : tie.Need-returns
-returns c = simp (c .with-area .ensures, c .before .with-position .ensures, c .before .before .area-at .ensures)
+returns c =
+    let area-at = c .before .before in
+    simp (c .with-area .ensures, c .before .with-position .ensures, area-at .area-at .ensures)
 
 pub at-position-spec : {M : Type 1} → statement M
 at-position-spec =

@@ -9,10 +9,14 @@ returns : tie.Need-returns
 returns c = simp (sym (c .before .negative .ensures) ∙ c .if1 .taken)
 
 returns-2 : tie.Need-returns-2
-returns-2 c = simp (sym (c .before .before .negative .ensures) ∙ c .before .if1 .left, lt-leb _ _ (c .if2 .taken))
+returns-2 c =
+    let negative = c .before .before in
+    simp (sym (negative .negative .ensures) ∙ c .before .if1 .left, lt-leb _ _ (c .if2 .taken))
 
 returns-3 : tie.Need-returns-3
-returns-3 c = simp (sym (c .before .before .negative .ensures) ∙ c .before .if1 .left, le-leb _ _ (c .if2 .left))
+returns-3 c =
+    let negative = c .before .before in
+    simp (sym (negative .negative .ensures) ∙ c .before .if1 .left, le-leb _ _ (c .if2 .left))
 
 pub position-reached-spec : {M : Type 1} → statement M
 position-reached-spec = tie.close (tie.spec (λ c κs. search needs) returns returns-2 returns-3)

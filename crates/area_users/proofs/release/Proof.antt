@@ -4,7 +4,10 @@ use Rattle.area_users.proofs.release.Statement.{statement}
 use Rattle.area_users.proofs.release.Tie as tie
 
 returns : tie.Need-returns
-returns c = simp (c .reply .ensures, c .before .with-area .ensures, c .before .before .release .ensures, c .before .before .before .area-at .ensures)
+returns c =
+    let release = c .before .before in
+    let area-at = release .before in
+    simp (c .reply .ensures, c .before .with-area .ensures, release .release .ensures, area-at .area-at .ensures)
 
 pub release-spec : {M : Type 1} → statement M
 release-spec =

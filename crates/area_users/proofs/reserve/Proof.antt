@@ -4,7 +4,10 @@ use Rattle.area_users.proofs.reserve.Statement.{statement}
 use Rattle.area_users.proofs.reserve.Tie as tie
 
 returns : tie.Need-returns
-returns c = simp (c .reply .ensures, c .before .with-area .ensures, c .before .before .before .reserve .ensures, c .before .before .before .before .area-at .ensures)
+returns c =
+    let reserve = c .before .before .before in
+    let area-at = reserve .before in
+    simp (c .reply .ensures, c .before .with-area .ensures, reserve .reserve .ensures, area-at .area-at .ensures)
 
 pub reserve-spec : {M : Type 1} → statement M
 reserve-spec =

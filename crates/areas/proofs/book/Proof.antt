@@ -6,7 +6,7 @@ use Rattle.areas.proofs.book.Statement.{statement}
 use Rattle.areas.proofs.book.Tie as tie
 
 slice-total-requires : tie.Need-slice-total-requires
-slice-total-requires c κs = slices-fit (c .before .before .before .pre .can) (c .file-block .ensures .1)
+slice-total-requires c κs = let pre = c .before .before .before .pre in slices-fit (pre .can) (c .file-block .ensures .1)
 
 read-entry-requires : tie.Need-read-entry-requires
 read-entry-requires c κs = let start = c .before .before .before .before .before .before in (omega arith, book-room (start .pre .can))

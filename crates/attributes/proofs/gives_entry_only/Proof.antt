@@ -6,7 +6,7 @@ use Rattle.attributes.proofs.gives_entry_only.Statement.{statement}
 use Rattle.attributes.proofs.gives_entry_only.Tie as tie
 
 returns : tie.Need-returns
-returns c = gives-none (c .before .before .args .a) (sym (c .before .negative .ensures) ∙ c .if1 .taken)
+returns c = let a = c .before .before .args in gives-none (a .a) (sym (c .before .negative .ensures) ∙ c .if1 .taken)
 
 returns-2 : tie.Need-returns-2
 returns-2 c =

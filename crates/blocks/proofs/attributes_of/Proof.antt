@@ -5,7 +5,7 @@ use Rattle.blocks.proofs.attributes_of.Statement.{statement}
 use Rattle.blocks.proofs.attributes_of.Tie as tie
 
 returns : tie.Need-returns
-returns c = attributes-none (c .before .before .find-name .ensures) (c .enum-told .given .1)
+returns c = let find-name = c .before .before in attributes-none (find-name .find-name .ensures) (c .enum-told .given .1)
 
 returns-2 : tie.Need-returns-2
 returns-2 c =

@@ -11,7 +11,7 @@ returns : tie.Need-returns
 returns c = let a = c .before .before .before .args in taken-kept (a .image .now) (a .unit) 0 (a .w) (was-false refl (c .if1 .taken))
 
 find-name-requires : tie.Need-find-name-requires
-find-name-requires c κs = searchable (c .before .before .before .pre)
+find-name-requires c κs = let pre = c .before .before .before .pre in searchable pre
 
 returns-2 : tie.Need-returns-2
 returns-2 c =

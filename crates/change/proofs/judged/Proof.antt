@@ -9,7 +9,7 @@ returns : tie.Need-returns
 returns c = record { all = λ p n m f asked lent. judge-illegal asked lent (was-false (c .before .allowed .ensures) (c .if1 .taken)) }
 
 is-taken-requires : tie.Need-is-taken-requires
-is-taken-requires c κs = asked-on (c .before .before .before .pre .asked)
+is-taken-requires c κs = let pre = c .before .before .before .pre in asked-on (pre .asked)
 
 returns-2 : tie.Need-returns-2
 returns-2 c =

@@ -13,7 +13,7 @@ returns : tie.Need-returns
 returns c = let a = c .before .before .before .args in layers-kept (a .image .now) (a .unit) _ (a .w) (was-false refl (c .if1 .taken))
 
 key-requires : tie.Need-key-requires
-key-requires c κs = some-layers (c .before .before .before .pre) .0
+key-requires c κs = let pre = c .before .before .before .pre in some-layers pre .0
 
 key-requires-2 : tie.Need-key-requires-2
 key-requires-2 c κs = let start = c .before .before .before .before in some-layers (start .pre) .0

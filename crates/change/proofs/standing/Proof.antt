@@ -1,7 +1,8 @@
 -- `change::standing` meets its contract. Assumes nothing.
 use mathlib.Core.Path.{refl}
 use borrow.Author.Needs.{needs}
-use Rattle.change.proofs.StandLaws.{slices-fit, stands-as}
+use Rattle.lookup.proofs.FileLaws.{closed-fits}
+use Rattle.change.proofs.StandLaws.{stands-as}
 use Rattle.change.proofs.standing.Statement.{statement}
 use Rattle.change.proofs.standing.Tie as tie
 
@@ -9,7 +10,7 @@ slice-total-requires : tie.Need-slice-total-requires
 slice-total-requires c κs =
     let index = c .before in
     let start = index .before .before .before .before in
-    slices-fit (start .pre .can) (index .entry-word3 .ensures) (c .file-block .ensures .1)
+    closed-fits (start .pre .can) (index .entry-word3 .ensures) (c .file-block .ensures .1)
 
 returns : tie.Need-returns
 returns c =

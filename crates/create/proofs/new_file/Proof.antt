@@ -8,7 +8,7 @@ use Rattle.create.proofs.new_file.Statement.{statement}
 use Rattle.create.proofs.new_file.Tie as tie
 
 -- the lent words are words
-lent : (c : tie.After-shared-slice-known) → Words (c .before .before .args .words .now)
+lent : (c : tie.After-shared-slice-known) → let a = c .before .before .args in Words (a .words .now)
 lent c = record { each = λ k. omega (arith, c .shared-slice-known .given k) }
 
 returns : tie.Need-returns

@@ -11,9 +11,10 @@ use Rattle.export.proofs.format_step.Tie as tie
 
 returns : tie.Need-returns
 returns c =
-    let state-of = c .before .before .before .before .before .before in
+    let formatted = c .before .before .before .before in
+    let state-of = formatted .before .before in
     let start = state-of .before .before .before in
-    let f = c .before .before .before .before .format in
+    let f = formatted .format in
     formats (arrays (start .args .state) _ (start .good .0)) (state-of .state-of .ensures)
     (shaped (f .result .state) _ (LL.owed F.the-type F′.the-laws (f .result) _ (f .ok) .1 .0)) (c .remirror .ensures) (f .ensures)
 

@@ -8,10 +8,14 @@ returns : tie.Need-returns
 returns c = rw (← c .before .lowest-number .ensures) (simp (lt-ltb _ 2 (c .if1 .taken)))
 
 returns-2 : tie.Need-returns-2
-returns-2 c = rw (← c .before .before .lowest-number .ensures) (simp (le-ltb _ 2 (c .before .if1 .left), lt-ltb _ 2 (c .if2 .taken)))
+returns-2 c =
+    let lowest-number = c .before .before in
+    rw (← lowest-number .lowest-number .ensures) (simp (le-ltb _ 2 (c .before .if1 .left), lt-ltb _ 2 (c .if2 .taken)))
 
 returns-3 : tie.Need-returns-3
-returns-3 c = rw (← c .before .before .lowest-number .ensures) (simp (le-ltb _ 2 (c .before .if1 .left), le-ltb _ 2 (c .if2 .left)))
+returns-3 c =
+    let lowest-number = c .before .before in
+    rw (← lowest-number .lowest-number .ensures) (simp (le-ltb _ 2 (c .before .if1 .left), le-ltb _ 2 (c .if2 .left)))
 
 pub role-number-spec : {M : Type 1} → statement M
 role-number-spec = tie.close (tie.spec (λ c κs. search needs) returns returns-2 returns-3)

@@ -13,7 +13,8 @@ use Rattle.export.proofs.step.Tie as tie
 
 returns : tie.Need-returns
 returns c =
-    noSuchCall (sym (c .before .before .asked-of .ensures) ∙ c .enum-told .given .1) (record { answered = refl; sameImage = refl; sameMirror = refl; sameLent = refl })
+    let at-message = c .before .before in
+    noSuchCall (sym (at-message .asked-of .ensures) ∙ c .enum-told .given .1) (record { answered = refl; sameImage = refl; sameMirror = refl; sameLent = refl })
 
 returns-2 : tie.Need-returns-2
 returns-2 c =

@@ -32,7 +32,9 @@ returns c =
     is-known (first .before .classify .ensures) (first .unit-known .ensures .yes (c .before .if1 .taken)) (c .ready .ensures)
 
 returns-2 : tie.Need-returns-2
-returns-2 c = not-known (c .before .before .classify .ensures) (c .if1 .left) (c .before .unit-known .ensures)
+returns-2 c =
+    let classify = c .before .before in
+    not-known (classify .classify .ensures) (c .if1 .left) (c .before .unit-known .ensures)
 
 pub known-spec : {M : Type 1} → statement M
 known-spec =

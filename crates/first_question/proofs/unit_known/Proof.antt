@@ -9,10 +9,13 @@ returns : tie.Need-returns
 returns c = fails (λ k. c .if1 .taken (k .number))
 
 returns-2 : tie.Need-returns-2
-returns-2 c = record {
-  yes = λ e. record { number = c .before .if1 .left; low = leb-true _ _ e };
-  not = λ e k. let high = leb-false (c .before .before .before .args .state .unit) 3 e in omega (arith, k .low);
-}
+returns-2 c =
+    let else1 = c .before in
+    let a = else1 .before .before .args in
+    record {
+      yes = λ e. record { number = else1 .if1 .left; low = leb-true _ _ e };
+      not = λ e k. let high = leb-false (a .state .unit) 3 e in omega (arith, k .low);
+    }
 
 pub unit-known-spec : {M : Type 1} → statement M
 unit-known-spec = tie.close (tie.spec returns returns-2)

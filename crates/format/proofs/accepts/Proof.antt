@@ -29,14 +29,15 @@ accepts-spec =
     (λ c κs. search needs)
     (λ c. fails (λ f. refutes _ (c .before .within-limits .ensures) (c .if2 .taken) (f .limits)))
     (λ c. search needs)
-    (λ c. omega (arith, limits (c .before .before) .someData))
+    (λ c. let else2 = c .before .before in omega (arith, limits else2 .someData))
     (λ c. fails (λ f. c .if3 .taken (f .free)))
     (λ c. search needs)
     (λ c. fails (λ f. c .if4 .taken (f .top)))
-    (λ c. omega (arith, limits (c .before .before .before .before .before) .sectors))
-    (λ c. omega (arith, limits (c .before .before .before .before .before) .sectors))
+    (λ c. let else2 = c .before .before .before .before .before in omega (arith, limits else2 .sectors))
+    (λ c. let else2 = c .before .before .before .before .before in omega (arith, limits else2 .sectors))
     (λ c.
-    let e = c .before .before .before .before .before in
+    let else3 = c .before .before in
+    let e = else3 .before .before .before in
     let first = e .before .before .before .before .before .before in
     let a = first .before .before .before .before .before .args in
     let n = getD (a .lent .now) 3 0 in
@@ -44,7 +45,7 @@ accepts-spec =
     (λ size. record {
       known = grants _ (first .before .known .ensures) (first .if1 .left);
       limits = limits e;
-      free = c .before .before .if3 .left;
+      free = else3 .if3 .left;
       top = c .if4 .left;
       size = size ∙ mul-comm n 256;
     })

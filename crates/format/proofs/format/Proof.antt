@@ -25,7 +25,8 @@ returns-2 c = notLent (λ r. let n = r .words in omega arith) (record { word = r
 
 returns-3 : tie.Need-returns-3
 returns-3 c =
-    notAllowed (lent (c .before .before .before)) (refutes _ (c .before .accepts .ensures) (c .if3 .taken)) (record { word = refl; same = refl; kept = refl })
+    let else2 = c .before .before .before in
+    notAllowed (lent else2) (refutes _ (c .before .accepts .ensures) (c .if3 .taken)) (record { word = refl; same = refl; kept = refl })
 
 write-system-requires : tie.Need-write-system-requires
 write-system-requires c κs =

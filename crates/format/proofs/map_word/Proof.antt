@@ -31,8 +31,9 @@ mul-word c =
 turn : (c : tie.After-map-bit Inv-loop μ-loop) → let at = c .before .before .before in
     BitsDone (at .before .args .slices) (span 1 (at .before .args .used)) (at .before .args .w) (at .loop .b + 1) (at .loop .word * 2 + c .map-bit .result)
 turn c =
-    let a = c .before .before .before .before .args in
-    let l = c .before .before .before .loop in
+    let at = c .before .before .before in
+    let a = at .before .args in
+    let l = at .loop in
     let k : c .before .slice-at .result .0 ≡ 16 * a .w + 1 + l .b = omega (arith, c .before .slice-at .ensures) in
     rw (c .map-bit .ensures, k) (bits-more (a .slices) (span 1 (a .used)) (a .w) (l .b) (l .word) (omega arith) (l .inv .1))
 

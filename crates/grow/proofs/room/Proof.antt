@@ -1,13 +1,16 @@
 -- `grow::room` meets its contract. Assumes nothing.
 use native.Mathlib.Omega.{arith}
 use borrow.Author.Needs.{needs}
-use Rattle.grow.proofs.RoomLaws.{room-slice, room-had, for-small, answer-few, free-enough, can-fit, answer-no, answer-yes}
+use Rattle.grow.proofs.BlockLaws.{slice-low, had-small}
+use Rattle.grow.proofs.RoomLaws.{for-small, answer-few, free-enough, can-fit, answer-no, answer-yes}
 use Rattle.grow.proofs.room.Statement.{statement}
 use Rattle.grow.proofs.room.Tie as tie
 
 slices-more-requires : tie.Need-slices-more-requires
 slices-more-requires c κs =
-    let asked = c .before .before .pre .asked in (omega (arith, room-slice asked), room-had asked (c .read-block .ensures))
+    let pre = c .before .before .pre in
+    let at = pre .asked .catalog in
+    (omega (arith, slice-low at), had-small at (c .read-block .ensures))
 
 add-if1 : tie.Need-add-if1
 add-if1 c =

@@ -12,8 +12,9 @@ use Rattle.index.proofs.append_slice.Tie as tie
 lengthen-requires : tie.Need-lengthen-requires
 lengthen-requires c κs =
     let joins = c .before .before in
-    let n = joins .before .before .pair-count in
-    let s = joins .before .before .before .before .before in
+    let counted = joins .before .before in
+    let n = counted .pair-count in
+    let s = counted .before .before .before in
     let a = s .args in
     let w = a .words .now in
     let some = joins-pair (a .first .0) (a .s) w 0 _ (n .ensures) (a .k .0) _ (joins .joins-at .ensures) (c .before .if1 .taken) in (
@@ -28,8 +29,9 @@ returns c =
     let lengthen = c .before .before in
     let then1 = lengthen .before .before in
     let joins = then1 .before in
-    let n = joins .before .before .pair-count in
-    let a = joins .before .before .before .before .before .args in
+    let counted = joins .before .before in
+    let n = counted .pair-count in
+    let a = counted .before .before .before .args in
     appended-joined (a .first .0) (a .s) (a .k .0) (a .words .now) (n .result) (n .ensures) _ (joins .joins-at .ensures) _
     (then1 .if1 .taken) (lengthen .lengthen .ensures)
 
@@ -37,15 +39,16 @@ set-pair-requires : tie.Need-set-pair-requires
 set-pair-requires c κs =
     let else1 = c .before .before in
     let joins = else1 .before in
-    let s = joins .before .before .before .before .before in
-    let n = joins .before .before .pair-count in
+    let counted = joins .before .before in
+    let n = counted .pair-count in
+    let s = counted .before .before .before in
     let a = s .args in (
       omega (arith, s .pre .1 .room, with-apart (a .first .0) (a .s) (a .words .now) 0 (n .result) (n .ensures) (a .k .0) _ (joins .joins-at .ensures) (else1 .if1 .left)),
       simp length-set (omega arith),
     )
 
 same-length-2 : tie.Need-same-length-2
-same-length-2 c = ap length (c .before .before .set-pair .ensures) ∙ simp length-set
+same-length-2 c = let set-pair = c .before .before in ap length (set-pair .set-pair .ensures) ∙ simp length-set
 
 returns-2 : tie.Need-returns-2
 unfolding extended
@@ -53,8 +56,9 @@ returns-2 c =
     let stored = c .before .before in
     let start = stored .before .before in
     let joins = start .before .before in
-    let n = joins .before .before .pair-count in
-    let a = joins .before .before .before .before .before .args in
+    let counted = joins .before .before in
+    let n = counted .pair-count in
+    let a = counted .before .before .before .args in
     appended-apart (a .first .0) (a .s) (a .k .0) (a .words .now) (n .result) (n .ensures) _ (joins .joins-at .ensures) _ _
     (start .before .if1 .left) (start .slice-start .ensures) (stored .set-pair .ensures)
 

@@ -20,7 +20,8 @@ abbrev μ-loop : tie.MeasureT-loop
 
 loop-holds : tie.Need-loop-holds Inv-loop μ-loop
 loop-holds c =
-    let n = c .before .before .pair-count .result in
+    let counted = c .before .before in
+    let n = counted .pair-count .result in
     let e = ap (λ (w : List ℕ). set w 0 n) (c .before .empty-block .ensures ∙ whole-none) ∙ whole-count 0 n [] in
     rw sub-zero (fill-start n _ _ e)
 

@@ -43,9 +43,10 @@ loop-again c =
 
 returns-2 : tie.Need-returns-2 Inv-loop μ-loop
 returns-2 c =
-    let a = c .before .before .before .before .args in
-    let n = c .before .before .pair-count .result in
-    sym (sector-none (a .image .now) (a .q .0) n (c .before .loop .j) (c .before .loop .rest) (c .loop-test .left)) ∙ c .before .loop .inv .1
+    let l = c .before in
+    let n = l .before .pair-count .result in
+    let a = l .before .before .before .args in
+    sym (sector-none (a .image .now) (a .q .0) n (l .loop .j) (l .loop .rest) (c .loop-test .left)) ∙ l .loop .inv .1
 
 pub sector-at-spec : {M : Type 1} → statement M
 sector-at-spec =

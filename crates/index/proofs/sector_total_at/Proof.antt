@@ -29,9 +29,10 @@ loop-again c =
 
 returns : tie.Need-returns Inv-loop μ-loop
 returns c =
-    let a = c .before .before .before .before .args in
-    let n = c .before .before .pair-count .result in
-    omega (arith, sectors-none (a .image .now) (a .q .0) n (c .before .loop .j) (c .loop-test .left), c .before .loop .inv .1)
+    let at = c .before in
+    let a = at .before .before .before .args in
+    let n = at .before .pair-count .result in
+    omega (arith, sectors-none (a .image .now) (a .q .0) n (at .loop .j) (c .loop-test .left), at .loop .inv .1)
 
 pub sector-total-at-spec : {M : Type 1} → statement M
 sector-total-at-spec =

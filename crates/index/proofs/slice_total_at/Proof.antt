@@ -13,7 +13,7 @@ cast-result c =
     omega (arith, ap (λ (n : ℕ). n / s) (c .sector-total-at .ensures), start .pre .1)
 
 returns : tie.Need-returns
-returns c = ap (λ (n : ℕ). n / c .before .before .args .s) (c .sector-total-at .ensures)
+returns c = let a = c .before .before .args in ap (λ (n : ℕ). n / a .s) (c .sector-total-at .ensures)
 
 pub slice-total-at-spec : {M : Type 1} → statement M
 slice-total-at-spec = tie.close (tie.spec (λ c κs. search needs) (λ c. search needs) cast-result returns)

@@ -10,8 +10,9 @@ use Rattle.index.proofs.store_block.Tie as tie
 
 returns : tie.Need-returns
 returns c =
-    let a = c .before .before .before .before .before .before .before .before .args in
-    c .before .before .store-sector .ensures ∙ ap (store (a .image .now) (a .q .0 * 256)) (take-all 256 (a .t3 .words) (omega arith))
+    let stored = c .before .before in
+    let a = stored .before .before .before .before .before .before .args in
+    stored .store-sector .ensures ∙ ap (store (a .image .now) (a .q .0 * 256)) (take-all 256 (a .t3 .words) (omega arith))
 
 pub store-block-spec : {M : Type 1} → statement M
 store-block-spec = tie.close (tie.spec (λ c κs. search needs) (λ c. search needs) returns)

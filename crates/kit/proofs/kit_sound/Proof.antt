@@ -26,15 +26,14 @@ unit c =
     }
 
 returns : tie.Need-returns
-returns c = fails (λ k. refutes _ (c .before .within-limits .ensures) (c .if1 .taken) (sound-unit (c .before .before .geometry-of .ensures) k .limits))
+returns c =
+    let geometry-of = c .before .before in
+    fails (λ k. refutes _ (c .before .within-limits .ensures) (c .if1 .taken) (sound-unit (geometry-of .geometry-of .ensures) k .limits))
 
 returns-2 : tie.Need-returns-2
 returns-2 c =
     let g = c .before .before .before .before .geometry-of in
     fails (λ k. c .if2 .taken (sound-unit (g .ensures) k .size ∙ mul-comm 256 (g .result .sectors)))
-
-shared-slice-read-if3 : tie.Need-shared-slice-read-if3
-shared-slice-read-if3 c = omega (arith, unit-long (unit (c .before)))
 
 returns-3 : tie.Need-returns-3
 returns-3 c =
@@ -42,16 +41,10 @@ returns-3 c =
     fails (λ k. c .if3 .taken (kit-top (geometry-of .geometry-of .ensures) k))
 
 map-index-requires : tie.Need-map-index-requires
-map-index-requires c κs = omega (arith, unit-long (unit (c .before .before .before)))
-
-returns-4 : tie.Need-returns-4
-returns-4 c = fails (λ k. refutes _ (c .before .map-index .ensures) (c .if4 .taken) (k .mapIndex))
+map-index-requires c κs = let else2 = c .before .before .before in omega (arith, unit-long (unit else2))
 
 shared-slice-read-result : tie.Need-shared-slice-read-result
 shared-slice-read-result c = let else2 = c .before .before .before .before .before .before in omega (arith, unit-long (unit else2))
-
-cast-result : tie.Need-cast-result
-cast-result c = fits-widen tt (c .shared-slice-known3 .given _)
 
 count-free-requires : tie.Need-count-free-requires
 count-free-requires c κs = let else2 = c .before .before .before .before .before .before .before in unit-long (unit else2)
@@ -68,8 +61,9 @@ returns-5 c =
     let else4 = c .before .before .before in
     let else3 = else4 .before .before in
     let e = else3 .before .before .before in
-    let start = e .before .before .before .before .before .before in
-    let g = e .before .before .before .before .geometry-of in
+    let geometry-of = e .before .before .before .before in
+    let start = geometry-of .before .before in
+    let g = geometry-of .geometry-of in
     decides-eq (word (start .args .image .now) kitSector 3) (g .result .slice * c .count-free .result)
     (sound-kit (g .ensures) (c .count-free .result) (c .count-free .ensures) (unit e) (else3 .if3 .left) (grants _ (else4 .before .map-index .ensures) (else4 .if4 .left)))
     (kit-free (g .ensures) (c .count-free .result) (c .count-free .ensures))
@@ -86,14 +80,14 @@ kit-sound-spec =
     returns-2
     (λ c. search needs)
     (λ c. search needs)
-    shared-slice-read-if3
+    (λ c. omega (arith, unit-long (unit (c .before))))
     returns-3
     map-index-requires
-    returns-4
+    (λ c. fails (λ k. refutes _ (c .before .map-index .ensures) (c .if4 .taken) (k .mapIndex)))
     (λ c. search needs)
     (λ c. search needs)
     shared-slice-read-result
-    cast-result
+    (λ c. fits-widen tt (c .shared-slice-known3 .given _))
     (λ c. search needs)
     count-free-requires
     (λ c. search needs)

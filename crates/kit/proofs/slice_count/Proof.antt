@@ -7,9 +7,6 @@ use borrow.Author.Needs.{needs}
 use Rattle.kit.proofs.slice_count.Statement.{statement}
 use Rattle.kit.proofs.slice_count.Tie as tie
 
-returns : tie.Need-returns
-returns c = rw (c .if1 .taken, div-zero) refl
-
 returns-2 : tie.Need-returns-2
 returns-2 c =
     let a = c .before .before .before .args in
@@ -17,4 +14,4 @@ returns-2 c =
     sym (ap (λ (n : ℕ). n / a .slice) e ∙ zero-div (a .slice))
 
 pub slice-count-spec : {M : Type 1} → statement M
-slice-count-spec = tie.close (tie.spec returns returns-2 (λ c. search needs) (λ c. search needs))
+slice-count-spec = tie.close (tie.spec (λ c. rw (c .if1 .taken, div-zero) refl) returns-2 (λ c. search needs) (λ c. search needs))

@@ -8,27 +8,6 @@ use borrow.Author.Needs.{needs}
 use Rattle.kit.proofs.within_limits.Statement.{statement}
 use Rattle.kit.proofs.within_limits.Tie as tie
 
-returns : tie.Need-returns
-returns c = fails (λ l. omega arith)
-
-returns-2 : tie.Need-returns-2
-returns-2 c = fails (λ l. omega arith)
-
-returns-3 : tie.Need-returns-3
-returns-3 c = fails (λ l. omega arith)
-
-returns-4 : tie.Need-returns-4
-returns-4 c = fails (λ l. omega arith)
-
-returns-5 : tie.Need-returns-5
-returns-5 c = fails (λ l. omega arith)
-
-returns-6 : tie.Need-returns-6
-returns-6 c = fails (λ l. omega arith)
-
-returns-7 : tie.Need-returns-7
-returns-7 c = fails (λ l. omega arith)
-
 mul-if8 : tie.Need-mul-if8
 mul-if8 c =
     let a = c .before .before .before .before .before .before .before .before .before .before .args in
@@ -38,9 +17,6 @@ returns-8 : tie.Need-returns-8
 returns-8 c =
     let a = c .before .before .before .before .before .before .before .before .before .before .before .args in
     fails (λ l. c .if8 .taken (whole-product (a .sectors - a .first .0) (a .slice) (l .whole)))
-
-returns-9 : tie.Need-returns-9
-returns-9 c = fails (λ l. omega arith)
 
 returns-10 : tie.Need-returns-10
 returns-10 c =
@@ -67,16 +43,16 @@ pub within-limits-spec : {M : Type 1} → statement M
 within-limits-spec =
     tie.close
     (tie.spec
-    returns
-    returns-2
-    returns-3
-    returns-4
-    returns-5
-    returns-6
-    returns-7
+    (λ c. fails (λ l. omega arith))
+    (λ c. fails (λ l. omega arith))
+    (λ c. fails (λ l. omega arith))
+    (λ c. fails (λ l. omega arith))
+    (λ c. fails (λ l. omega arith))
+    (λ c. fails (λ l. omega arith))
+    (λ c. fails (λ l. omega arith))
     (λ c. search needs)
     (λ c. search needs)
     mul-if8
     returns-8
-    returns-9
+    (λ c. fails (λ l. omega arith))
     returns-10)

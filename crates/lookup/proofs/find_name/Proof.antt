@@ -16,13 +16,14 @@ returns : tie.Need-returns
 returns c = record { all = λ p on num. zero-found on _ (sym (c .before .packed .ensures) ∙ c .if1 .taken) refl }
 
 find-requires : tie.Need-find-requires
-find-requires c κs = some-key (c .before .before .before .pre)
+find-requires c κs = let pre = c .before .before .before .pre in some-key pre
 
 returns-2 : tie.Need-returns-2
 returns-2 c =
-    let a = c .before .before .before .before .args in
+    let read = c .before .before in
+    let a = read .before .before .args in
     let n = packed (a .name) in
-    let nz : n ≢ 0 = λ z. c .before .if1 .left (c .before .before .packed .ensures ∙ z) in
+    let nz : n ≢ 0 = λ z. c .before .if1 .left (read .packed .ensures ∙ z) in
     let at : (p : Plain) → NumbersOf (a .unit) p → c .find .result ≡ placeNamed (a .image .now) (unitSys p) n =
     λ p num. c .find .ensures .place ∙ ap (λ (v : Catalog). placeNamed (a .image .now) v n) (is-value (num .catalog)) in
     record { all = λ p on num. name-found on n nz (at p num) }

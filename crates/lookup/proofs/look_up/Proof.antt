@@ -8,7 +8,7 @@ use Rattle.lookup.proofs.look_up.Statement.{statement}
 use Rattle.lookup.proofs.look_up.Tie as tie
 
 find-name-requires : tie.Need-find-name-requires
-find-name-requires c κs = searchable (c .before .before .before .pre .standing)
+find-name-requires c κs = let pre = c .before .before .before .pre in searchable (pre .standing)
 
 returns : tie.Need-returns
 returns c =

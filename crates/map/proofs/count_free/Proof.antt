@@ -16,16 +16,23 @@ abbrev μ-loop : tie.MeasureT-loop
 μ-loop image free₀ w₀ free w = 256 - w
 
 cast-free : tie.Need-cast-free Inv-loop μ-loop
-cast-free c = let few = ones-le 16 _ (c .shared-slice-known .given (2304 + c .before .before .loop .w) .fits) in omega arith
+cast-free c =
+    let l = c .before .before .loop in
+    let few = ones-le 16 _ (c .shared-slice-known .given (2304 + l .w) .fits) in
+    omega arith
 
 add-free : tie.Need-add-free Inv-loop μ-loop
-add-free c = let few = ones-le 16 _ (c .shared-slice-known .given (2304 + c .before .before .loop .w) .fits) in omega arith
+add-free c =
+    let l = c .before .before .loop in
+    let few = ones-le 16 _ (c .shared-slice-known .given (2304 + l .w) .fits) in
+    omega arith
 
 loop-again : tie.Need-loop-again Inv-loop μ-loop
 loop-again c =
-    let w = c .before .before .loop .w in
+    let at = c .before .before in
+    let w = at .loop .w in
     let few = ones-le 16 _ (c .shared-slice-known .given (2304 + w) .fits) in
-    omega (arith, ones-more (c .before .before .before .args .image .now) w)
+    omega (arith, ones-more (at .before .args .image .now) w)
 
 returns : tie.Need-returns Inv-loop μ-loop
 returns c = c .before .loop .inv .1 ∙ ones-all _ (c .before .loop .w) (omega arith)

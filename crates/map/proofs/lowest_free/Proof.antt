@@ -49,12 +49,16 @@ div-if2 c = rw (c .bit-word .ensures) (pow-pos _)
 
 loop-again : tie.Need-loop-again Inv-loop μ-loop Inv-scan μ-scan
 loop-again c =
-    let image = c .before .before .before .before .before .before .before .before .args .image .now in
-    let w = c .before .before .before .before .before .before .scan .w in
-    let b = c .before .before .before .loop .b in
-    let test = scan-bit image w b _ (c .before .before .loop-test .taken) (c .before .bit-word .ensures) in (
+    let turn = c .before .before in
+    let at = turn .before in
+    let scan = at .before .before .before in
+    let start = scan .before .before in
+    let image = start .args .image .now in
+    let w = scan .scan .w in
+    let b = at .loop .b in
+    let test = scan-bit image w b _ (turn .loop-test .taken) (c .before .bit-word .ensures) in (
       search needs,
-      none-next image (16 * w + b + 1) _ (omega arith) (c .before .before .before .loop .inv .1) (omega (arith, mapBit-le image (16 * w + b + 1))),
+      none-next image (16 * w + b + 1) _ (omega arith) (at .loop .inv .1) (omega (arith, mapBit-le image (16 * w + b + 1))),
     )
 
 scan-again : tie.Need-scan-again Inv-loop μ-loop Inv-scan μ-scan
@@ -67,9 +71,11 @@ returns-2 : tie.Need-returns-2 Inv-loop μ-loop Inv-scan μ-scan
 returns-2 c =
     let bit-word = c .before .before in
     let at = bit-word .before .before in
-    let w = at .before .before .before .scan .w in
+    let scan = at .before .before .before in
+    let start = scan .before .before in
+    let image = start .args .image .now in
+    let w = scan .scan .w in
     let b = at .loop .b in
-    let image = at .before .before .before .before .before .args .image .now in
     let test = scan-bit image w b _ (bit-word .before .loop-test .taken) (bit-word .bit-word .ensures) in
     let found = scan-found _ (16 * w + b + 1) (omega arith) (omega arith) (λ z. omega arith) (at .loop .inv .1) in
     lowest-answers image (ap (λ (k : ℕ). Free (record { 0 = k })) (c .slice-at .ensures) ∙ found)

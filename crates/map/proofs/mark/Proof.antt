@@ -13,7 +13,9 @@ div-image : tie.Need-div-image
 div-image c = rw (c .bit-word .ensures) (pow-pos _)
 
 mul-image : tie.Need-mul-image
-mul-image c = record { fits = rw (c .bit-word .ensures) (lt-of-le-of-lt (digit-share _ _) (c .before .before .slice-known2 .given _ .fits)) }
+mul-image c =
+    let known = c .before .before in
+    record { fits = rw (c .bit-word .ensures) (lt-of-le-of-lt (digit-share _ _) (known .slice-known2 .given _ .fits)) }
 
 sub-image : tie.Need-sub-image
 sub-image c = rw (c .bit-word .ensures) (digit-share _ _)
@@ -25,7 +27,9 @@ mul-image-2 c =
     omega (arith, mul-le-mul-right (c .bit-word .result) small, c .bit-word .ok)
 
 add-image : tie.Need-add-image
-add-image c = record { fits = rw (c .bit-word .ensures) (with-lt _ (omega arith) _ 16 _ (omega arith) (c .before .before .slice-known2 .given _ .fits)) }
+add-image c =
+    let known = c .before .before in
+    record { fits = rw (c .bit-word .ensures) (with-lt _ (omega arith) _ 16 _ (omega arith) (known .slice-known2 .given _ .fits)) }
 
 returns : tie.Need-returns
 unfolding marked

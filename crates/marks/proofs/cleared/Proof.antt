@@ -1,23 +1,20 @@
 -- `marks::cleared` meets its contract. The loop's invariant: the sum is 0 exactly if the words passed are 0. Assumes nothing.
+use mathlib.Core.Path.{refl}
 use Prim.Native.Nat.{_+_, _-_, _*_, _≤_}
 use native.Mathlib.Omega.{arith}
 use mir.Facts.{fits-widen}
 use borrow.Author.Needs.{needs}
-use Rattle.marks.proofs.WordTests.{ZeroIf, zero-none, zero-more, zero-all}
+use Rattle.disc.specs.Words.{word}
+use Rattle.disc.specs.Kit.{mapSector}
+use Rattle.marks.proofs.WordTests.{ZeroIf, zero-none, zero-more, zero-cleared}
 use Rattle.marks.proofs.cleared.Statement.{statement}
 use Rattle.marks.proofs.cleared.Tie as tie
 
 abbrev Inv-loop : tie.InvT-loop
-Inv-loop image n sum₀ w₀ sum w = (n ≤ w) × (w ≤ 256) × (sum ≤ 65535 * w) × ZeroIf image n w sum
+Inv-loop image n sum₀ w₀ sum w = (n ≤ w) × (w ≤ 256) × (sum ≤ 65535 * w) × ZeroIf (word image mapSector) n w sum
 
 abbrev μ-loop : tie.MeasureT-loop
 μ-loop image n sum₀ w₀ sum w = 256 - w
-
-loop-holds : tie.Need-loop-holds Inv-loop μ-loop
-loop-holds c = (omega arith, omega arith, omega arith, zero-none)
-
-cast-sum : tie.Need-cast-sum Inv-loop μ-loop
-cast-sum c = fits-widen tt (c .shared-slice-known .given _)
 
 add-sum-2 : tie.Need-add-sum-2 Inv-loop μ-loop
 add-sum-2 c = let l = c .before .before .loop in omega (arith, c .shared-slice-known .given (2304 + l .w))
@@ -25,14 +22,12 @@ add-sum-2 c = let l = c .before .before .loop in omega (arith, c .shared-slice-k
 loop-again : tie.Need-loop-again Inv-loop μ-loop
 loop-again c =
     let l = c .before .before .loop in
-    (omega arith, omega arith, omega (arith, c .shared-slice-known .given (2304 + l .w)), zero-more (l .inv .0) (l .inv .3))
-
-returns : tie.Need-returns Inv-loop μ-loop
-returns c = zero-all (omega arith) (c .before .loop .inv .3)
+    (omega arith, omega arith, omega (arith, c .shared-slice-known .given (2304 + l .w)), zero-more (l .inv .0) refl refl (l .inv .3))
 
 pub cleared-spec : {M : Type 1} → statement M
 cleared-spec =
     tie.close
     (tie.spec
-    Inv-loop μ-loop loop-holds (λ c. search needs) (λ c. search needs) (λ c. search needs) cast-sum add-sum-2 (λ c. search needs)
-    (λ c. search needs) loop-again returns)
+    Inv-loop μ-loop (λ c. (omega arith, omega arith, omega arith, zero-none _ (omega arith))) (λ c. search needs) (λ c. search needs)
+    (λ c. search needs) (λ c. fits-widen tt (c .shared-slice-known .given _)) add-sum-2 (λ c. search needs) (λ c. search needs)
+    loop-again (λ c. zero-cleared (omega arith) (c .before .loop .inv .3)))

@@ -3,10 +3,11 @@ use mathlib.Core.Path.{refl}
 use Prim.Native.Nat.{_+_, _-_, _≤_}
 use native.Mathlib.Omega.{arith}
 use mir.Facts.{fits-widen}
+use borrow.Author.Count.{below-none}
 use borrow.Author.Needs.{needs}
 use Rattle.disc.proofs.DecideLaws.{holds, fails}
 use Rattle.marks.specs.Packed.{Filled}
-use Rattle.marks.proofs.WordTests.{filled-none, filled-more, filled-fails, filled-all}
+use Rattle.marks.proofs.WordTests.{filled-more, filled-fails, filled-all}
 use Rattle.marks.proofs.filled.Statement.{statement}
 use Rattle.marks.proofs.filled.Tie as tie
 
@@ -16,14 +17,8 @@ Inv-loop image marks n w₀ w = (w ≤ n) × Filled image marks w
 abbrev μ-loop : tie.MeasureT-loop
 μ-loop image marks n w₀ w = n - w
 
-loop-holds : tie.Need-loop-holds Inv-loop μ-loop
-loop-holds c = (omega arith, filled-none _ _)
-
-cast-if1 : tie.Need-cast-if1 Inv-loop μ-loop
-cast-if1 c = fits-widen tt (c .shared-slice-known2 .given _)
-
 add-if1-2 : tie.Need-add-if1-2 Inv-loop μ-loop
-add-if1-2 c = omega (arith, c .before .shared-slice-known2 .given (2304 + c .before .before .before .loop .w))
+add-if1-2 c = let l = c .before .before .before .loop in omega (arith, c .before .shared-slice-known2 .given (2304 + l .w))
 
 returns : tie.Need-returns Inv-loop μ-loop
 returns c =
@@ -36,12 +31,11 @@ loop-again c =
     let l = c .before .before .before .before in
     (omega arith, filled-more (l .loop .w) _ _ refl (c .before .packed .ensures .0) (c .if1 .left) (l .loop .inv .1))
 
-returns-2 : tie.Need-returns-2 Inv-loop μ-loop
-returns-2 c = holds (filled-all (c .before .loop .w) _ (omega arith) (c .before .loop .inv .1))
-
 pub filled-spec : {M : Type 1} → statement M
 filled-spec =
     tie.close
     (tie.spec
-    Inv-loop μ-loop loop-holds (λ c. search needs) (λ c. search needs) (λ c. search needs) cast-if1 (λ c. search needs)
-    (λ c κs. search needs) add-if1-2 returns (λ c. search needs) (λ c. search needs) loop-again returns-2)
+    Inv-loop μ-loop (λ c. (omega arith, record { each = below-none _ })) (λ c. search needs) (λ c. search needs) (λ c. search needs)
+    (λ c. fits-widen tt (c .shared-slice-known2 .given _)) (λ c. search needs) (λ c κs. search needs) add-if1-2 returns
+    (λ c. search needs) (λ c. search needs) loop-again
+    (λ c. holds (filled-all (c .before .loop .w) _ (omega arith) (c .before .loop .inv .1))))

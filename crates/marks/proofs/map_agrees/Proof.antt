@@ -11,50 +11,46 @@ use Rattle.marks.proofs.AgreeLaws.{agree-filled, agree-edge, agree-full
 use Rattle.marks.proofs.map_agrees.Statement.{statement}
 use Rattle.marks.proofs.map_agrees.Tie as tie
 
--- what the laws take: the words of the image, and the limit of the slices
-words : (c : tie.After-filled) → Words (c .before .before .before .args .image .now)
-words c = record { each = λ k. c .before .before .shared-slice-known .given k .fits }
+-- the function's entry, seen from the place where the filled words are compared
+abbrev entry : tie.After-filled → tie.Start
+entry c = c .before .before .before
 
-few : (c : tie.After-filled) → c .before .before .before .args .g .slices ≤ 4096
+-- what the laws take: the words of the image, and the limit of the slices
+words : (c : tie.After-filled) → Words (entry c .args .image .now)
+words c = let known = c .before .before in record { each = λ k. known .shared-slice-known .given k .fits }
+
+few : (c : tie.After-filled) → entry c .args .g .slices ≤ 4096
 few c = omega arith
 
 -- the sum of three numbers of which none is large
-edge : (c : tie.After-packed) → let a = c .before .before .before .before .before .before .before .before .before .args in
-    word (a .image .now) mapSector (a .g .slices / 16) + c .packed .result + 2 * c .before .before .bit-word .result ≤ 0x2000000
+edge : (c : tie.After-packed) → let bit-word = c .before .before in let a = bit-word .before .before .before .before .before .before .before .args in
+    word (a .image .now) mapSector (a .g .slices / 16) + c .packed .result + 2 * bit-word .bit-word .result ≤ 0x2000000
 edge c =
     let a = c .before .before .before .before .before .before .before .before .before .args in
     omega (arith, c .before .shared-slice-known2 .given (mapSector * 256 + a .g .slices / 16))
 
 returns : tie.Need-returns
 returns c =
-    let a = c .before .before .before .before .args in
+    let f = c .before in
+    let a = entry f .args in
     λ all is once. fails (λ sound.
-    refutes _ (c .before .filled .ensures) (c .if1 .taken)
-    (agree-filled (a .image .now) (a .marks .now) (a .g .slices) all (words (c .before)) (few (c .before)) is once sound))
+    refutes _ (f .filled .ensures) (c .if1 .taken)
+    (agree-filled (a .image .now) (a .marks .now) (a .g .slices) all (words f) (few f) is once sound))
 
 returns-2 : tie.Need-returns-2
 returns-2 c =
     let f = c .before .before in
-    let a = f .before .before .before .args in
+    let a = entry f .args in
     λ all is once. holds (
     agree-full (a .image .now) (a .marks .now) (a .g .slices) all (words f) (few f) is once (c .if2 .taken)
     (grants _ (f .filled .ensures) (c .before .if1 .left)))
-
-cast-if3 : tie.Need-cast-if3
-cast-if3 c = fits-widen tt (c .shared-slice-known2 .given _)
-
-add-if3-2 : tie.Need-add-if3-2
-add-if3-2 c = omega (arith, edge c)
-
-add-if3-3 : tie.Need-add-if3-3
-add-if3-3 c = omega (arith, edge c)
 
 returns-3 : tie.Need-returns-3
 returns-3 c =
     let bit-word = c .before .before .before in
     let e = bit-word .before .before in
     let f = e .before .before in
-    let a = f .before .before .before .args in
+    let a = entry f .args in
     λ all is once. fails (λ sound.
     c .if3 .taken
     (agree-edge (a .image .now) (a .marks .now) (a .g .slices) all (words f) (few f) is once
@@ -66,7 +62,7 @@ returns-4 c =
     let bit-word = packed .before .before in
     let e = bit-word .before .before in
     let f = e .before .before in
-    let a = f .before .before .before .args in
+    let a = entry f .args in
     λ all is once.
     agree-past (a .image .now) (a .marks .now) (a .g .slices) all (words f) (few f) is once
     _ _ _ refl (packed .packed .ensures .0) (bit-word .bit-word .ensures)
@@ -87,11 +83,11 @@ map-agrees-spec =
     (λ c. search needs)
     (λ c. search needs)
     (λ c. search needs)
-    cast-if3
+    (λ c. fits-widen tt (c .shared-slice-known2 .given _))
     (λ c. search needs)
     (λ c κs. search needs)
-    add-if3-2
-    add-if3-3
+    (λ c. omega (arith, edge c))
+    (λ c. omega (arith, edge c))
     returns-3
     (λ c. search needs)
     (λ c κs. search needs)

@@ -10,7 +10,7 @@ use Rattle.disc.proofs.DecideLaws.{refutes, grants}
 use Rattle.kit.proofs.KitLaws.{whole-product}
 use Rattle.marks.specs.Marked.{RunMarking}
 use Rattle.marks.proofs.PairLaws.{refuse-pair, some-count, past-unit, mark-pair}
-use Rattle.marks.proofs.RunLaws.{run-marking, run-from}
+use Rattle.marks.proofs.RunLaws.{run-marking}
 use Rattle.marks.proofs.mark_pair.Statement.{statement}
 use Rattle.marks.proofs.mark_pair.Tie as tie
 
@@ -27,10 +27,7 @@ from-is c = omega (arith, c .slice-of .ensures)
 
 run : (c : tie.After-mark-slices) → let a = entry (found c) .args in
     RunMarking (c .mark-slices .result) ((a .start .0 - a .g .first .0) / a .g .slice) (a .sectors / a .g .slice) (a .marks .now) (c .mark-slices .last .0)
-run c = run-from (from-is (found c)) (c .mark-slices .ensures)
-
-returns : tie.Need-returns
-returns c = refuse-pair _ _ _ (λ held marked whole once. omega (arith, whole .low))
+run c = rw (← from-is (found c)) (c .mark-slices .ensures)
 
 returns-2 : tie.Need-returns-2
 returns-2 c =
@@ -42,7 +39,10 @@ returns-2 c =
     refutes _ (c .before .starts-at .ensures) (c .if2 .taken) e)
 
 mul-if3 : tie.Need-mul-if3
-mul-if3 c = let a = entry (c .before .before .before) .args in omega (arith, div-mul-le-self (a .sectors) (a .g .slice))
+mul-if3 c =
+    let slice-of = c .before .before .before in
+    let a = entry slice-of .args in
+    omega (arith, div-mul-le-self (a .sectors) (a .g .slice))
 
 returns-3 : tie.Need-returns-3
 returns-3 c =
@@ -73,7 +73,8 @@ returns-6 c =
     let m = c .before in
     let s = entry (found m) in
     let k = found m in
-    let fits = m .before .before .before .if4 .left in
+    let else4 = m .before .before .before in
+    let fits = else4 .if4 .left in
     refuse-pair _ _ _ (λ held marked whole once.
     run-marking _ _ (omega (arith, from-is k, fits, s .pre .1, s .pre .0 .slicesHigh)) (run m) (s .args .g .slices) held (omega (arith, from-is k, fits)) marked .not (not-true _ (c .if6 .taken)) tt once)
 
@@ -96,7 +97,7 @@ pub mark-pair-spec : {M : Type 1} → statement M
 mark-pair-spec =
     tie.close
     (tie.spec
-    returns
+    (λ c. refuse-pair _ _ _ (λ held marked whole once. omega (arith, whole .low)))
     (λ c κs. search needs)
     (λ c κs. search needs)
     returns-2

@@ -45,11 +45,14 @@ guessed-count c file =
 abbrev counted : tie.Else5 → tie.After-slices-by
 counted c = c .before .before .before .before .before .before
 
+abbrev placed : tie.Else5 → tie.Else2
+placed c = counted c .before
+
 starts : (c : tie.Else5) → let a = entry (slice (counted c)) .args in a .q .0 ≡ sliceStart (a .g .first .0) (a .g .slice) (slice (counted c) .slice-by .result .0)
-starts c = grants _ (counted c .before .before .starts-at .ensures) (counted c .before .if2 .left)
+starts c = grants _ (placed c .before .starts-at .ensures) (placed c .if2 .left)
 
 whole : (c : tie.Else5) → let a = entry (slice (counted c)) .args in counted c .slices-by .result * a .g .slice ≡ a .sectors
-whole c = c .before .before .before .before .if3 .left
+whole c = let else3 = c .before .before .before .before in else3 .if3 .left
 
 inside : (c : tie.Else5) → let a = entry (slice (counted c)) .args in a .q .0 < a .g .sectors
 inside c =
@@ -58,9 +61,6 @@ inside c =
     let a = s .args in
     single-inside (a .image .now) (a .g) (a .q .0) (a .sectors) (s .pre .0) (slice n .slice-by .result .0) (n .slices-by .result) (omega (arith, slice n .slice-by .ensures .0 .0)) (starts c)
     (whole c) (omega arith) (c .if5 .left)
-
-returns : tie.Need-returns
-returns c = single-left _ _ _ _ (λ file. omega (arith, file .slices .low))
 
 slice-by-requires : tie.Need-slice-by-requires
 slice-by-requires c κs = let start = c .before .before .before .before .before in (c .if1 .left, few start)
@@ -76,7 +76,7 @@ returns-2 c =
     refutes _ (c .before .starts-at .ensures) (c .if2 .taken) e)
 
 slices-by-requires : tie.Need-slices-by-requires
-slices-by-requires c κs = few (entry (c .before .before))
+slices-by-requires c κs = let slice-by = c .before .before in few (entry slice-by)
 
 mul-if3 : tie.Need-mul-if3
 mul-if3 c =
@@ -107,12 +107,6 @@ returns-5 c =
     single-left _ _ _ _ (λ file.
     omega (arith, c .if5 .taken, guessed-count n file, guessed-slice (slice n) file, single-fits (a .image .now) (a .g) (a .q .0) (a .sectors) (s .pre .0) file))
 
-one-pair-requires : tie.Need-one-pair-requires
-one-pair-requires c κs = omega (arith, entry (slice (counted c)) .pre .0 .size, inside c)
-
-returns-6 : tie.Need-returns-6
-returns-6 c = single-left _ _ _ _ (λ file. refutes _ (c .before .one-pair .ensures) (c .if6 .taken) (file .pair))
-
 returns-7 : tie.Need-returns-7
 returns-7 c =
     let else6 = c .before .before in
@@ -128,7 +122,7 @@ pub mark-single-spec : {M : Type 1} → statement M
 mark-single-spec =
     tie.close
     (tie.spec
-    returns
+    (λ c. single-left _ _ _ _ (λ file. omega (arith, file .slices .low)))
     slice-by-requires
     (λ c κs. search needs)
     returns-2
@@ -143,8 +137,8 @@ mark-single-spec =
     (λ c. search needs)
     (λ c. search needs)
     returns-5
-    one-pair-requires
-    returns-6
+    (λ c κs. omega (arith, entry (slice (counted c)) .pre .0 .size, inside c))
+    (λ c. single-left _ _ _ _ (λ file. refutes _ (c .before .one-pair .ensures) (c .if6 .taken) (file .pair)))
     (λ c. search needs)
     (λ c κs. search needs)
     returns-7)

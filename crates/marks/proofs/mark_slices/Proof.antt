@@ -1,11 +1,10 @@
 -- `marks::mark_slices` meets its contract. Assumes nothing.
-use Rattle.marks.proofs.RunLaws.{run-at}
 use borrow.Author.Needs.{needs}
 use Rattle.marks.proofs.mark_slices.Statement.{statement}
 use Rattle.marks.proofs.mark_slices.Tie as tie
 
 returns : tie.Need-returns
-returns c = run-at (c .before .before .if1 .taken) (c .mark-one .ensures)
+returns c = let then1 = c .before .before in rw (then1 .if1 .taken) (c .mark-one .ensures)
 
 pub mark-slices-spec : {M : Type 1} → statement M
 mark-slices-spec =

@@ -14,9 +14,6 @@ returns c =
     let a = c .before .before .before .args in
     fails (λ pair. c .if1 .taken (ap (λ (i : ℕ). getD (a .image .now) i 0) (sym (add-zero (a .q .0 * 256))) ∙ pair .count))
 
-returns-2 : tie.Need-returns-2
-returns-2 c = fails (λ pair. c .if2 .taken (pair .length))
-
 returns-3 : tie.Need-returns-3
 returns-3 c =
     let else2 = c .before .before in
@@ -42,7 +39,7 @@ one-pair-spec =
     (λ c. search needs)
     (λ c. search needs)
     (λ c. search needs)
-    returns-2
+    (λ c. fails (λ pair. c .if2 .taken (pair .length)))
     (λ c. search needs)
     (λ c. search needs)
     (λ c. search needs)

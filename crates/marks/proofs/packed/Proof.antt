@@ -15,9 +15,6 @@ Inv-loop marks at word₀ i₀ word i = (i ≤ 16) × (word ≡ packed (λ k. ge
 abbrev μ-loop : tie.MeasureT-loop
 μ-loop marks at word₀ i₀ word i = 16 - i
 
-loop-holds : tie.Need-loop-holds Inv-loop μ-loop
-loop-holds c = (omega arith, sym (packed-none _ _), omega arith)
-
 mul-word : tie.Need-mul-word Inv-loop μ-loop
 mul-word c = omega (arith, packed-room (c .before .loop .word) 0 (c .before .loop .i) (omega arith) (c .before .loop .inv .2) (omega arith))
 
@@ -44,5 +41,5 @@ pub packed-spec : {M : Type 1} → statement M
 packed-spec =
     tie.close
     (tie.spec
-    Inv-loop μ-loop loop-holds mul-word (λ c. search needs) (λ c. search needs) (λ c κs. search needs) add-word (λ c. search needs)
-    (λ c. search needs) loop-again returns)
+    Inv-loop μ-loop (λ c. (omega arith, sym (packed-none _ _), omega arith)) mul-word (λ c. search needs) (λ c. search needs)
+    (λ c κs. search needs) add-word (λ c. search needs) (λ c. search needs) loop-again returns)

@@ -14,16 +14,16 @@ Inv-loop marks₀ from count n₀ marks n = (n ≤ count) × (marks ≡ runMarks
 abbrev μ-loop : tie.MeasureT-loop
 μ-loop marks₀ from count n₀ marks n = count - n
 
-loop-holds : tie.Need-loop-holds Inv-loop μ-loop
-loop-holds c = (omega arith, run-none _ _)
-
-loop-again : tie.Need-loop-again Inv-loop μ-loop
-loop-again c = let l = c .before .loop in (omega arith, run-more _ _ (l .n) (l .inv .1))
-
 returns : tie.Need-returns Inv-loop μ-loop
-returns c = let l = c .before .loop in l .inv .1 ∙ ap (runMarks _ _) (let e : l .n ≡ c .before .before .args .count = omega arith in e)
+returns c =
+    let at = c .before in
+    let l = at .loop in
+    let e : l .n ≡ at .before .args .count = omega arith in
+    l .inv .1 ∙ ap (runMarks _ _) e
 
 pub set-run-spec : {M : Type 1} → statement M
 set-run-spec =
     tie.close
-    (tie.spec Inv-loop μ-loop loop-holds (λ c. search needs) (λ c. search needs) (λ c. search needs) (λ c. search needs) loop-again returns)
+    (tie.spec
+    Inv-loop μ-loop (λ c. (omega arith, run-none _ _)) (λ c. search needs) (λ c. search needs) (λ c. search needs) (λ c. search needs)
+    (λ c. let l = c .before .loop in (omega arith, run-more _ _ (l .n) (l .inv .1))) returns)

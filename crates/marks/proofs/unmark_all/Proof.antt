@@ -4,8 +4,5 @@ use Rattle.marks.proofs.MarkLaws.{mark-none}
 use Rattle.marks.proofs.unmark_all.Statement.{statement}
 use Rattle.marks.proofs.unmark_all.Tie as tie
 
-returns : tie.Need-returns
-returns c = mark-none 0 4096 refl .is
-
 pub unmark-all-spec : {M : Type 1} → statement M
-unmark-all-spec = tie.close (tie.spec returns)
+unmark-all-spec = tie.close (tie.spec (λ c. mark-none 0 4096 refl .is))

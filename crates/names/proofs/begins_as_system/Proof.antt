@@ -8,14 +8,17 @@ use Rattle.names.proofs.begins_as_system.Tie as tie
 
 returns : tie.Need-returns
 returns c =
-    let w = c .before .before .args .name .0 in
+    let a = c .before .before .args in
+    let w = a .name .0 in
     let e : eqb w 0x5359 ≡ eqb w 0x5359 || eqb w 0x4D41 = rw (eq-eqb w 0x5359 (c .if1 .taken)) in
     e
 
 returns-2 : tie.Need-returns-2
 returns-2 c =
-    let w = c .before .before .before .args .name .0 in
-    let e : eqb w 0x4D41 ≡ eqb w 0x5359 || eqb w 0x4D41 = rw (ne-eqb w 0x5359 (c .before .if1 .left)) in
+    let else1 = c .before in
+    let a = else1 .before .before .args in
+    let w = a .name .0 in
+    let e : eqb w 0x4D41 ≡ eqb w 0x5359 || eqb w 0x4D41 = rw (ne-eqb w 0x5359 (else1 .if1 .left)) in
     e
 
 pub begins-as-system-spec : {M : Type 1} → statement M

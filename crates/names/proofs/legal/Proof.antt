@@ -9,44 +9,57 @@ use Rattle.names.proofs.LegalLaws.{rest1, rest2, rest3, rest4, begins, 
 use Rattle.names.proofs.legal.Statement.{statement}
 use Rattle.names.proofs.legal.Tie as tie
 
+-- where a test has passed: the place before it, where the name was packed or the test before has passed
+abbrev read : tie.Else1 → tie.After-packed
+read c = c .before .before
+
+abbrev first : tie.Else2 → tie.Else1
+first c = c .before .before
+
+abbrev second : tie.Else3 → tie.Else2
+second c = c .before .before
+
+abbrev third : tie.Else4 → tie.Else3
+third c = c .before .before
+
 -- the name's number, and what is to be decided, where a test has passed
 abbrev number1 : tie.Else1 → ℕ
-number1 c = c .before .before .packed .result
+number1 c = read c .packed .result
 
 abbrev whole1 : tie.Else1 → Bool
-whole1 c = let name = c .before .before .before .args .name in legalName (packed name)
+whole1 c = legalName (packed (read c .before .args .name))
 
 abbrev number2 : tie.Else2 → ℕ
-number2 c = number1 (c .before .before)
+number2 c = number1 (first c)
 
 abbrev whole2 : tie.Else2 → Bool
-whole2 c = whole1 (c .before .before)
+whole2 c = whole1 (first c)
 
 abbrev number3 : tie.Else3 → ℕ
-number3 c = number2 (c .before .before)
+number3 c = number2 (second c)
 
 abbrev whole3 : tie.Else3 → Bool
-whole3 c = whole2 (c .before .before)
+whole3 c = whole2 (second c)
 
 abbrev number4 : tie.Else4 → ℕ
-number4 c = number3 (c .before .before)
+number4 c = number3 (third c)
 
 abbrev whole4 : tie.Else4 → Bool
-whole4 c = whole3 (c .before .before)
+whole4 c = whole3 (third c)
 
 -- what decides there
 left1 : (c : tie.Else1) → whole1 c ≡ rest1 (number1 c)
 left1 c =
-    ap legalName (sym (c .before .before .packed .ensures)) ∙ begins (number1 c) (was-true (c .before .is-letter .ensures) (c .if1 .left))
+    ap legalName (sym (read c .packed .ensures)) ∙ begins (number1 c) (was-true (c .before .is-letter .ensures) (c .if1 .left))
 
 left2 : (c : tie.Else2) → whole2 c ≡ rest2 (number2 c)
-left2 c = left1 (c .before .before) ∙ goes-1 (number2 c) (was-true (c .before .is-letter-or-digit .ensures) (c .if2 .left))
+left2 c = left1 (first c) ∙ goes-1 (number2 c) (was-true (c .before .is-letter-or-digit .ensures) (c .if2 .left))
 
 left3 : (c : tie.Else3) → whole3 c ≡ rest3 (number3 c)
-left3 c = left2 (c .before .before) ∙ goes-2 (number3 c) (was-true (c .before .is-letter-or-digit2 .ensures) (c .if3 .left))
+left3 c = left2 (second c) ∙ goes-2 (number3 c) (was-true (c .before .is-letter-or-digit2 .ensures) (c .if3 .left))
 
 left4 : (c : tie.Else4) → whole4 c ≡ rest4 (number4 c)
-left4 c = left3 (c .before .before) ∙ goes-3 (number4 c) (was-true (c .before .is-letter-or-digit3 .ensures) (c .if4 .left))
+left4 c = left3 (third c) ∙ goes-3 (number4 c) (was-true (c .before .is-letter-or-digit3 .ensures) (c .if4 .left))
 
 returns : tie.Need-returns
 returns c =

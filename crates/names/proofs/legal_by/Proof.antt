@@ -36,13 +36,15 @@ read c =
 
 returns : tie.Need-returns
 returns c =
-    let a = c .before .before .args .name in
+    let start = c .before .before in
+    let a = start .args .name in
     sym (not-letter (a .0) (a .1) (a .2) (omega arith) (omega arith) (letter-low (a .0 / 256) (c .if1 .taken)))
 
 returns-2 : tie.Need-returns-2
 returns-2 c =
     let test = c .before .before .before .before .before .before .before .before .before .before in
-    let a = test .before .before .args .name in
+    let start = test .before .before in
+    let a = start .args .name in
     sym (not-letter (a .0) (a .1) (a .2) (omega arith) (omega arith)
     (letter-two (a .0 / 256) (test .if1 .left) (omega (arith, initial (c .before), c .if2 .taken))))
 
@@ -50,7 +52,7 @@ returns-3 : tie.Need-returns-3
 returns-3 c = sym (falls-1 (read (c .before)) (c .if3 .taken))
 
 returns-4 : tie.Need-returns-4
-returns-4 c = sym (falls-2 (read (c .before .before)) (c .before .if3 .left) (c .if4 .taken))
+returns-4 c = let else2 = c .before .before in sym (falls-2 (read else2) (c .before .if3 .left) (c .if4 .taken))
 
 returns-5 : tie.Need-returns-5
 returns-5 c =

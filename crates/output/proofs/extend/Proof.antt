@@ -5,7 +5,7 @@ use Rattle.output.proofs.extend.Statement.{statement}
 use Rattle.output.proofs.extend.Tie as tie
 
 take-more-requires : tie.Need-take-more-requires
-take-more-requires c κs = can-lengthen (c .before .before .pre .can)
+take-more-requires c κs = let pre = c .before .before .pre in can-lengthen (pre .can)
 
 count-free-requires : tie.Need-count-free-requires
 count-free-requires c κs =

@@ -6,11 +6,11 @@ use Rattle.output.proofs.output.Statement.{statement}
 use Rattle.output.proofs.output.Tie as tie
 
 -- the lent words are words
-words : (c : tie.After-shared-slice-known) → Words (c .before .before .args .lent .now)
+words : (c : tie.After-shared-slice-known) → let a = c .before .before .args in Words (a .lent .now)
 words c = record { each = λ k. c .shared-slice-known .given k .fits }
 
 prepare-requires : tie.Need-prepare-requires
-prepare-requires c κs = c .before .before .before .pre .0
+prepare-requires c κs = let start = c .before .before .before in start .pre .0
 
 returns : tie.Need-returns
 returns c =

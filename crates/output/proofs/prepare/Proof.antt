@@ -11,7 +11,7 @@ use Rattle.output.proofs.prepare.Statement.{statement}
 use Rattle.output.proofs.prepare.Tie as tie
 
 -- the file is extendable
-extends : (c : tie.Else2) → extendable (c .before .before .attributes-of .result) ≡ true
+extends : (c : tie.Else2) → let attributes = c .before .before in extendable (attributes .attributes-of .result) ≡ true
 extends c = sym (c .before .bit .ensures) ∙ not-false _ (c .if2 .left)
 
 area-at-requires : tie.Need-area-at-requires

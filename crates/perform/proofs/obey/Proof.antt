@@ -7,7 +7,7 @@ use Rattle.perform.proofs.obey.Statement.{statement}
 use Rattle.perform.proofs.obey.Tie as tie
 
 -- the lent words are words
-words : (c : tie.After-slice-known2) → Words (c .before .before .args .lent .now)
+words : (c : tie.After-slice-known2) → let a = c .before .before .args in Words (a .lent .now)
 words c = record { each = λ k. c .slice-known2 .given k .fits }
 
 set-requires : tie.Need-set-requires
@@ -90,10 +90,9 @@ returns-3 : tie.Need-returns-3
 returns-3 c =
     let create = c .before .before .before in
     let message2 = create .before .before .before in
-    let slice-known2 = message2 .before .before in
-    let start = slice-known2 .before .before in
+    let start = message2 .before .before .before .before in
     answer-obeys (message2 .message2 .given .1) (start .pre .known) (c .word-alone3 .ensures)
-    (λ k p g r n. create-obeyed g r (words slice-known2) n k (create .create .ensures))
+    (λ k p g r n. create-obeyed g r n k (create .create .ensures))
 
 returns-4 : tie.Need-returns-4
 returns-4 c =

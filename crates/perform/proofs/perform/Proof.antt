@@ -13,7 +13,7 @@ use Rattle.perform.proofs.perform.Tie as tie
 
 returns : tie.Need-returns
 returns c =
-    unknown (refutes _ (c .before .before .before .known .ensures) (c .before .before .if1 .taken)) (record {
+    unknown (let then1 = c .before .before in refutes _ (then1 .before .known .ensures) (then1 .if1 .taken)) (record {
       answered = c .word-alone .ensures .0 ∙ ap (λ (n : ℕ). answer n 0 0 0) (c .before .unknown-word .ensures);
       sameImage = refl;
       sameState = c .word-alone .ensures .1;

@@ -1,6 +1,7 @@
 -- `remove::drop_file` meets its contract. Assumes nothing.
 use borrow.Author.Needs.{needs}
-use Rattle.remove.proofs.DropLaws.{drop-room, slices-fit, can-give-all, can-count, dropped}
+use Rattle.lookup.proofs.FileLaws.{closed-fits}
+use Rattle.remove.proofs.DropLaws.{drop-room, can-give-all, can-count, dropped}
 use Rattle.remove.proofs.drop_file.Statement.{statement}
 use Rattle.remove.proofs.drop_file.Tie as tie
 
@@ -8,7 +9,7 @@ slice-total-requires : tie.Need-slice-total-requires
 slice-total-requires c κs =
     let read = c .before .before in
     let start = read .before .before .before in
-    slices-fit (start .pre .can) (read .entry-word .ensures) (c .file-block .ensures .1)
+    closed-fits (start .pre .can) (read .entry-word .ensures) (c .file-block .ensures .1)
 
 clear-place-requires : tie.Need-clear-place-requires
 clear-place-requires c κs = let start = c .before .before .before .before .before .before .before in drop-room (start .pre .can)

@@ -21,10 +21,10 @@ returns c =
     rw (slot-none (a .image .now) (a .q .0) (a .slot) (c .if1 .taken)) (noted-none _ _)
 
 slice-write-lent : tie.Need-slice-write-lent
-slice-write-lent c = omega (arith, room (c .before .before))
+slice-write-lent c = let else1 = c .before .before in omega (arith, room else1)
 
 slice-write-lent-2 : tie.Need-slice-write-lent-2
-slice-write-lent-2 c = simp length-set (omega (arith, room (c .before .before .before)))
+slice-write-lent-2 c = let else1 = c .before .before .before in simp length-set (omega (arith, room else1))
 
 mul-lent-6 : tie.Need-mul-lent-6
 mul-lent-6 c =

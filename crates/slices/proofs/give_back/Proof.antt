@@ -9,7 +9,7 @@ use Rattle.slices.proofs.give_back.Statement.{statement}
 use Rattle.slices.proofs.give_back.Tie as tie
 
 returns : tie.Need-returns
-returns c = record { all = λ m slices can. gave-none can (c .before .before .args .keep) _ (c .if1 .taken) }
+returns c = let a = c .before .before .args in record { all = λ m slices can. gave-none can (a .keep) _ (c .if1 .taken) }
 
 free-slices-requires : tie.Need-free-slices-requires
 free-slices-requires c κs = let start = c .before .before .before in can-free (start .pre)

@@ -9,11 +9,12 @@ use Rattle.slices.proofs.next_slice.Statement.{statement}
 use Rattle.slices.proofs.next_slice.Tie as tie
 
 last-slice-at-requires : tie.Need-last-slice-at-requires
-last-slice-at-requires c κs = c .before .before .pre .can .own .size
+last-slice-at-requires c κs = let pre = c .before .before .pre in pre .can .own .size
 
 choose-slice-requires : tie.Need-choose-slice-requires
 choose-slice-requires c κs =
-    let can = c .before .before .before .pre .can in
+    let pre = c .before .before .before .pre in
+    let can = pre .can in
     (can .own .most, can .long)
 
 returns : tie.Need-returns

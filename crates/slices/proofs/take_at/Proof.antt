@@ -6,7 +6,7 @@ use Rattle.slices.proofs.take_at.Statement.{statement}
 use Rattle.slices.proofs.take_at.Tie as tie
 
 returns : tie.Need-returns
-returns c = record { all = λ held slices can. took-none can (c .before .before .args .q .0) (c .if1 .taken) }
+returns c = let a = c .before .before .args in record { all = λ held slices can. took-none can (a .q .0) (c .if1 .taken) }
 
 take-slices-requires : tie.Need-take-slices-requires
 take-slices-requires c κs = let start = c .before .before .before .before .before in can-take-more (start .pre .1 .can)
@@ -15,7 +15,8 @@ returns-2 : tie.Need-returns-2
 returns-2 c =
     let stored = c .before .before in
     let took = stored .before .before .before .before .before in
-    let q = took .before .before .before .before .before .before .args .q .0 in
+    let a = took .before .before .before .before .before .before .args in
+    let q = a .q .0 in
     record {
       all = λ held slices can. (
         took-some can (took .take-slices .ensures) (omega arith) q (stored .store-block .ensures),

@@ -29,22 +29,29 @@ returns c = record {
       };
 }
 
+-- the function's entry, seen from the place where the slice is told
+abbrev began : tie.After-known-told → tie.Start
+began told = told .before .before .before .before .before .before .before .before
+
 -- the slice in hand is the next
-is-next : {held slices : List ℕ} (c : tie.After-known-told) → let a = c .before .before .before .before .before .before .before .before .args in
+is-next : {held slices : List ℕ} (c : tie.After-known-told) → let a = began c .args in
     CanTakeFrom (a .image .now) (a .words .now) (a .first .0) (a .s) (a .slices) 1 held slices → At (c .before .k .given .0 .0) ≡ nextOf (a .slices) held slices
-is-next {held} {slices} c can = sym (c .before .k .given .1) ∙ c .before .before .before .next-slice .ensures .all held slices (can-fewer can (omega arith)) .next
+is-next {held} {slices} c can =
+    let next-slice = c .before .before .before in
+    sym (c .before .k .given .1) ∙ next-slice .next-slice .ensures .all held slices (can-fewer can (omega arith)) .next
 
 mark-used-requires : tie.Need-mark-used-requires
 mark-used-requires c κs =
-    let can = c .before .before .before .before .before .before .before .before .before .pre .can in
-    let e = one-at {n = 0} can (is-next (c .before) can) in
+    let told = c .before in
+    let can = began told .pre .can in
+    let e = one-at {n = 0} can (is-next told can) in
     let i = next-inside {n = 0} can in
     (omega (arith, e .0, i .0), omega (arith, e .0, i .1, can .own .most), can .long)
 
 append-slice-requires : tie.Need-append-slice-requires
 append-slice-requires c κs =
     let told = c .before .before .before .before .before in
-    let can = told .before .before .before .before .before .before .before .before .pre .can in
+    let can = began told .pre .can in
     let e = one-at {n = 0} can (is-next told can) in
     (omega (arith, block-length (can .own)), rw (e .0) (ready {n = 0} can (e .1)))
 

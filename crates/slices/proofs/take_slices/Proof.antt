@@ -32,7 +32,8 @@ turn : (c : tie.In-loop Inv-loop μ-loop) → let a = c .before .before .before 
     (held own : List ℕ) → CanTakeFrom (a .image .now) (a .words .now) (a .first .0) (a .s) (a .slices) (a .n) held own
     → Left (a .image .now) (l .image) (l .words) (a .first .0) (a .s) (a .slices) (a .n) (suc (a .n - (l .j + 1))) held own
 turn c held own can =
-    let n : ℕ = c .before .before .before .before .args .n in
+    let a = c .before .before .before .before .args in
+    let n : ℕ = a .n in
     let j : ℕ = c .before .loop .j in
     let e : n - j ≡ suc (n - (j + 1)) = omega arith in
     rw e at (c .before .loop .inv .4 held own can)
@@ -66,7 +67,8 @@ loop-again c =
 
 returns-2 : tie.Need-returns-2 Inv-loop μ-loop
 returns-2 c =
-    let n : ℕ = c .before .before .before .before .args .n in
+    let a = c .before .before .before .before .args in
+    let n : ℕ = a .n in
     let j : ℕ = c .before .loop .j in
     let e : n - j ≡ 0 = omega arith in
     record { all = λ held own can. left-done (rw e at (c .before .loop .inv .4 held own can)) }

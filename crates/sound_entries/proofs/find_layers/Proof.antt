@@ -15,7 +15,8 @@ use Rattle.sound_entries.proofs.find_layers.Tie as tie
 full : (c : tie.After-sys) → let a = c .before .before .before .args in c .sys .result ≡ fullSys (a .image .now) (a .g)
 full c =
     let sectors = c .before in
-    let keys = sectors .before .before .args .g .keys in
+    let a = sectors .before .before .args in
+    let keys = a .g .keys in
     c .sys .ensures ∙ ap (λ (n : ℕ). sysValue keys (n / keys)) (sectors .sys-sectors .ensures)
 
 find-requires : tie.Need-find-requires
@@ -49,7 +50,8 @@ returns-2 c =
 mul-if2 : tie.Need-mul-if2
 mul-if2 c =
     let word = c .before .before .before .before in
-    let s = word .before .before .before .before .before .before .before .before .before .args .g .slice in
+    let a = word .before .before .before .before .before .before .before .before .before .args in
+    let s = a .g .slice in
     omega (arith, ap (λ (x : ℕ). x * s) (c .before .ceil-div .ensures), div-mul-le-self (word .entry-word .result + (s - 1)) s)
 
 returns-3 : tie.Need-returns-3

@@ -24,26 +24,20 @@ module _ (sum inverse keys : ℕ) (low : sum < 65536) (some : inverse < 42949672
   guessed : sum * inverse / 2147483648 * keys ≤ 131070 * 65535
   guessed = let l : sum * inverse / 2147483648 ≤ 131070 = omega (arith, product) in let m : keys ≤ 65535 = omega arith in mul-le-mul l m
 
-small : (c : tie.After-struct-known) → let a = c .before .before .before .args .expected in let sum = c .before .wrapping-add-u162 .result in
+small : (c : tie.After-struct-known) → let start = c .before .before .before in let a = start .args .expected in
+    let sum = c .before .wrapping-add-u162 .result in
     (sum * a .inverse ≤ 65535 * 4294967295) × (sum * a .inverse / 2147483648 * a .catalog .keys ≤ 131070 * 65535)
 small c =
-    let a = c .before .before .before .args .expected in
+    let start = c .before .before .before in
+    let a = start .args .expected in
     let sum = c .before .wrapping-add-u162 .result in
     (product sum (a .inverse) (a .catalog .keys) (omega arith) (omega arith) (omega arith), guessed sum (a .inverse) (a .catalog .keys) (omega arith) (omega arith) (omega arith))
 
-mul-quotient : tie.Need-mul-quotient
-mul-quotient c = record { fits = omega (arith, small c .0) }
-
-mul-if1 : tie.Need-mul-if1
-mul-if1 c = record { fits = omega (arith, small c .1) }
-
-add-if1 : tie.Need-add-if1
-add-if1 c = record { fits = omega (arith, small c .1) }
-
 returns : tie.Need-returns
 returns c =
-    let a = c .before .before .before .before .args in
-    let sum = c .before .before .wrapping-add-u162 .result in
+    let added = c .before .before in
+    let a = added .before .before .args in
+    let sum = added .wrapping-add-u162 .result in
     holds (sym (key-is (a .name .0) (a .name .1) (a .name .2) (a .expected .catalog .keys) (sum * a .expected .inverse / 2147483648) (omega arith) (omega arith) {sum = sum} (omega arith) (c .if1 .taken) (omega arith)))
 
 returns-2 : tie.Need-returns-2
@@ -59,12 +53,12 @@ has-key-spec =
     (λ c κs. search needs)
     (λ c. search needs)
     (λ c. search needs)
-    mul-quotient
+    (λ c. record { fits = omega (arith, small c .0) })
     (λ c. search needs)
     (λ c. search needs)
     (λ c. search needs)
-    mul-if1
-    add-if1
+    (λ c. record { fits = omega (arith, small c .1) })
+    (λ c. record { fits = omega (arith, small c .1) })
     (λ c. search needs)
     returns
     (λ c κs. search needs)

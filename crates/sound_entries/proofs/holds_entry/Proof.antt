@@ -15,22 +15,19 @@ Inv-loop image i entry at from w₀ w = (w ≤ 16) × ((k : ℕ) → k < w → g
 abbrev μ-loop : tie.MeasureT-loop
 μ-loop image i entry at from w₀ w = 16 - w
 
-loop-holds : tie.Need-loop-holds Inv-loop μ-loop
-loop-holds c = (omega arith, λ k h. absurd (omega arith))
-
 returns : tie.Need-returns Inv-loop μ-loop
-returns c = fails (λ h. c .if1 .taken (h .at (c .before .before .before .before .loop .w) (c .before .before .before .loop-test .taken)))
+returns c =
+    let turn = c .before .before .before in
+    let l = turn .before .loop in
+    fails (λ h. c .if1 .taken (h .at (l .w) (turn .loop-test .taken)))
 
 loop-again : tie.Need-loop-again Inv-loop μ-loop
 loop-again c = let at = c .before .before .before .before in (omega arith, below-more _ _ (at .loop .inv .1) (c .if1 .left))
-
-returns-2 : tie.Need-returns-2 Inv-loop μ-loop
-returns-2 c = holds (record { at = λ w h. c .before .loop .inv .1 w (omega arith) })
 
 pub holds-entry-spec : {M : Type 1} → statement M
 holds-entry-spec =
     tie.close
     (tie.spec
-    Inv-loop μ-loop (λ c. search needs) (λ c. search needs) (λ c. search needs) loop-holds (λ c. search needs) (λ c. search needs)
-    (λ c. search needs) (λ c. search needs) (λ c. search needs) (λ c. search needs) returns (λ c. search needs) (λ c. search needs)
-    loop-again returns-2)
+    Inv-loop μ-loop (λ c. search needs) (λ c. search needs) (λ c. search needs) (λ c. (omega arith, λ k h. absurd (omega arith)))
+    (λ c. search needs) (λ c. search needs) (λ c. search needs) (λ c. search needs) (λ c. search needs) (λ c. search needs) returns
+    (λ c. search needs) (λ c. search needs) loop-again (λ c. holds (record { at = λ w h. c .before .loop .inv .1 w (omega arith) })))

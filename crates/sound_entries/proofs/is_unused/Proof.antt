@@ -21,9 +21,6 @@ Inv-loop image i at from bits₀ w₀ bits w =
 abbrev μ-loop : tie.MeasureT-loop
 μ-loop image i at from bits₀ w₀ bits w = 16 - w
 
-loop-holds : tie.Need-loop-holds Inv-loop μ-loop
-loop-holds c = (omega arith, λ e k h. absurd (omega arith), λ f. refl)
-
 loop-again : tie.Need-loop-again Inv-loop μ-loop
 loop-again c =
     let at = c .before .before in
@@ -43,5 +40,6 @@ pub is-unused-spec : {M : Type 1} → statement M
 is-unused-spec =
     tie.close
     (tie.spec
-    Inv-loop μ-loop (λ c. search needs) (λ c. search needs) (λ c. search needs) loop-holds (λ c. search needs) (λ c. search needs)
-    (λ c. search needs) (λ c. search needs) (λ c. search needs) (λ c. search needs) loop-again returns)
+    Inv-loop μ-loop (λ c. search needs) (λ c. search needs) (λ c. search needs)
+    (λ c. (omega arith, λ e k h. absurd (omega arith), λ f. refl)) (λ c. search needs) (λ c. search needs) (λ c. search needs)
+    (λ c. search needs) (λ c. search needs) (λ c. search needs) loop-again returns)

@@ -24,7 +24,8 @@ returns-3 c =
     let second = c .before in
     let else1 = second .before .before in
     let first = else1 .before in
-    let n = first .before .before .before .pre .2 in
+    let pre = first .before .before .before .pre in
+    let n = pre .2 in
     holds (ordinary
     (other-name n (first .same-name .ensures) (first .before .sys-name .ensures) (else1 .if1 .left))
     (other-name n (second .same-name2 .ensures) (second .before .map-name .ensures) (c .if2 .left)))

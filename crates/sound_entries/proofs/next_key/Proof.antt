@@ -10,8 +10,5 @@ use Rattle.sound_entries.proofs.next_key.Tie as tie
 returns : tie.Need-returns
 returns c = sym (ap (λ (n : ℕ). n % c .before .args .keys) (c .if1 .taken) ∙ mod-self (c .before .args .keys))
 
-returns-2 : tie.Need-returns-2
-returns-2 c = sym (mod-eq-of-lt (omega arith))
-
 pub next-key-spec : {M : Type 1} → statement M
-next-key-spec = tie.close (tie.spec (λ c. search needs) returns (λ c. search needs) returns-2)
+next-key-spec = tie.close (tie.spec (λ c. search needs) returns (λ c. search needs) (λ c. sym (mod-eq-of-lt (omega arith))))

@@ -19,10 +19,10 @@ total c =
     ∙ read-sectors (a .image .now) (a .g .first .0) (a .g .slice) 6 (sysSlices (a .image .now) (a .g)) (sys-few (start .pre .0)) (start .pre .0 .index .pairs)
 
 cast-result : tie.Need-cast-result
-cast-result c = let sys = c .before .before .pre .0 in omega (arith, total c, sys-small sys, sys .unit .limits .sectors)
-
-returns : tie.Need-returns
-returns c = total c
+cast-result c =
+    let pre = c .before .before .pre in
+    let sys = pre .0 in
+    omega (arith, total c, sys-small sys, sys .unit .limits .sectors)
 
 pub sys-sectors-spec : {M : Type 1} → statement M
-sys-sectors-spec = tie.close (tie.spec (λ c κs. search needs) cast-result returns)
+sys-sectors-spec = tie.close (tie.spec (λ c κs. search needs) cast-result (λ c. total c))

@@ -15,7 +15,7 @@ all : (c : tie.Start) → 16 * c .args .expected .size ≡ placeCount (c .args .
 all c = ap (λ (n : ℕ). 16 * n) (c .pre .0 .whole)
 
 find-requires : tie.Need-find-requires
-find-requires c κs = some-key (c .before .before .before .pre .0 .catalog)
+find-requires c κs = let pre = c .before .before .before .pre in some-key (pre .0 .catalog)
 
 returns : tie.Need-returns
 returns c =

@@ -1,11 +1,11 @@
 -- `sound_files::booked_legal` meets its contract: the booked slices are the reserved sectors by the sectors of a slice. Assumes nothing.
-use mathlib.Core.Path.{_≡_, sym, ap, _∙_}
+use mathlib.Core.Path.{ap}
 use Prim.Native.Nat.{ℕ, _/_}
 use native.Mathlib.Nat.{div-mul-le-self}
 use native.Mathlib.Omega.{arith}
-use Rattle.disc.proofs.DecideLaws.{fails, refutes, grants, decides-eq}
+use Rattle.disc.proofs.DecideLaws.{fails, refutes, grants}
 use Rattle.sound.specs.Places.{indexIf}
-use Rattle.sound_files.proofs.FileLaws.{index-some, booked-own, booked-whole, booked-covered, booked-index, booked-is}
+use Rattle.sound_files.proofs.FileLaws.{index-some, booked-own, booked-whole, booked-covered, booked-decided}
 use borrow.Author.Needs.{needs}
 use Rattle.sound_files.proofs.booked_legal.Statement.{statement}
 use Rattle.sound_files.proofs.booked_legal.Tie as tie
@@ -21,9 +21,6 @@ returns-2 c =
     let start = c .before .before .before .before .before .before in
     fails (λ b. omega (arith, booked-own (start .pre) b, b .slicesLow))
 
-returns-3 : tie.Need-returns-3
-returns-3 c = fails (λ b. omega (arith, b .lengthLow))
-
 returns-4 : tie.Need-returns-4
 returns-4 c =
     let start = c .before .before .before .before .before .before .before .before .before .before .before in
@@ -37,10 +34,8 @@ returns-5 c =
     let else1 = e .before .before .before in
     let start = else1 .before .before .before .before .before in
     let a = start .args in
-    let z : indexIf (a .entry .reserved / a .s) (a .live .index .0) ≡ 0 = ap (λ (n : ℕ). indexIf n (a .live .index .0)) (c .before .if5 .taken) in
-    decides-eq (a .entry .index .0) 0
-    (λ i. booked-is (start .pre) (else1 .if1 .left) (omega arith) (omega arith) (grants _ (d .covered .ensures) (else4 .if4 .left)) (i ∙ sym z))
-    (λ b. booked-index (start .pre) b ∙ z)
+    booked-decided (start .pre) (else1 .if1 .left) (omega arith) (omega arith) (grants _ (d .covered .ensures) (else4 .if4 .left))
+    0 (ap (λ (n : ℕ). indexIf n (a .live .index .0)) (c .before .if5 .taken))
 
 returns-6 : tie.Need-returns-6
 returns-6 c =
@@ -50,10 +45,8 @@ returns-6 c =
     let else1 = e .before .before .before in
     let start = else1 .before .before .before .before .before in
     let a = start .args in
-    let z : indexIf (a .entry .reserved / a .s) (a .live .index .0) ≡ a .live .index .0 = index-some (a .entry .reserved / a .s) (a .live .index .0) (else5 .if5 .left) in
-    decides-eq (a .entry .index .0) (a .live .index .0)
-    (λ i. booked-is (start .pre) (else1 .if1 .left) (omega arith) (omega arith) (grants _ (d .covered .ensures) (else5 .before .if4 .left)) (i ∙ sym z))
-    (λ b. booked-index (start .pre) b ∙ z)
+    booked-decided (start .pre) (else1 .if1 .left) (omega arith) (omega arith) (grants _ (d .covered .ensures) (else5 .before .if4 .left))
+    (a .live .index .0) (index-some (a .entry .reserved / a .s) (a .live .index .0) (else5 .if5 .left))
 
 pub booked-legal-spec : {M : Type 1} → statement M
 booked-legal-spec =
@@ -63,7 +56,7 @@ booked-legal-spec =
     mul-if1
     returns
     returns-2
-    returns-3
+    (λ c. fails (λ b. omega (arith, b .lengthLow)))
     (λ c κs. search needs)
     returns-4
     returns-5

@@ -4,7 +4,7 @@ use borrow.Author.Tests.{not-true, not-false}
 use Rattle.sound_files.specs.declared.Entry.{Entry}
 use Rattle.sound_files.specs.Live.{indexBy}
 use Rattle.sound_files.specs.Rules.{entryAt}
-use Rattle.sound_files.proofs.FileLaws.{numbers-moved, file-refused, file-judged}
+use Rattle.sound_files.proofs.FileLaws.{file-refused, file-judged}
 use borrow.Author.Needs.{needs}
 use Rattle.sound_files.proofs.file_sound.Statement.{statement}
 use Rattle.sound_files.proofs.file_sound.Tie as tie
@@ -26,7 +26,7 @@ returns-2 c =
     let a = entry .before .before .args in
     file-judged (entryAt (a .image .now) (a .at)) (a .live) (index .live-index .ensures ∙ ap (λ (e : Entry). indexBy (a .live) (e .index .0)) (entry .entry-at .ensures))
     (own .own-index .ensures) (not-false _ (c .before .if1 .left))
-    (numbers-moved (entry .entry-at .ensures) (c .numbers-legal .ensures))
+    (rw (entry .entry-at .ensures) at (c .numbers-legal .ensures))
 
 pub file-sound-spec : {M : Type 1} → statement M
 file-sound-spec =

@@ -3,9 +3,10 @@ use mathlib.Core.Path.{_≡_, _∙_, subst}
 use Prim.Native.Nat.{ℕ, _-_, _≤_}
 use native.Mathlib.Omega.{arith}
 use lib.ListN.{length, length-set}
+use borrow.Author.Count.{below-none}
 use borrow.Author.Needs.{needs}
 use Rattle.sound_files.specs.Live.{CellsOf}
-use Rattle.sound_files.proofs.PlainLaws.{cells-none, cells-more}
+use Rattle.sound_files.proofs.PlainLaws.{cells-more}
 use Rattle.sound_files.proofs.fill_cells.Statement.{statement}
 use Rattle.sound_files.proofs.fill_cells.Tie as tie
 
@@ -14,9 +15,6 @@ Inv-loop names upto cells₀ j₀ cells j = (j ≤ upto) × (length cells ≡ 25
 
 abbrev μ-loop : tie.MeasureT-loop
 μ-loop names upto cells₀ j₀ cells j = upto - j
-
-loop-holds : tie.Need-loop-holds Inv-loop μ-loop
-loop-holds c = (omega arith, c .pre .1, cells-none _ _)
 
 loop-again : tie.Need-loop-again Inv-loop μ-loop
 loop-again c =
@@ -33,5 +31,5 @@ pub fill-cells-spec : {M : Type 1} → statement M
 fill-cells-spec =
     tie.close
     (tie.spec
-    Inv-loop μ-loop loop-holds (λ c. search needs) (λ c. search needs) (λ c κs. search needs) (λ c. search needs) (λ c. search needs)
-    (λ c. search needs) loop-again returns)
+    Inv-loop μ-loop (λ c. (omega arith, c .pre .1, record { each = below-none _ })) (λ c. search needs) (λ c. search needs)
+    (λ c κs. search needs) (λ c. search needs) (λ c. search needs) (λ c. search needs) loop-again returns)

@@ -19,9 +19,6 @@ Inv-loop image at count upto cells g marks₀ reciprocal i₀ marks i =
 abbrev μ-loop : tie.MeasureT-loop
 μ-loop image at count upto cells g marks₀ reciprocal i₀ marks i = count - i
 
-reciprocal-requires : tie.Need-reciprocal-requires Inv-loop μ-loop
-reciprocal-requires c κs = c .before .pre .0 .limits .sliceLow
-
 loop-holds : tie.Need-loop-holds Inv-loop μ-loop
 loop-holds c =
     let s = c .before .before in
@@ -67,6 +64,6 @@ pub guarded-run-spec : {M : Type 1} → statement M
 guarded-run-spec =
     tie.close
     (tie.spec
-    Inv-loop μ-loop reciprocal-requires loop-holds (λ c. search needs) (λ c. search needs) (λ c κs. search needs) (λ c κs. search needs)
-    (λ c. search needs) returns (λ c. search needs) (λ c. search needs) plain-place-requires returns-2 (λ c. search needs)
-    (λ c. search needs) loop-again returns-3)
+    Inv-loop μ-loop (λ c κs. c .before .pre .0 .limits .sliceLow) loop-holds (λ c. search needs) (λ c. search needs)
+    (λ c κs. search needs) (λ c κs. search needs) (λ c. search needs) returns (λ c. search needs) (λ c. search needs)
+    plain-place-requires returns-2 (λ c. search needs) (λ c. search needs) loop-again returns-3)

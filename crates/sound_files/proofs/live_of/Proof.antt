@@ -17,9 +17,6 @@ Inv-loop names indexes lengths upto name j₀ j =
 abbrev μ-loop : tie.MeasureT-loop
 μ-loop names indexes lengths upto name j₀ j = upto - j
 
-loop-holds : tie.Need-loop-holds Inv-loop μ-loop
-loop-holds c = (omega arith, live-start _ _ _ _ _)
-
 returns : tie.Need-returns Inv-loop μ-loop
 returns c =
     let then1 = c .before .before in
@@ -43,5 +40,6 @@ pub live-of-spec : {M : Type 1} → statement M
 live-of-spec =
     tie.close
     (tie.spec
-    Inv-loop μ-loop loop-holds (λ c. search needs) (λ c. search needs) (λ c κs. search needs) (λ c. search needs) (λ c. search needs)
-    (λ c. search needs) (λ c. search needs) returns (λ c. search needs) (λ c. search needs) loop-again returns-2)
+    Inv-loop μ-loop (λ c. (omega arith, live-start _ _ _ _ _)) (λ c. search needs) (λ c. search needs) (λ c κs. search needs)
+    (λ c. search needs) (λ c. search needs) (λ c. search needs) (λ c. search needs) returns (λ c. search needs) (λ c. search needs)
+    loop-again returns-2)

@@ -12,15 +12,6 @@ use borrow.Author.Needs.{needs}
 use Rattle.sound_files.proofs.numbers_legal.Statement.{statement}
 use Rattle.sound_files.proofs.numbers_legal.Tie as tie
 
-returns : tie.Need-returns
-returns c = fails (λ n. T-not (sym (c .before .legal .ensures) ∙ not-true _ (c .if1 .taken)) (n .allowed))
-
-returns-2 : tie.Need-returns-2
-returns-2 c = fails (λ n. T-not (sym (c .before .legal-with .ensures) ∙ not-true _ (c .if2 .taken)) (n .entryOnly))
-
-returns-3 : tie.Need-returns-3
-returns-3 c = fails (λ n. omega (arith, n .short, c .before .live-length .ensures))
-
 returns-4 : tie.Need-returns-4
 returns-4 c =
     let size = c .before .before .before in
@@ -66,11 +57,11 @@ numbers-legal-spec =
     tie.close
     (tie.spec
     (λ c κs. search needs)
-    returns
+    (λ c. fails (λ n. T-not (sym (c .before .legal .ensures) ∙ not-true _ (c .if1 .taken)) (n .allowed)))
     (λ c κs. search needs)
-    returns-2
+    (λ c. fails (λ n. T-not (sym (c .before .legal-with .ensures) ∙ not-true _ (c .if2 .taken)) (n .entryOnly)))
     (λ c κs. search needs)
-    returns-3
+    (λ c. fails (λ n. omega (arith, n .short, c .before .live-length .ensures)))
     (λ c κs. search needs)
     returns-4
     (λ c κs. search needs)

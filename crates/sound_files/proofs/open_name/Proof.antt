@@ -14,8 +14,9 @@ returns c =
 
 returns-2 : tie.Need-returns-2
 returns-2 c =
-    let a = c .before .before .args .area in
-    sym (ap (λ (b : Bool). cond b (areaName a) 0) (sym (c .before .is-open .ensures) ∙ c .if1 .left))
+    let test = c .before in
+    let a = test .before .args .area in
+    sym (ap (λ (b : Bool). cond b (areaName a) 0) (sym (test .is-open .ensures) ∙ c .if1 .left))
 
 pub open-name-spec : {M : Type 1} → statement M
 open-name-spec = tie.close (tie.spec (λ c κs. search needs) (λ c κs. search needs) returns returns-2)

@@ -15,17 +15,8 @@ Inv-loop names n₀ n = OpenUpto names n
 abbrev μ-loop : tie.MeasureT-loop
 μ-loop names n₀ n = n
 
-loop-holds : tie.Need-loop-holds Inv-loop μ-loop
-loop-holds c = record { eight = omega arith; none = λ j h k. absurd (omega arith) }
-
-mul-if1 : tie.Need-mul-if1 Inv-loop μ-loop
-mul-if1 c = omega (arith, c .before .loop .inv .eight)
-
-element-copy-out-if1 : tie.Need-element-copy-out-if1 Inv-loop μ-loop
-element-copy-out-if1 c = omega (arith, c .before .loop .inv .eight)
-
 returns : tie.Need-returns Inv-loop μ-loop
-returns c = c .before .before .before .loop .inv
+returns c = let l = c .before .before .before .loop in l .inv
 
 loop-again : tie.Need-loop-again Inv-loop μ-loop
 loop-again c =
@@ -38,12 +29,10 @@ loop-again c =
       none = λ j h k. same-or j (n - 1) (λ e. ap (λ (i : ℕ). getD names i 0) e ∙ c .if1 .left) (λ d. inv .none j (omega arith) k);
     }
 
-returns-2 : tie.Need-returns-2 Inv-loop μ-loop
-returns-2 c = c .before .loop .inv
-
 pub open-upto-spec : {M : Type 1} → statement M
 open-upto-spec =
     tie.close
     (tie.spec
-    Inv-loop μ-loop loop-holds (λ c. search needs) mul-if1 element-copy-out-if1 returns (λ c. search needs) (λ c. search needs) loop-again
-    returns-2)
+    Inv-loop μ-loop (λ c. record { eight = omega arith; none = λ j h k. absurd (omega arith) }) (λ c. search needs)
+    (λ c. omega (arith, c .before .loop .inv .eight)) (λ c. omega (arith, c .before .loop .inv .eight)) returns (λ c. search needs)
+    (λ c. search needs) loop-again (λ c. c .before .loop .inv))

@@ -7,9 +7,6 @@ use borrow.Author.Needs.{needs}
 use Rattle.sound_files.proofs.own_index.Statement.{statement}
 use Rattle.sound_files.proofs.own_index.Tie as tie
 
-returns : tie.Need-returns
-returns c = own-none _ (c .if1 .taken) refl refl
-
 returns-2 : tie.Need-returns-2
 returns-2 c =
     let else1 = c .before .before in
@@ -19,8 +16,9 @@ returns-2 c =
 
 mark-index-requires : tie.Need-mark-index-requires
 mark-index-requires c κs =
-    let pre = c .before .before .before .before .before .before .pre in
-    let d = grants _ (c .before .before .is-data-sector .ensures) (c .before .if2 .left) in
+    let judged = c .before .before in
+    let pre = judged .before .before .before .before .pre in
+    let d = grants _ (judged .is-data-sector .ensures) (c .before .if2 .left) in
     (pre .0, pre .1, ofFile (d .low) (d .high))
 
 returns-3 : tie.Need-returns-3
@@ -32,4 +30,4 @@ returns-3 c =
 
 pub own-index-spec : {M : Type 1} → statement M
 own-index-spec =
-    tie.close (tie.spec returns (λ c κs. search needs) returns-2 mark-index-requires returns-3)
+    tie.close (tie.spec (λ c. own-none _ (c .if1 .taken) refl refl) (λ c κs. search needs) returns-2 mark-index-requires returns-3)

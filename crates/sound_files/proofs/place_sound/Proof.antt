@@ -4,9 +4,6 @@ use borrow.Author.Needs.{needs}
 use Rattle.sound_files.proofs.place_sound.Statement.{statement}
 use Rattle.sound_files.proofs.place_sound.Tie as tie
 
-returns : tie.Need-returns
-returns c = place-unused (c .before .name-at .result) (c .before .name-at .ensures) (c .if1 .taken)
-
 returns-2 : tie.Need-returns-2
 returns-2 c =
     let name = c .before .before .before in
@@ -24,7 +21,7 @@ place-sound-spec =
     tie.close
     (tie.spec
     (λ c κs. search needs)
-    returns
+    (λ c. place-unused (c .before .name-at .result) (c .before .name-at .ensures) (c .if1 .taken))
     (λ c κs. search needs)
     returns-2
     (λ c κs. search needs)

@@ -6,9 +6,6 @@ use borrow.Author.Needs.{needs}
 use Rattle.sound_files.proofs.plain_numbers.Statement.{statement}
 use Rattle.sound_files.proofs.plain_numbers.Tie as tie
 
-returns : tie.Need-returns
-returns c = fails (λ p. omega (arith, p .short))
-
 returns-2 : tie.Need-returns-2
 returns-2 c = fails (λ p. true≢false (sym (c .if2 .taken) ∙ c .before .entry-only .ensures ∙ p .slices))
 
@@ -28,4 +25,4 @@ returns-3 c =
 
 pub plain-numbers-spec : {M : Type 1} → statement M
 plain-numbers-spec =
-    tie.close (tie.spec returns (λ c κs. search needs) returns-2 (λ c κs. search needs) returns-3)
+    tie.close (tie.spec (λ c. fails (λ p. omega (arith, p .short))) (λ c κs. search needs) returns-2 (λ c κs. search needs) returns-3)

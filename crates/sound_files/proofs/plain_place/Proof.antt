@@ -6,9 +6,6 @@ use borrow.Author.Needs.{needs}
 use Rattle.sound_files.proofs.plain_place.Statement.{statement}
 use Rattle.sound_files.proofs.plain_place.Tie as tie
 
-returns : tie.Need-returns
-returns c = plain-unused (c .name-at .result) (c .name-at .ensures) (eqb-true _ _)
-
 returns-2 : tie.Need-returns-2
 returns-2 c =
     let else1 = c .before .before in
@@ -23,6 +20,6 @@ plain-place-spec =
     (λ c. search needs)
     (λ c. search needs)
     (λ c κs. search needs)
-    returns
+    (λ c. plain-unused (c .name-at .result) (c .name-at .ensures) (eqb-true _ _))
     (λ c κs. search needs)
     returns-2)

@@ -17,7 +17,7 @@ abbrev μ-loop : tie.MeasureT-loop
 μ-loop image at count upto cells g marks₀ reciprocal i₀ marks i = count - i
 
 reciprocal-requires : tie.Need-reciprocal-requires Inv-loop μ-loop
-reciprocal-requires c κs = c .before .before .pre .0 .limits .sliceLow
+reciprocal-requires c κs = let pre = c .before .before .pre in pre .0 .limits .sliceLow
 
 loop-holds : tie.Need-loop-holds Inv-loop μ-loop
 loop-holds c =

@@ -31,9 +31,6 @@ met c =
     let a = s .args in
     place-more (a .image .now) (a .g) (lives l) (placesFrom (a .image .now) (a .at)) (l .loop .i) (l .loop .inv .1) (c .before .place-sound .ensures) (s .pre .1) (not-false _ (c .if1 .left))
 
-loop-holds : tie.Need-loop-holds Inv-loop μ-loop
-loop-holds c = (omega arith, places-none _ _ _ _ _)
-
 place-sound-requires : tie.Need-place-sound-requires Inv-loop μ-loop
 place-sound-requires c κs =
     let l = c .before .before in
@@ -52,12 +49,6 @@ plain-run-requires c κs =
     let l = else1 .before .before .before .before in
     let s = l .before .before in
     (s .pre .0, places-some _ _ _ _ (l .loop .i + 1) (met else1) (s .pre .1), omega arith, ordinary-on (s .args .image .now) (s .args .at) (l .loop .i + 1) (s .pre .5))
-
-add-i-2 : tie.Need-add-i-2 Inv-loop μ-loop
-add-i-2 c = omega (arith, c .plain-run .ensures .high)
-
-loop-less : tie.Need-loop-less Inv-loop μ-loop
-loop-less c = omega (arith, c .plain-run .ensures .high)
 
 loop-again : tie.Need-loop-again Inv-loop μ-loop
 loop-again c =
@@ -83,5 +74,6 @@ pub rest-sound-spec : {M : Type 1} → statement M
 rest-sound-spec =
     tie.close
     (tie.spec
-    Inv-loop μ-loop loop-holds (λ c. search needs) (λ c. search needs) place-sound-requires returns (λ c. search needs) (λ c. search needs)
-    (λ c. search needs) (λ c. search needs) plain-run-requires add-i-2 loop-less loop-again returns-2)
+    Inv-loop μ-loop (λ c. (omega arith, places-none _ _ _ _ _)) (λ c. search needs) (λ c. search needs) place-sound-requires returns
+    (λ c. search needs) (λ c. search needs) (λ c. search needs) (λ c. search needs) plain-run-requires
+    (λ c. omega (arith, c .plain-run .ensures .high)) (λ c. omega (arith, c .plain-run .ensures .high)) loop-again returns-2)

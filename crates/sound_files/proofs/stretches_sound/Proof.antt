@@ -27,17 +27,21 @@ Inv-loop image sys names indexes lengths upto cells g marks₀ size b₀ j₀ ma
 abbrev μ-loop : tie.MeasureT-loop
 μ-loop image sys names indexes lengths upto cells g marks₀ size b₀ j₀ marks b j = word image 6 0 - j
 
+-- the function's entry, seen from the loop's head
+abbrev began : tie.At-loop Inv-loop μ-loop → tie.Start Inv-loop μ-loop
+began at = at .before .before .before .before
+
 -- what is known of the area processes
 abbrev lives : tie.At-loop Inv-loop μ-loop → ℕ → Live
-lives at = let a = at .before .before .before .before .args in liveIn (a .names .now) (a .indexes .now) (a .lengths .now) (a .upto)
+lives at = let a = began at .args in liveIn (a .names .now) (a .indexes .now) (a .lengths .now) (a .upto)
 
 -- the turn, known once its numbers are read
-turn-of : (c : tie.After-pair-start Inv-loop μ-loop) → let at = c .before .before .before .before in let a = at .before .before .before .before .args in
+turn-of : (c : tie.After-pair-start Inv-loop μ-loop) → let at = c .before .before .before .before in let a = began at .args in
     Turn (a .image .now) (a .g) (a .g .keys * a .sys .layers) (at .loop .j) (at .loop .b) (c .before .lesser .result) (c .pair-start .result .0)
 turn-of c =
     let pair-length = c .before .before in
     let at = pair-length .before .before in
-    let sys = at .before .before .before .before .pre .0 in
+    let sys = began at .pre .0 in
     let known = sys .known in
     turn (known-sys known) (ap (λ (x : Catalog). x .index .0) (sys .is)) (at .loop .j) (known .room) (at .loop .inv .0) (at .loop .inv .2)
     (pair-length .before .loop-test .taken) (pair-length .pair-length .ensures) (c .before .lesser .ensures) (c .pair-start .ensures)
@@ -47,16 +51,13 @@ few : {image : List ℕ} {g : Geometry} {marks : List ℕ} {size : ℕ} → SysK
 few known = omega (arith, known .room, sys-small (known-sys known), known .unit .limits .sectors)
 
 mul-size : tie.Need-mul-size Inv-loop μ-loop
-mul-size c = record { fits = omega (arith, few (c .before .before .before .pre .0 .known)) }
-
-loop-holds : tie.Need-loop-holds Inv-loop μ-loop
-loop-holds c = (omega arith, omega arith, λ h. refl, places-none _ _ _ _ _)
+mul-size c = let pre = c .before .before .before .pre in record { fits = omega (arith, few (pre .0 .known)) }
 
 run-sound-requires : tie.Need-run-sound-requires Inv-loop μ-loop
 run-sound-requires c κs =
     let read = c .before .before in
     let at = read .before .before .before .before in
-    let start = at .before .before .before .before in
+    let start = began at in
     let pre = start .pre in
     let known = pre .0 .known in
     let t = turn-of read in
@@ -69,7 +70,7 @@ returns c =
     let read = c .before .before .before .before in
     let t = turn-of read in
     let at = read .before .before .before .before in
-    let a = at .before .before .before .before .args in
+    let a = began at .args in
     places-stop (a .image .now) (a .g) (lives at) (placesIn (a .image .now) (a .g)) (16 * at .loop .b) (at .loop .inv .3) _ _ (turn-places t) (c .before .run-sound .ensures)
     (16 * (a .g .keys * a .sys .layers)) (omega (arith, t .high)) (not-true _ (c .if1 .taken))
 
@@ -77,14 +78,14 @@ add-b : tie.Need-add-b Inv-loop μ-loop
 add-b c =
     let read = c .before .before .before .before in
     let at = read .before .before .before .before in
-    let start = at .before .before .before .before in
+    let start = began at in
     record { fits = omega (arith, turn-of read .high, few (start .pre .0 .known)) }
 
 add-j : tie.Need-add-j Inv-loop μ-loop
 add-j c =
     let read = c .before .before .before .before in
     let at = read .before .before .before .before in
-    let start = at .before .before .before .before in
+    let start = began at in
     omega (arith, turn-of read .more, start .pre .0 .known .index .few)
 
 loop-less : tie.Need-loop-less Inv-loop μ-loop
@@ -94,7 +95,7 @@ loop-again : tie.Need-loop-again Inv-loop μ-loop
 loop-again c =
     let read = c .before .before .before .before in
     let at = read .before .before .before .before in
-    let start = at .before .before .before .before in
+    let start = began at in
     let t = turn-of read in
     let a = start .args in
     let n = read .before .lesser .result in
@@ -110,7 +111,7 @@ loop-again c =
 returns-2 : tie.Need-returns-2 Inv-loop μ-loop
 returns-2 c =
     let at = c .before in
-    let start = at .before .before .before .before in
+    let start = began at in
     let a = start .args in
     places-all (a .image .now) (a .g) (lives at) (placesIn (a .image .now) (a .g)) (16 * at .loop .b) (at .loop .inv .3)
     (16 * (a .g .keys * a .sys .layers)) (omega arith) (some-sys (start .pre .0 .known))
@@ -119,6 +120,6 @@ pub stretches-sound-spec : {M : Type 1} → statement M
 stretches-sound-spec =
     tie.close
     (tie.spec
-    Inv-loop μ-loop mul-size loop-holds (λ c κs. search needs) (λ c. search needs) (λ c κs. search needs) (λ c κs. search needs) (λ c. search needs)
-    (λ c. search needs) (λ c. search needs) (λ c. search needs) run-sound-requires returns add-b add-j loop-less
-    loop-again returns-2)
+    Inv-loop μ-loop mul-size (λ c. (omega arith, omega arith, λ h. refl, places-none _ _ _ _ _)) (λ c κs. search needs)
+    (λ c. search needs) (λ c κs. search needs) (λ c κs. search needs) (λ c. search needs) (λ c. search needs) (λ c. search needs)
+    (λ c. search needs) run-sound-requires returns add-b add-j loop-less loop-again returns-2)

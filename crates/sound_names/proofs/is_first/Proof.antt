@@ -7,9 +7,6 @@ use Rattle.sound_names.proofs.AloneLaws.{found-some, found-here, found-
 use Rattle.sound_names.proofs.is_first.Statement.{statement}
 use Rattle.sound_names.proofs.is_first.Tie as tie
 
-find-requires : tie.Need-find-requires
-find-requires c κs = some-key (c .before .pre .0)
-
 returns : tie.Need-returns
 returns c =
     let f = c .before .before in
@@ -36,4 +33,5 @@ returns-3 c =
 pub is-first-spec : {M : Type 1} → statement M
 is-first-spec =
     tie.close
-    (tie.spec find-requires (λ c. search needs) (λ c. search needs) returns returns-2 (λ c. search needs) returns-3)
+    (tie.spec
+    (λ c κs. some-key (c .before .pre .0)) (λ c. search needs) (λ c. search needs) returns returns-2 (λ c. search needs) returns-3)

@@ -7,7 +7,8 @@ use Rattle.sound_names.proofs.mix.Tie as tie
 
 returns : tie.Need-returns
 returns c =
-    let n = c .before .before .before .args .name in
+    let a = c .before .before .before .args in
+    let n = a .name in
     mixed-words (n .0) (n .1) (n .2) (omega arith) (omega arith)
 
 pub mix-spec : {M : Type 1} → statement M

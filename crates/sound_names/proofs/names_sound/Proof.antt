@@ -13,9 +13,6 @@ use Rattle.sound_names.proofs.names_sound.Tie as tie
 own-index : (c : tie.Start) → c .args .sys .index .0 ≡ sysIndexSector
 own-index c = ap (λ (x : Catalog). x .index .0) (c .pre .is)
 
-inverse-requires : tie.Need-inverse-requires
-inverse-requires c κs = c .before .pre .sys .unit .limits .keysLow
-
 mul-t6 : tie.Need-mul-t6
 mul-t6 c = let sys = c .before .before .before .before .pre in record { fits = omega (arith, sys .room, sys-small (sys .sys), sys .sys .unit .limits .sectors) }
 
@@ -49,7 +46,7 @@ pub names-sound-spec : {M : Type 1} → statement M
 names-sound-spec =
     tie.close
     (tie.spec
-    inverse-requires
+    (λ c κs. c .before .pre .sys .unit .limits .keysLow)
     mul-t6
     sys-sectors-requires
     places-sound-requires

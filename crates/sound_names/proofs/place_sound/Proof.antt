@@ -11,9 +11,9 @@ use Rattle.sound_entries.specs.Legal.{NameIn, PlaceLegal, ownEntry}
 use Rattle.sound_entries.specs.Sys.{sysSlices, placesIn}
 use Rattle.sound_entries.proofs.SysLaws.{sys-inside}
 use Rattle.sound_entries.proofs.FindLaws.{in-keys}
-use Rattle.sound_entries.proofs.PlaceLaws.{name-packed}
+use Rattle.sound_entries.proofs.PlaceLaws.{name-packed, zero-unused}
 use Rattle.sound_entries.proofs.BlockLaws.{name-block, place-block}
-use Rattle.sound_names.proofs.AloneLaws.{scanned, not-legal, not-noted, passed-unused, passed-new, passed-first, not-alone, zero-unused, some-name, own-key, in-slices}
+use Rattle.sound_names.proofs.AloneLaws.{scanned, not-legal, not-noted, passed-unused, passed-new, passed-first, not-alone, some-name, own-key, in-slices}
 use Rattle.sound_names.proofs.place_sound.Statement.{statement}
 use Rattle.sound_names.proofs.place_sound.Tie as tie
 
@@ -48,9 +48,6 @@ place-legal-requires c κs =
     let start = c .before in
     let sys = start .pre .0 .catalog in
     (inside start, start .pre .4, omega (arith, start .pre .3, in-keys sys, mod-lt (start .args .b .0) {m = start .args .g .keys} (omega (arith, sys .sys .unit .limits .keysLow))), start .pre .1)
-
-returns : tie.Need-returns
-returns c = not-legal (judged (c .before)) (c .if1 .taken)
 
 place-name-requires : tie.Need-place-name-requires
 place-name-requires c κs = let start = c .before .before .before in (inside start, start .pre .4)
@@ -103,7 +100,7 @@ place-sound-spec =
     tie.close
     (tie.spec
     place-legal-requires
-    returns
+    (λ c. not-legal (judged (c .before)) (c .if1 .taken))
     place-name-requires
     returns-2
     (λ c κs. search needs)

@@ -15,19 +15,13 @@ Inv-loop image g q b key expected classes filter₀ i₀ filter i = (i ≤ 16) �
 abbrev μ-loop : tie.MeasureT-loop
 μ-loop image g q b key expected classes filter₀ i₀ filter i = 16 - i
 
-loop-holds : tie.Need-loop-holds Inv-loop μ-loop
-loop-holds c = (omega arith, passed-at (omega arith) (c .before .pre .4))
-
-returns : tie.Need-returns Inv-loop μ-loop
-returns c = refused (c .before .place-sound .ensures) (c .if1 .taken) (omega arith)
-
 loop-again : tie.Need-loop-again Inv-loop μ-loop
 loop-again c = (omega arith, passed-at (omega arith) (granted (c .before .place-sound .ensures) (c .if1 .left)))
-
-returns-2 : tie.Need-returns-2 Inv-loop μ-loop
-returns-2 c = scanned (passed-at (omega arith) (c .before .loop .inv .1))
 
 pub sector-sound-spec : {M : Type 1} → statement M
 sector-sound-spec =
     tie.close
-    (tie.spec Inv-loop μ-loop loop-holds (λ c κs. search needs) returns (λ c. search needs) (λ c. search needs) loop-again returns-2)
+    (tie.spec
+    Inv-loop μ-loop (λ c. (omega arith, passed-at (omega arith) (c .before .pre .4))) (λ c κs. search needs)
+    (λ c. refused (c .before .place-sound .ensures) (c .if1 .taken) (omega arith)) (λ c. search needs) (λ c. search needs) loop-again
+    (λ c. scanned (passed-at (omega arith) (c .before .loop .inv .1))))

@@ -21,25 +21,22 @@ Inv-loop image g n expected classes filter₀ first block keys key₀ c₀ filte
 abbrev μ-loop : tie.MeasureT-loop
 μ-loop image g n expected classes filter₀ first block keys key₀ c₀ filter key c = n - c
 
-rem-key : tie.Need-rem-key Inv-loop μ-loop
-rem-key c = omega (arith, c .before .pre .0 .catalog .sys .unit .limits .keysLow)
-
 loop-holds : tie.Need-loop-holds Inv-loop μ-loop
 loop-holds c =
     let start = c .before in
     (omega arith, ap (λ (x : ℕ). x % start .args .g .keys) (sym (add-zero (start .args .b .0))), passed-at (omega arith) (start .pre .4))
 
 add-t17 : tie.Need-add-t17 Inv-loop μ-loop
-add-t17 c = let l = c .before .before .before .pre .0 in omega (arith, in-slices l, sys-small (l .catalog .sys), l .catalog .sys .unit .limits .sectors)
+add-t17 c =
+    let pre = c .before .before .before .pre in
+    let l = pre .0 in
+    omega (arith, in-slices l, sys-small (l .catalog .sys), l .catalog .sys .unit .limits .sectors)
 
 sector-sound-requires : tie.Need-sector-sound-requires Inv-loop μ-loop
 sector-sound-requires c κs =
     let at = c .before .before in
     let pre = at .before .before .pre in
     (fewer (omega arith) (pre .0), pre .1, sym (pre .2 (at .loop .c) (c .before .loop-test .taken)), at .loop .inv .1, at .loop .inv .2)
-
-returns : tie.Need-returns Inv-loop μ-loop
-returns c = refused (c .before .sector-sound .ensures) (c .if1 .taken) (omega arith)
 
 next-key-requires : tie.Need-next-key-requires Inv-loop μ-loop
 next-key-requires c κs =
@@ -57,12 +54,10 @@ loop-again c =
       passed-at (omega arith) (granted (sector-sound .sector-sound .ensures) (c .before .if1 .left)),
     )
 
-returns-2 : tie.Need-returns-2 Inv-loop μ-loop
-returns-2 c = scanned (passed-at (omega arith) (c .before .loop .inv .2))
-
 pub stretch-sound-spec : {M : Type 1} → statement M
 stretch-sound-spec =
     tie.close
     (tie.spec
-    Inv-loop μ-loop rem-key loop-holds (λ c. search needs) add-t17 sector-sound-requires returns next-key-requires (λ c. search needs)
-    (λ c. search needs) loop-again returns-2)
+    Inv-loop μ-loop (λ c. omega (arith, c .before .pre .0 .catalog .sys .unit .limits .keysLow)) loop-holds (λ c. search needs) add-t17
+    sector-sound-requires (λ c. refused (c .before .sector-sound .ensures) (c .if1 .taken) (omega arith)) next-key-requires
+    (λ c. search needs) (λ c. search needs) loop-again (λ c. scanned (passed-at (omega arith) (c .before .loop .inv .2))))

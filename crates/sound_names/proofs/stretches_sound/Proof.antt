@@ -22,19 +22,26 @@ Inv-loop image g expected classes filter₀ size sys b₀ j₀ filter b j =
 abbrev μ-loop : tie.MeasureT-loop
 μ-loop image g expected classes filter₀ size sys b₀ j₀ filter b j = word image 6 0 - j
 
+-- the loop's head, seen from the place where a pair is read, and the function's entry, seen from there
+abbrev head : tie.After-pair-start Inv-loop μ-loop → tie.At-loop Inv-loop μ-loop
+head c = c .before .before .before .before .before .before
+
+abbrev began : tie.At-loop Inv-loop μ-loop → tie.Start Inv-loop μ-loop
+began at = at .before .before .before
+
 -- the turn, known once its numbers are read
-turn-of : (c : tie.After-pair-start Inv-loop μ-loop) → let at = c .before .before .before .before .before .before in let a = at .before .before .before .args in
+turn-of : (c : tie.After-pair-start Inv-loop μ-loop) → let at = head c in let a = began at .args in
     Turn (a .image .now) (a .g) (a .expected .size) (at .loop .j) (at .loop .b .0) (c .before .lesser .result) (c .pair-start .result .0)
 turn-of c =
     let pair-length = c .before .before .before in
-    let at = pair-length .before .before .before in
-    let l = at .before .before .before .pre .0 in
+    let at = head c in
+    let l = began at .pre .0 in
     turn (l .catalog .sys) (ap (λ (x : Catalog). x .index .0) (l .catalog .is)) (at .loop .j) (in-slices l) (at .loop .inv .0)
     (at .loop .inv .2) (pair-length .before .if1 .taken) (pair-length .pair-length .ensures) (c .before .lesser .ensures)
     (c .pair-start .ensures)
 
 loop-holds : tie.Need-loop-holds Inv-loop μ-loop
-loop-holds c = (omega arith, omega arith, λ h. refl, passed-none _ (c .before .before .pre .2))
+loop-holds c = let pre = c .before .before .pre in (omega arith, omega arith, λ h. refl, passed-none _ (pre .2))
 
 pair-length-requires : tie.Need-pair-length-requires Inv-loop μ-loop
 pair-length-requires c κs = let start = c .before .before .before .before .before in omega (arith, start .pre .0 .catalog .sys .index .few)
@@ -46,24 +53,29 @@ pair-start-requires c κs =
 
 stretch-sound-requires : tie.Need-stretch-sound-requires Inv-loop μ-loop
 stretch-sound-requires c κs =
-    let t = turn-of (c .before) in
-    let at = c .before .before .before .before .before .before .before in
-    let pre = at .before .before .before .pre in
+    let pair-start = c .before in
+    let t = turn-of pair-start in
+    let at = head pair-start in
+    let pre = began at .pre in
     (fewer (t .high) (pre .0), pre .1, t .walk, t .small, at .loop .inv .3)
 
 returns : tie.Need-returns Inv-loop μ-loop
 returns c =
-    let t = turn-of (c .before .before .before) in
+    let pair-start = c .before .before .before in
+    let t = turn-of pair-start in
     refused (c .before .stretch-sound .ensures) (c .if2 .taken) (omega (arith, t .high))
 
 add-t14 : tie.Need-add-t14 Inv-loop μ-loop
 add-t14 c =
     let pair-start = c .before .before .before .before in
-    let l = pair-start .before .before .before .before .before .before .before .before .before .pre .0 in
+    let l = began (head pair-start) .pre .0 in
     omega (arith, turn-of pair-start .high, in-slices l, sys-small (l .catalog .sys), l .catalog .sys .unit .limits .sectors)
 
 add-j : tie.Need-add-j Inv-loop μ-loop
-add-j c = omega (arith, turn-of (c .before .before .before .before) .more)
+add-j c =
+    let pair-start = c .before .before .before .before in
+    let start = began (head pair-start) in
+    omega (arith, turn-of pair-start .more, start .pre .0 .catalog .sys .index .few)
 
 loop-less : tie.Need-loop-less Inv-loop μ-loop
 loop-less c = let pair-start = c .before .before .before .before in omega (arith, turn-of pair-start .more)
@@ -76,7 +88,7 @@ loop-again c =
     (omega (arith, t .more), t .high, t .next, granted (stretch-sound .stretch-sound .ensures) (c .before .if2 .left))
 
 returns-2 : tie.Need-returns-2 Inv-loop μ-loop
-returns-2 c = scanned (passed-at (omega arith) (c .before .before .loop .inv .3))
+returns-2 c = let l = c .before .before .loop in scanned (passed-at (omega arith) (l .inv .3))
 
 pub stretches-sound-spec : {M : Type 1} → statement M
 stretches-sound-spec =

@@ -9,7 +9,8 @@ returns c = fails (λ l. refutes _ (c .before .is-first .ensures) (c .if1 .taken
 
 returns-2 : tie.Need-returns-2
 returns-2 c =
-    let first = grants _ (c .before .before .is-first .ensures) (c .before .if1 .left) in
+    let is-first = c .before .before in
+    let first = grants _ (is-first .is-first .ensures) (c .before .if1 .left) in
     record {
       yes = λ e. record { first = first; users = c .users-legal .ensures .yes e };
       not = λ e l. c .users-legal .ensures .not e (l .users);

@@ -21,10 +21,12 @@ found-at : (found wanted : Found) (k j : ℕ) → found ≡ wanted → found ≡
 found-at found wanted k j e f = record { yes = λ t. let q : k ≡ j = eqb-true k j t in cc; not = λ t p. eqb-false k j t (cc) }
 
 returns : tie.Need-returns
-returns c = found-none _ _ _ (c .before .before .find-area .ensures .first) (c .enum-told .given .1)
+returns c = let find-area = c .before .before in found-none _ _ _ (find-area .find-area .ensures .first) (c .enum-told .given .1)
 
 returns-2 : tie.Need-returns-2
-returns-2 c = found-at _ _ _ _ (c .before .before .before .find-area .ensures .first) (c .before .k .given .1)
+returns-2 c =
+    let find-area = c .before .before .before in
+    found-at _ _ _ _ (find-area .find-area .ensures .first) (c .before .k .given .1)
 
 pub is-first-spec : {M : Type 1} → statement M
 is-first-spec = tie.close (tie.spec (λ c κs. search needs) (λ c. search needs) (λ c. search needs) returns returns-2)

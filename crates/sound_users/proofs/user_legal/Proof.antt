@@ -11,7 +11,8 @@ returns c = let vacant = c .if1 .taken in holds (record { opensLow = λ t. absur
 
 returns-2 : tie.Need-returns-2
 returns-2 c =
-    let taken = c .before .before .before .before .if1 .left in
+    let else1 = c .before .before .before .before in
+    let taken = else1 .if1 .left in
     record {
       yes = λ e. record { opensLow = λ t. c .before .if2 .taken; opensHigh = λ t. omega arith; inside = λ t. leb-true _ _ e };
       not = λ e l. true≢false (sym (le-leb _ _ (l .inside taken)) ∙ e);
@@ -19,7 +20,8 @@ returns-2 c =
 
 returns-3 : tie.Need-returns-3
 returns-3 c =
-    let taken = c .before .before .before .if1 .left in
+    let else1 = c .before .before .before in
+    let taken = else1 .if1 .left in
     record {
       yes = λ e. absurd (true≢false (sym e ∙ lt-leb _ _ (c .if2 .left)));
       not = λ e l. omega (arith, l .opensLow taken);

@@ -8,21 +8,6 @@ use Rattle.sound_users.proofs.UserLaws.{three-each, three-pairs, all-le
 use Rattle.sound_users.proofs.users_legal.Statement.{statement}
 use Rattle.sound_users.proofs.users_legal.Tie as tie
 
-returns : tie.Need-returns
-returns c = fails (λ l. refutes _ (c .before .user-legal .ensures) (c .if1 .taken) (one-legal _ l 0 (omega arith)))
-
-returns-2 : tie.Need-returns-2
-returns-2 c = fails (λ l. refutes _ (c .before .user-legal2 .ensures) (c .if2 .taken) (one-legal _ l 1 (omega arith)))
-
-returns-3 : tie.Need-returns-3
-returns-3 c = fails (λ l. refutes _ (c .before .user-legal3 .ensures) (c .if3 .taken) (one-legal _ l 2 (omega arith)))
-
-returns-4 : tie.Need-returns-4
-returns-4 c = fails (λ l. refutes _ (c .before .pair-legal .ensures) (c .if4 .taken) (two-legal _ l 0 1 (omega arith) (omega arith)))
-
-returns-5 : tie.Need-returns-5
-returns-5 c = fails (λ l. refutes _ (c .before .pair-legal2 .ensures) (c .if5 .taken) (two-legal _ l 0 2 (omega arith) (omega arith)))
-
 returns-6 : tie.Need-returns-6
 returns-6 c =
     let pair02 = c .before in
@@ -30,7 +15,8 @@ returns-6 c =
     let user2 = pair01 .before .before in
     let user1 = user2 .before .before .before in
     let user0 = user1 .before .before .before in
-    let area = user0 .before .before .before .args .t1 in
+    let a = user0 .before .before .before .args in
+    let area = a .t1 in
     record {
       yes = λ e. all-legal
           area
@@ -53,16 +39,16 @@ users-legal-spec =
     (tie.spec
     (λ c. search needs)
     (λ c κs. search needs)
-    returns
+    (λ c. fails (λ l. refutes _ (c .before .user-legal .ensures) (c .if1 .taken) (one-legal _ l 0 (omega arith))))
     (λ c. search needs)
     (λ c κs. search needs)
-    returns-2
+    (λ c. fails (λ l. refutes _ (c .before .user-legal2 .ensures) (c .if2 .taken) (one-legal _ l 1 (omega arith))))
     (λ c. search needs)
     (λ c κs. search needs)
-    returns-3
+    (λ c. fails (λ l. refutes _ (c .before .user-legal3 .ensures) (c .if3 .taken) (one-legal _ l 2 (omega arith))))
     (λ c κs. search needs)
-    returns-4
+    (λ c. fails (λ l. refutes _ (c .before .pair-legal .ensures) (c .if4 .taken) (two-legal _ l 0 1 (omega arith) (omega arith))))
     (λ c κs. search needs)
-    returns-5
+    (λ c. fails (λ l. refutes _ (c .before .pair-legal2 .ensures) (c .if5 .taken) (two-legal _ l 0 2 (omega arith) (omega arith))))
     (λ c κs. search needs)
     returns-6)

@@ -18,9 +18,6 @@ Inv-loop state j₀ j = (j ≤ 8) × ((k : ℕ) → k < j → IsOpen state k →
 abbrev μ-loop : tie.MeasureT-loop
 μ-loop state j₀ j = 8 - j
 
-loop-holds : tie.Need-loop-holds Inv-loop μ-loop
-loop-holds c = (omega arith, λ k h. absurd (omega arith))
-
 returns : tie.Need-returns Inv-loop μ-loop
 returns c =
     let test = c .before in
@@ -51,5 +48,5 @@ pub users-sound-spec : {M : Type 1} → statement M
 users-sound-spec =
     tie.close
     (tie.spec
-    Inv-loop μ-loop loop-holds (λ c. omega arith) (λ c. omega arith) (λ c κs. tt) (λ c κs. tt) returns (λ c. omega arith) (λ c. omega arith)
-    loop-again returns-2)
+    Inv-loop μ-loop (λ c. (omega arith, λ k h. absurd (omega arith))) (λ c. omega arith) (λ c. omega arith) (λ c κs. tt) (λ c κs. tt)
+    returns (λ c. omega arith) (λ c. omega arith) loop-again returns-2)

@@ -21,9 +21,6 @@ Inv-loop image g sys state j₀ j = (j ≤ 8) × ((k : ℕ) → k < j → IsOpen
 abbrev μ-loop : tie.MeasureT-loop
 μ-loop image g sys state j₀ j = 8 - j
 
-loop-holds : tie.Need-loop-holds Inv-loop μ-loop
-loop-holds c = (omega arith, λ k h. absurd (omega arith))
-
 returns : tie.Need-returns Inv-loop μ-loop
 returns c =
     let test = c .before in
@@ -44,12 +41,10 @@ loop-again c =
           (⊎-elim (λ w o. grants _ (w .1 .ensures) (w .2 .left)) (λ w o. absurd (true≢false (sym o ∙ sym (test .is-open .ensures) ∙ w .left))) (c .if1 .came)),
     )
 
-returns-2 : tie.Need-returns-2 Inv-loop μ-loop
-returns-2 c = holds (record { each = λ j h. c .before .loop .inv .1 j (omega arith) })
-
 pub areas-entered-spec : {M : Type 1} → statement M
 areas-entered-spec =
     tie.close
     (tie.spec
-    Inv-loop μ-loop loop-holds (λ c. omega arith) (λ c. omega arith) (λ c κs. tt) (λ c κs. search needs) returns (λ c. omega arith)
-    (λ c. omega arith) loop-again returns-2)
+    Inv-loop μ-loop (λ c. (omega arith, λ k h. absurd (omega arith))) (λ c. omega arith) (λ c. omega arith) (λ c κs. tt)
+    (λ c κs. search needs) returns (λ c. omega arith) (λ c. omega arith) loop-again
+    (λ c. holds (record { each = λ j h. c .before .loop .inv .1 j (omega arith) })))

@@ -13,7 +13,7 @@ use Rattle.soundness.proofs.judge.Statement.{statement}
 use Rattle.soundness.proofs.judge.Tie as tie
 
 kit : (c : tie.After-geometry-of) → let start = c .before .before .before .before .before .before in SoundByKit (start .args .image .now)
-kit c = grants _ (c .before .before .kit-sound .ensures) (c .before .if2 .left)
+kit c = let kit-sound = c .before .before in grants _ (kit-sound .kit-sound .ensures) (c .before .if2 .left)
 
 -- the last step decides
 whole : (c : tie.After-layers-sound) → let start = c .before .before .before .before .before .before .before .before .before .before .before .before in
@@ -35,15 +35,6 @@ whole c =
     (found .mark-sys .ensures .known (sys .before .if3 .left) .0)
     (rw (sys .sys .ensures) at (c .layers-sound .ensures))
 
-returns : tie.Need-returns
-returns c = not-sound (λ u. refutes _ (c .before .users-sound .ensures .0) (c .if1 .taken) (unit-users u))
-
-returns-2 : tie.Need-returns-2
-returns-2 c = not-sound (λ u. refutes _ (c .before .kit-sound .ensures) (c .if2 .taken) (unit-kit u))
-
-mark-sys-requires : tie.Need-mark-sys-requires
-mark-sys-requires c κs = (sound-unit (c .before .geometry-of .ensures) (kit (c .before)), mark-none _ 4096 refl)
-
 returns-3 : tie.Need-returns-3
 returns-3 c =
     let found = c .before in
@@ -57,9 +48,6 @@ layers-sound-requires c κs =
     let geometry = found .before .before in
     let known = found .mark-sys .ensures .known (sys .before .if3 .left) in
     rw (sys .sys .ensures) (sys-known (geometry .geometry-of .ensures) (kit geometry) (known .0) (known .1), refl)
-
-returns-4 : tie.Need-returns-4
-returns-4 c = not-sound (refutes _ (whole (c .before)) (c .if4 .taken))
 
 returns-5 : tie.Need-returns-5
 returns-5 c =
@@ -75,13 +63,13 @@ judge-spec =
     tie.close
     (tie.spec
     (λ c κs. search needs)
-    returns
+    (λ c. not-sound (λ u. refutes _ (c .before .users-sound .ensures .0) (c .if1 .taken) (unit-users u)))
     (λ c κs. search needs)
-    returns-2
+    (λ c. not-sound (λ u. refutes _ (c .before .kit-sound .ensures) (c .if2 .taken) (unit-kit u)))
     (λ c κs. search needs)
-    mark-sys-requires
+    (λ c κs. (sound-unit (c .before .geometry-of .ensures) (kit (c .before)), mark-none _ 4096 refl))
     returns-3
     (λ c κs. search needs)
     layers-sound-requires
-    returns-4
+    (λ c. not-sound (refutes _ (whole (c .before)) (c .if4 .taken)))
     returns-5)

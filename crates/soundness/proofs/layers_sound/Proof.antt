@@ -11,20 +11,11 @@ use Rattle.soundness.proofs.layers_sound.Tie as tie
 sys : (c : tie.Start) → SysIn (c .args .image .now) (c .args .g) (c .args .sys)
 sys c = record { sys = known-sys (c .pre .0); is = c .pre .1; room = c .pre .0 .room }
 
-names-sound-requires : tie.Need-names-sound-requires
-names-sound-requires c κs = sys (c .before)
-
-returns : tie.Need-returns
-returns c = fails (λ s. refutes _ (c .before .names-sound .ensures) (c .if1 .taken) (s .names))
-
 areas-entered-requires : tie.Need-areas-entered-requires
 areas-entered-requires c κs =
     let names = c .before in
     let start = names .before .before in
     record { catalog = sys start; legal = grants _ (names .names-sound .ensures) (c .if1 .left) .legal }
-
-returns-2 : tie.Need-returns-2
-returns-2 c = fails (λ s. refutes _ (c .before .areas-entered .ensures) (c .if2 .taken) (s .areas))
 
 files-sound-requires : tie.Need-files-sound-requires
 files-sound-requires c κs =
@@ -33,9 +24,6 @@ files-sound-requires c κs =
     let pre = names .before .before .pre in
     let known = pre .0 in
     (record { known = known; is = pre .1 }, names-known known (grants _ (names .names-sound .ensures) (else1 .if1 .left)))
-
-returns-3 : tie.Need-returns-3
-returns-3 c = files-refused (c .before .files-sound .ensures .1) (c .if3 .taken)
 
 map-agrees-requires : tie.Need-map-agrees-requires
 map-agrees-requires c κs =
@@ -58,11 +46,11 @@ pub layers-sound-spec : {M : Type 1} → statement M
 layers-sound-spec =
     tie.close
     (tie.spec
-    names-sound-requires
-    returns
+    (λ c κs. sys (c .before))
+    (λ c. fails (λ s. refutes _ (c .before .names-sound .ensures) (c .if1 .taken) (s .names)))
     areas-entered-requires
-    returns-2
+    (λ c. fails (λ s. refutes _ (c .before .areas-entered .ensures) (c .if2 .taken) (s .areas)))
     files-sound-requires
-    returns-3
+    (λ c. files-refused (c .before .files-sound .ensures .1) (c .if3 .taken))
     map-agrees-requires
     returns-4)

@@ -15,9 +15,6 @@ returns c =
     let name = start .args .name in
     fails (λ e. entered-first (start .pre) (name .0) (name .1) (name .2) (omega arith) (omega arith) e (c .if1 .taken))
 
-returns-2 : tie.Need-returns-2
-returns-2 c = fails (λ e. e .ordinary (T-of (sym (c .before .is-system .ensures) ∙ c .if2 .taken)))
-
 find-requires : tie.Need-find-requires
 find-requires c κs = let start = c .before .before .before .before .before in some-key (start .pre .catalog)
 
@@ -41,7 +38,7 @@ name-entered-spec =
     (tie.spec
     returns
     (λ c κs. search needs)
-    returns-2
+    (λ c. fails (λ e. e .ordinary (T-of (sym (c .before .is-system .ensures) ∙ c .if2 .taken))))
     find-requires
     (λ c. search needs)
     (λ c. search needs)

@@ -6,10 +6,10 @@ use Rattle.soundness.proofs.sound.Statement.{statement}
 use Rattle.soundness.proofs.sound.Tie as tie
 
 returns : tie.Need-returns
-returns c = holds (judged-sound (c .before .before .judge .ensures) (c .enum-told .given .1))
+returns c = let judge = c .before .before in holds (judged-sound (judge .judge .ensures) (c .enum-told .given .1))
 
 returns-2 : tie.Need-returns-2
-returns-2 c = fails (judged-unsound (c .before .before .judge .ensures) (c .enum-told2 .given .1))
+returns-2 c = let judge = c .before .before in fails (judged-unsound (judge .judge .ensures) (c .enum-told2 .given .1))
 
 pub sound-spec : {M : Type 1} → statement M
 sound-spec =

@@ -18,7 +18,9 @@ loop-holds : tie.Need-loop-holds Inv-loop μ-loop
 loop-holds c = (omega arith, λ k h. absurd (omega arith))
 
 returns : tie.Need-returns Inv-loop μ-loop
-returns c = fails (λ none. none _ (c .before .before .before .loop-test .taken) (sym (c .before .is-open .ensures) ∙ c .if1 .taken))
+returns c =
+    let turn = c .before .before .before in
+    fails (λ none. none _ (turn .loop-test .taken) (sym (c .before .is-open .ensures) ∙ c .if1 .taken))
 
 loop-again : tie.Need-loop-again Inv-loop μ-loop
 loop-again c =

@@ -4,7 +4,7 @@ use Rattle.state.proofs.opened_again.Statement.{statement}
 use Rattle.state.proofs.opened_again.Tie as tie
 
 returns : tie.Need-returns
-returns c = rw (c .before .before .raised-role .ensures .is)
+returns c = let raised-role = c .before .before in rw (raised-role .raised-role .ensures .is)
 
 pub opened-again-spec : {M : Type 1} → statement M
 opened-again-spec = tie.close (tie.spec (λ c κs. search needs) (λ c. search needs) returns)

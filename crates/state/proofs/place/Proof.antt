@@ -10,7 +10,7 @@ use Rattle.state.proofs.place.Tie as tie
 -- where the sender's own entry stands
 own-at : (c : tie.After-known-told) → let start = c .before .before .before .before in
     entryOf (start .args .sender) (start .args .area) ≡ At (c .before .u .given .0 .0)
-own-at c = sym (c .before .before .before .find-user .ensures .first) ∙ c .before .u .given .1
+own-at c = let find-user = c .before .before .before in sym (find-user .find-user .ensures .first) ∙ c .before .u .given .1
 
 returns : tie.Need-returns
 returns c =
@@ -24,16 +24,18 @@ returns c =
 returns-2 : tie.Need-returns-2
 returns-2 c =
     let opened-again = c .before .before in
-    let known-told = opened-again .before .before .before .before in
-    let user = opened-again .before .before .before .user-at .ensures in
+    let user-at = opened-again .before .before .before in
+    let known-told = user-at .before in
+    let user = user-at .user-at .ensures in
     let own = own-at known-told in
     let few = opened-again .before .if1 .taken in
     simp (c .answer .ensures, c .before .with-user .ensures, opened-again .opened-again .ensures, user, own, lt-ltb _ _ (rw user at few))
 
 returns-3 : tie.Need-returns-3
 returns-3 c =
-    let known-told = c .before .before .before .before in
-    let user = c .before .before .before .user-at .ensures in
+    let user-at = c .before .before .before in
+    let known-told = user-at .before in
+    let user = user-at .user-at .ensures in
     let own = own-at known-told in
     let full = c .before .if1 .left in
     simp (c .answer2 .ensures, own, le-ltb _ _ (rw user at full))

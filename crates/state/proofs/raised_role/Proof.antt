@@ -9,13 +9,17 @@ returns : tie.Need-returns
 returns c = role-raised (simp (c .before .enum-told .given .1, eq-eqb _ _ (c .if1 .taken)))
 
 returns-2 : tie.Need-returns-2
-returns-2 c = role-raised (simp (c .before .before .enum-told .given .1, ne-eqb _ _ (c .before .if1 .left), eq-eqb _ _ (c .if2 .taken)))
+returns-2 c =
+    let told = c .before .before in
+    role-raised (simp (told .enum-told .given .1, ne-eqb _ _ (c .before .if1 .left), eq-eqb _ _ (c .if2 .taken)))
 
 returns-3 : tie.Need-returns-3
 returns-3 c = role-raised (simp (c .before .enum-told2 .given .1, eq-eqb _ _ (c .if3 .taken)))
 
 returns-4 : tie.Need-returns-4
-returns-4 c = role-raised (simp (c .before .before .enum-told .given .1, ne-eqb _ _ (c .before .if1 .left), ne-eqb _ _ (c .if2 .left)))
+returns-4 c =
+    let told = c .before .before in
+    role-raised (simp (told .enum-told .given .1, ne-eqb _ _ (c .before .if1 .left), ne-eqb _ _ (c .if2 .left)))
 
 returns-5 : tie.Need-returns-5
 returns-5 c = role-raised (simp (c .before .enum-told2 .given .1, ne-eqb _ _ (c .if3 .left)))

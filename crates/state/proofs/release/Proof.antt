@@ -4,7 +4,9 @@ use Rattle.state.proofs.release.Statement.{statement}
 use Rattle.state.proofs.release.Tie as tie
 
 returns : tie.Need-returns
-returns c = rw (c .with-user .ensures, c .before .released-user .ensures, c .before .before .user-at .ensures)
+returns c =
+    let user-at = c .before .before in
+    rw (c .with-user .ensures, c .before .released-user .ensures, user-at .user-at .ensures)
 
 pub release-spec : {M : Type 1} → statement M
 release-spec =

@@ -8,7 +8,7 @@ returns : tie.Need-returns
 returns c = simp (c .vacant-user .ensures, le-leb _ _ (c .before .if1 .taken))
 
 returns-2 : tie.Need-returns-2
-returns-2 c = simp (lt-leb _ _ (c .before .before .if1 .left))
+returns-2 c = let else1 = c .before .before in simp (lt-leb _ _ (else1 .if1 .left))
 
 pub released-user-spec : {M : Type 1} → statement M
 released-user-spec = tie.close (tie.spec (λ c κs. search needs) returns (λ c. search needs) returns-2)

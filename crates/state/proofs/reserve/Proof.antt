@@ -5,10 +5,14 @@ use Rattle.state.proofs.reserve.Statement.{statement}
 use Rattle.state.proofs.reserve.Tie as tie
 
 returns : tie.Need-returns
-returns c = simp (c .answer .ensures, sym (c .before .before .shut-out .ensures) ∙ c .before .if1 .taken)
+returns c =
+    let shut-out = c .before .before in
+    simp (c .answer .ensures, sym (shut-out .shut-out .ensures) ∙ c .before .if1 .taken)
 
 returns-2 : tie.Need-returns-2
-returns-2 c = simp (c .place .ensures, sym (c .before .before .shut-out .ensures) ∙ c .before .if1 .left)
+returns-2 c =
+    let shut-out = c .before .before in
+    simp (c .place .ensures, sym (shut-out .shut-out .ensures) ∙ c .before .if1 .left)
 
 pub reserve-spec : {M : Type 1} → statement M
 reserve-spec =

@@ -6,7 +6,7 @@ use Rattle.transput.proofs.input.Statement.{statement}
 use Rattle.transput.proofs.input.Tie as tie
 
 area-at-requires : tie.Need-area-at-requires
-area-at-requires c κs = position-asks (c .before .before .pre .0) .0
+area-at-requires c κs = let pre = c .before .before .pre in position-asks (pre .0) .0
 
 attributes-of-requires : tie.Need-attributes-of-requires
 attributes-of-requires c κs = let start = c .before .before .before .before .before .before in searches (start .pre .0)

@@ -23,7 +23,9 @@ returns-2 : tie.Need-returns-2
 returns-2 c = simp (ne-eqb _ _ (c .before .if1 .left), eq-eqb _ _ (c .if2 .taken))
 
 returns-3 : tie.Need-returns-3
-returns-3 c = last (c .before .before .args .operation) (ne-eqb _ _ (c .before .if1 .left)) (ne-eqb _ _ (c .if2 .left))
+returns-3 c =
+    let a = c .before .before .args in
+    last (a .operation) (ne-eqb _ _ (c .before .if1 .left)) (ne-eqb _ _ (c .if2 .left))
 
 pub is-output-spec : {M : Type 1} → statement M
 is-output-spec =

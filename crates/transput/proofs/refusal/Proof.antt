@@ -15,7 +15,10 @@ returns-2 : tie.Need-returns-2
 returns-2 c = record { all = λ p on num f file. word-short _ _ _ _ _ _ (c .before .if1 .left) (c .if2 .taken) }
 
 returns-3 : tie.Need-returns-3
-returns-3 c = record { all = λ p on num f file. word-input _ _ _ _ _ _ (c .before .before .before .if1 .left) (c .before .before .if2 .left) (sym (c .before .is-output .ensures) ∙ not-true _ (c .if3 .taken)) }
+returns-3 c =
+    let else2 = c .before .before in
+    let else1 = else2 .before in
+    record { all = λ p on num f file. word-input _ _ _ _ _ _ (else1 .if1 .left) (else2 .if2 .left) (sym (c .before .is-output .ensures) ∙ not-true _ (c .if3 .taken)) }
 
 returns-4 : tie.Need-returns-4
 returns-4 c =
@@ -28,7 +31,7 @@ returns-4 c =
     }
 
 attributes-of-requires : tie.Need-attributes-of-requires
-attributes-of-requires c κs = c .before .before .before .before .before .before .before .pre
+attributes-of-requires c κs = let start = c .before .before .before .before .before .before .before in start .pre
 
 returns-5 : tie.Need-returns-5
 returns-5 c =

@@ -24,7 +24,7 @@ random : (c : tie.Else2) → let start = c .before .before .before .before .befo
 random c = sym (c .before .is-random .ensures) ∙ not-false _ (c .if2 .left)
 
 area-at-requires : tie.Need-area-at-requires
-area-at-requires c κs = seat-low (c .before .before .pre .seat)
+area-at-requires c κs = let pre = c .before .before .pre in seat-low (pre .seat)
 
 refusal-requires : tie.Need-refusal-requires
 refusal-requires c κs = let start = c .before .before .before .before .before in seated-searches (start .pre)

@@ -6,7 +6,7 @@ use Rattle.transput.proofs.transput_at.Statement.{statement}
 use Rattle.transput.proofs.transput_at.Tie as tie
 
 output-requires : tie.Need-output-requires
-output-requires c κs = c .before .before .before .before .before .before .pre
+output-requires c κs = let start = c .before .before .before .before .before .before in start .pre
 
 returns : tie.Need-returns
 returns c =
@@ -15,7 +15,7 @@ returns c =
     at-output (sym (then1 .before .is-output .ensures) ∙ then1 .if1 .taken) (output .output .ensures)
 
 input-requires : tie.Need-input-requires
-input-requires c κs = c .before .before .before .before .before .before .pre
+input-requires c κs = let start = c .before .before .before .before .before .before in start .pre
 
 returns-2 : tie.Need-returns-2
 returns-2 c =

@@ -8,8 +8,9 @@ use Rattle.words.proofs.clear_sector.Tie as tie
 
 returns : tie.Need-returns
 returns c =
-    let a = c .before .before .before .before .before .args in
-    c .before .before .clear-words .ensures ∙ store-start (a .image .now) (a .q .0) (zeroWords 256)
+    let cleared = c .before .before in
+    let a = cleared .before .before .before .args in
+    cleared .clear-words .ensures ∙ store-start (a .image .now) (a .q .0) (zeroWords 256)
 
 pub clear-sector-spec : {M : Type 1} → statement M
 clear-sector-spec = tie.close (tie.spec (λ c κs. search needs) (λ c. search needs) returns)

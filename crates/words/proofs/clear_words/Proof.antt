@@ -29,8 +29,10 @@ loop-again c =
 
 returns : tie.Need-returns Inv-loop μ-loop
 returns c =
-    let e : c .before .loop .i ≡ c .before .before .before .args .count = omega arith in
-    rw (← e) (c .before .loop .inv .1)
+    let at = c .before in
+    let start = at .before .before in
+    let e : at .loop .i ≡ start .args .count = omega arith in
+    rw (← e) (at .loop .inv .1)
 
 pub clear-words-spec : {M : Type 1} → statement M
 clear-words-spec =

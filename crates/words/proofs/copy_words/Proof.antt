@@ -31,8 +31,9 @@ loop-again c =
 
 returns : tie.Need-returns Inv-loop μ-loop
 returns c =
-    let e : c .before .loop .i ≡ c .before .before .args .count = omega arith in
-    rw (← e) (c .before .loop .inv .1)
+    let at = c .before in
+    let e : at .loop .i ≡ at .before .args .count = omega arith in
+    rw (← e) (at .loop .inv .1)
 
 pub copy-words-spec : {M : Type 1} → statement M
 copy-words-spec =

@@ -12,7 +12,7 @@ abbrev μ-loop : tie.MeasureT-loop
 μ-loop text from to base value₀ i₀ value i = to - i
 
 mul-value : tie.Need-mul-value Inv-loop μ-loop
-mul-value c = omega (arith, mul-le-mul (c .before .loop .inv) (c .before .before .before .pre .1))
+mul-value c = let pre = c .before .before .before .pre in omega (arith, mul-le-mul (c .before .loop .inv) (pre .1))
 
 add-value : tie.Need-add-value Inv-loop μ-loop
 add-value c =

@@ -12,10 +12,10 @@ abbrev μ-loop : tie.MeasureT-loop
 μ-loop image sum₀ i₀ sum i = length image - i
 
 cast-sum : tie.Need-cast-sum Inv-loop μ-loop
-cast-sum c = omega (arith, c .shared-slice-known .given (c .before .before .loop .i))
+cast-sum c = let l = c .before .before .loop in omega (arith, c .shared-slice-known .given (l .i))
 
 add-sum : tie.Need-add-sum Inv-loop μ-loop
-add-sum c = omega (arith, c .shared-slice-known .given (c .before .before .loop .i))
+add-sum c = let l = c .before .before .loop in omega (arith, c .shared-slice-known .given (l .i))
 
 pub checksum-spec : {M : Type 1} → statement M
 checksum-spec =

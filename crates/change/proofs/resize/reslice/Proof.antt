@@ -6,7 +6,7 @@ use Rattle.change.proofs.resize.reslice.Statement.{statement}
 use Rattle.change.proofs.resize.reslice.Tie as tie
 
 give-back-requires : tie.Need-give-back-requires
-give-back-requires c κs = can-cut (c .before .before .before .pre .can) (c .before .if1 .taken)
+give-back-requires c κs = let pre = c .before .before .before .pre in can-cut (pre .can) (c .before .if1 .taken)
 
 returns : tie.Need-returns
 returns c =
@@ -15,7 +15,9 @@ returns c =
     record { all = λ p n f can. cut-sliced can (then1 .if1 .taken) (given .give-back .ensures) }
 
 take-more-requires : tie.Need-take-more-requires
-take-more-requires c κs = can-lengthen (c .before .before .before .pre .can) (omega (arith, c .before .if1 .left))
+take-more-requires c κs =
+    let pre = c .before .before .before .pre in
+    can-lengthen (pre .can) (omega (arith, c .before .if1 .left))
 
 returns-2 : tie.Need-returns-2
 returns-2 c =

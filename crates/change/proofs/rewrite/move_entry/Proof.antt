@@ -6,7 +6,7 @@ use Rattle.change.proofs.rewrite.move_entry.Statement.{statement}
 use Rattle.change.proofs.rewrite.move_entry.Tie as tie
 
 clear-place-requires : tie.Need-clear-place-requires
-clear-place-requires c κs = move-room (c .before .before .pre .can)
+clear-place-requires c κs = let pre = c .before .before .pre in move-room (pre .can)
 
 find-unused-requires : tie.Need-find-unused-requires
 find-unused-requires c κs =

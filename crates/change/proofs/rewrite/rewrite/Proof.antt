@@ -18,7 +18,10 @@ told c =
     c .source-words .ensures ∙ ap (λ (b : Bool). cond b (entryAt (a .image .now) (a .f .place)) (take 16 (a .lent .now))) (c .before .bit .ensures)
 
 source-words-requires : tie.Need-source-words-requires
-source-words-requires c κs = let can = c .before .before .before .before .pre .can in (can .lentSize, place-inside can)
+source-words-requires c κs =
+    let start = c .before .before .before .before in
+    let can = start .pre .can in
+    (can .lentSize, place-inside can)
 
 resize-requires : tie.Need-resize-requires
 resize-requires c κs = let start = c .before .before .before .before .before .before in can-resize (start .pre .can)
