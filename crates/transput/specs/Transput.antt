@@ -48,7 +48,8 @@ inputState state j u result k = atPosition state j u (cond (eqb result 0) (suc k
 -- Answer and lent words are the plain unit's, the block is the position; the image stays, and the state is determined.
 pub record InputLeaves (image : List ℕ) (state : State) (p q : Plain) (n j sender u : ℕ) (f : File) (k : ℕ) (lent : List ℕ)
     (r : AreaReply) (after : List ℕ) : Type 0 where
-  pub leaves : Leaves (input q (moved p n sender (areaUsers state j) (areaUser state j u)) f k lent) (r .answer) after (StandFor image (r .state))
+  pub leaves : Leaves (input q (moved p n sender (areaUsers state j) (areaUser state j u)) f k lent)
+      (r .answer) after (StandFor image (r .state))
   pub block : r .answer .block .0 ≡ k
   pub reached : r .state ≡ inputState state j u (r .answer .result) k
 

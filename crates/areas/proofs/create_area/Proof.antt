@@ -15,7 +15,10 @@ find-name-requires c κs = let pre = c .before .before .pre in searchable (repre
 -- the search for the name is over
 sought : (f : tie.After-find-name) → let stored = f .before in let a = stored .before .before .args in
     Sought (a .image .now) (a .state) (a .unit) (a .name) (packed (stored .stored .result)) (f .find-name .result)
-sought f = let stored = f .before in record { meant = stored .before .before .pre; is = stored .stored .ensures .packed; finds = f .find-name .ensures }
+sought f =
+    let stored = f .before in
+    let start = stored .before .before in
+    record { meant = start .pre; is = stored .stored .ensures .packed; finds = f .find-name .ensures }
 
 -- it is that of a file, which has no area process
 file : (shut : tie.Else2) → let place = shut .before .before .before .before .before in let a = place .before .before .before .before .before .args in
@@ -24,30 +27,33 @@ file shut =
     let live = shut .before in
     let test = live .before .before in
     let place = test .before .before in
+    let found = place .before .before in
     record {
       n = _;
       r = _;
-      sought = sought (place .before .before);
+      sought = sought found;
       at = place .place .given .1;
       ordinary = sym (test .is-system .ensures) ∙ live .before .if1 .left;
       shut = sym (live .is-open .ensures) ∙ shut .if2 .left;
     }
 
 returns : tie.Need-returns
-returns c = creates-none (sought (c .before .before)) (c .enum-told .given .1)
+returns c = let found = c .before .before in creates-none (sought found) (c .enum-told .given .1)
 
 returns-2 : tie.Need-returns-2
 returns-2 c =
     let test = c .before in
     let place = test .before .before in
-    creates-system (sought (place .before .before)) (place .place .given .1) (sym (test .is-system .ensures) ∙ c .if1 .taken)
+    let found = place .before .before in
+    creates-system (sought found) (place .place .given .1) (sym (test .is-system .ensures) ∙ c .if1 .taken)
 
 returns-3 : tie.Need-returns-3
 returns-3 c =
     let live = c .before in
     let test = live .before .before in
     let place = test .before .before in
-    creates-open (sought (place .before .before)) (place .place .given .1)
+    let found = place .before .before in
+    creates-open (sought found) (place .place .given .1)
     (sym (test .is-system .ensures) ∙ live .before .if1 .left) (sym (live .is-open .ensures) ∙ c .if2 .taken)
 
 returns-4 : tie.Need-returns-4

@@ -14,7 +14,8 @@ ordinary : (left : tie.Else1) → let stored = left .before .before in let a = s
 ordinary left =
     let test = left .before in
     let stored = test .before in
-    record { meant = stored .before .before .pre; is = stored .stored .ensures .packed; other = sym (test .is-system .ensures) ∙ left .if1 .left }
+    let start = stored .before .before in
+    record { meant = start .pre; is = stored .stored .ensures .packed; other = sym (test .is-system .ensures) ∙ left .if1 .left }
 
 -- and has a descriptor
 live : (c : tie.After-area-at) → let told = c .before .before in let stored = told .before .before .before .before .before in let a = stored .before .before .args in
@@ -28,7 +29,8 @@ returns : tie.Need-returns
 returns c =
     let test = c .before in
     let stored = test .before in
-    removes-system (stored .before .before .pre) (stored .stored .ensures .packed) (sym (test .is-system .ensures) ∙ c .if1 .taken)
+    let start = stored .before .before in
+    removes-system (start .pre) (stored .stored .ensures .packed) (sym (test .is-system .ensures) ∙ c .if1 .taken)
 
 returns-2 : tie.Need-returns-2
 returns-2 c =
@@ -45,18 +47,20 @@ returns-3 : tie.Need-returns-3
 returns-3 c = let count = c .before in removes-used (live (count .before)) (λ z. c .if2 .taken (count .user-count .ensures ∙ z))
 
 find-name-requires : tie.Need-find-name-requires
-find-name-requires c κs = searchable (represented-on (live (c .before .before .before) .ordinary .meant .standing))
+find-name-requires c κs = let area = c .before .before .before in searchable (represented-on (live area .ordinary .meant .standing))
 
 returns-4 : tie.Need-returns-4
 returns-4 c =
     let f = c .before .before in
-    removes-lost (live (f .before .before .before .before)) (f .find-name .ensures) (c .enum-told2 .given .1)
+    let area = f .before .before .before .before in
+    removes-lost (live area) (f .find-name .ensures) (c .enum-told2 .given .1)
 
 book-requires : tie.Need-book-requires
 book-requires c κs =
     let place = c .before .before in
     let f = place .before .before in
-    can-book (live (f .before .before .before .before)) (f .find-name .ensures) (place .place .given .1)
+    let area = f .before .before .before .before in
+    can-book (live area) (f .find-name .ensures) (place .place .given .1)
 
 returns-5 : tie.Need-returns-5
 returns-5 c =

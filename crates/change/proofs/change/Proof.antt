@@ -21,14 +21,18 @@ find-name-requires c κs = let start = c .before .before .before .before in sear
 -- the search for the name is over
 sought : (f : tie.After-find-name) → let stored = f .before .before in let a = stored .before .before .before .args in
     Sought (a .image .now) (a .state) (a .unit) (a .name) (packed (stored .stored .result)) (f .find-name .result)
-sought f = let stored = f .before .before in record { meant = stored .before .before .before .pre; is = stored .stored .ensures .packed; finds = f .find-name .ensures }
+sought f =
+    let stored = f .before .before in
+    let start = stored .before .before .before in
+    record { meant = start .pre; is = stored .stored .ensures .packed; finds = f .find-name .ensures }
 
 -- 16 words are lent
-long : (c : tie.Else1) → 16 ≤ length (c .before .before .before .before .before .before .before .before .before .args .lent .now)
+long : (c : tie.Else1) → let start = c .before .before .before .before .before .before .before .before .before in 16 ≤ length (start .args .lent .now)
 long c = omega (arith, c .if1 .left)
 
 -- no bit 13 is asked for
-no-bit : (c : tie.Else2) → givesEntryOnly (attributesIn (c .before .before .before .before .before .before .before .before .before .before .before .before .args .lent .now)) ≡ false
+no-bit : (c : tie.Else2) → let start = c .before .before .before .before .before .before .before .before .before .before .before .before in
+    givesEntryOnly (attributesIn (start .args .lent .now)) ≡ false
 no-bit c = sym (c .before .gives-entry-only .ensures) ∙ c .if2 .left
 
 -- the name is that of a file, which has no area process
@@ -40,34 +44,40 @@ file shut =
     let own = live .before in
     let test = own .before in
     let place = test .before .before .before .before .before .before in
+    let found = place .before .before in
     record {
       n = _;
       r = _;
-      sought = sought (place .before .before);
+      sought = sought found;
       at = place .place .given .1;
       ordinary = sym (test .is-system .ensures) ∙ own .if3 .left;
       shut = sym (live .is-open .ensures) ∙ shut .if4 .left;
     }
 
 returns : tie.Need-returns
-returns c = changes-none (sought (c .before .before)) (c .enum-told .given .1)
+returns c = let found = c .before .before in changes-none (sought found) (c .enum-told .given .1)
 
 returns-2 : tie.Need-returns-2
-returns-2 c = let place = c .before .before in changes-short (sought (place .before .before)) (place .place .given .1) (c .if1 .taken)
+returns-2 c =
+    let place = c .before .before in
+    let found = place .before .before in
+    changes-short (sought found) (place .place .given .1) (c .if1 .taken)
 
 returns-3 : tie.Need-returns-3
 returns-3 c =
     let bit = c .before in
     let lent = bit .before .before in
     let place = lent .before .before in
-    changes-entry-only (sought (place .before .before)) (place .place .given .1) (long lent) (sym (bit .gives-entry-only .ensures) ∙ c .if2 .taken)
+    let found = place .before .before in
+    changes-entry-only (sought found) (place .place .given .1) (long lent) (sym (bit .gives-entry-only .ensures) ∙ c .if2 .taken)
 
 returns-4 : tie.Need-returns-4
 returns-4 c =
     let test = c .before in
     let lent = test .before .before .before .before in
     let place = lent .before .before in
-    changes-system (sought (place .before .before)) (place .place .given .1) (long lent) (sym (test .is-system .ensures) ∙ c .if3 .taken)
+    let found = place .before .before in
+    changes-system (sought found) (place .place .given .1) (long lent) (sym (test .is-system .ensures) ∙ c .if3 .taken)
 
 returns-5 : tie.Need-returns-5
 returns-5 c =
@@ -76,12 +86,16 @@ returns-5 c =
     let test = own .before in
     let lent = test .before .before .before .before in
     let place = lent .before .before in
-    changes-open (sought (place .before .before)) (place .place .given .1) (long lent) (no-bit (test .before))
+    let found = place .before .before in
+    changes-open (sought found) (place .place .given .1) (long lent) (no-bit (test .before))
     (sym (test .is-system .ensures) ∙ own .if3 .left) (sym (live .is-open .ensures) ∙ c .if4 .taken)
 
 change-file-requires : tie.Need-change-file-requires
 unfolding file
-change-file-requires c κs = let shut = c .before in can-change-file (file shut) (long (shut .before .before .before .before .before .before .before))
+change-file-requires c κs =
+    let shut = c .before in
+    let lent = shut .before .before .before .before .before .before .before in
+    can-change-file (file shut) (long lent)
 
 returns-6 : tie.Need-returns-6
 unfolding file
@@ -89,7 +103,8 @@ returns-6 c =
     let changed = c .before .before in
     let shut = changed .before .before in
     let no = shut .before .before .before .before in
-    changes-file (file shut) (long (no .before .before .before)) (no-bit no) (changed .change-file .ensures)
+    let lent = no .before .before .before in
+    changes-file (file shut) (long lent) (no-bit no) (changed .change-file .ensures)
 
 pub change-spec : {M : Type 1} → statement M
 change-spec =

@@ -37,7 +37,8 @@ judged-requires c κs =
 returns : tie.Need-returns
 returns c =
     let jud = c .before in
-    record { all = λ p f can. file-refused (known (jud .before .before)) can (jud .judged .ensures) (c .if1 .taken) }
+    let lay = jud .before .before in
+    record { all = λ p f can. file-refused (known lay) can (jud .judged .ensures) (c .if1 .taken) }
 
 rewrite-requires : tie.Need-rewrite-requires
 rewrite-requires c κs =
@@ -52,7 +53,8 @@ returns-2 c =
     let put = c .before .before in
     let room = put .before .before in
     let asked = room .before .before in
-    record { all = λ p f can. file-stays (known (asked .before .before .before)) can (allowed asked) (room .if2 .taken) (put .rewrite .ensures) }
+    let lay = asked .before .before .before in
+    record { all = λ p f can. file-stays (known lay) can (allowed asked) (room .if2 .taken) (put .rewrite .ensures) }
 
 grow-requires : tie.Need-grow-requires
 grow-requires c κs =
@@ -77,9 +79,10 @@ returns-3 c =
     let grow = put .before .before .before .before in
     let full = grow .before .before in
     let asked = full .before .before in
+    let lay = asked .before .before .before in
     record {
       all = λ p f can.
-          file-grows (known (asked .before .before .before)) can (allowed asked) (omega (arith, full .if2 .left)) (grow .grow .ensures) (put .rewrite2 .ensures);
+          file-grows (known lay) can (allowed asked) (omega (arith, full .if2 .left)) (grow .grow .ensures) (put .rewrite2 .ensures);
     }
 
 pub change-file-spec : {M : Type 1} → statement M
