@@ -3,7 +3,7 @@
 
 ghost use mathlib.Core.Path.{_≡_};
 ghost use mathlib.Core.List.{_++_};
-ghost use Prim.Native.Nat.{_+_, _≤_};
+ghost use Prim.Native.Nat.{_+_, _*_, _≤_, _<_};
 ghost use lib.ListN.{length, take, drop};
 ghost use Rattle.disc.specs.Names.{packed};
 ghost use Rattle.disc.specs.Entries.{entryFrom, systemEntry};
@@ -66,18 +66,29 @@ fn is_named_slot(image: &[u16], q: Sector, slot: u16, name: Name) -> bool
     ensures { λ r. ⌜ r ≡ slotNamed (now (image .entry)) (packed name) (q .0) slot ⌝ }
 {
     let at = slot as usize * 16;
-    let start = q.0 as usize * 256 + at;
-    if start < image.len() && image[start] != name.0 {
+    let first = words::word(image, q, at);
+    if first != name.0 {
         return false;
     }
-    let first = words::word(image, q, at);
     let second = words::word(image, q, at + 1);
     let third = words::word(image, q, at + 2);
     names::same_name(Name(first, second, third), name)
 }
 
-// The first slot of sector q with the name, 16 if there is none.
-pub fn slot_named(image: &[u16], q: Sector, name: Name) -> u16
+// The same in a sector that the image has whole.
+fn is_named_within(image: &[u16], q: Sector, slot: u16, name: Name) -> bool
+    requires { ⌜ (q .0 * 256 + 256 ≤ length (now image)) × (slot < 16) ⌝ }
+    ensures { λ r. ⌜ r ≡ slotNamed (now (image .entry)) (packed name) (q .0) slot ⌝ }
+{
+    let at = q.0 as usize * 256 + slot as usize * 16;
+    if image[at] != name.0 {
+        return false;
+    }
+    names::same_name(Name(image[at], image[at + 1], image[at + 2]), name)
+}
+
+// The first slot of sector q with the name, 16 if there is none; where the image may end before the sector does.
+fn slot_past(image: &[u16], q: Sector, name: Name) -> u16
     ensures { λ r. ⌜ r ≡ firstSlot (slotNamed (now (image .entry)) (packed name) (q .0)) ⌝ }
 {
     let mut i: u16 = 0;
@@ -88,6 +99,31 @@ pub fn slot_named(image: &[u16], q: Sector, name: Name) -> u16
         i += 1;
     }
     16
+}
+
+// The same in a sector that the image has whole: most of a search is this loop, and it asks for no index's bounds.
+fn slot_within(image: &[u16], q: Sector, name: Name) -> u16
+    requires { ⌜ q .0 * 256 + 256 ≤ length (now image) ⌝ }
+    ensures { λ r. ⌜ r ≡ firstSlot (slotNamed (now (image .entry)) (packed name) (q .0)) ⌝ }
+{
+    let mut i: u16 = 0;
+    while i < 16 {
+        if is_named_within(image, q, i, name) {
+            return i;
+        }
+        i += 1;
+    }
+    16
+}
+
+// The first slot of sector q with the name, 16 if there is none.
+pub fn slot_named(image: &[u16], q: Sector, name: Name) -> u16
+    ensures { λ r. ⌜ r ≡ firstSlot (slotNamed (now (image .entry)) (packed name) (q .0)) ⌝ }
+{
+    if image.len() < q.0 as usize * 256 + 256 {
+        return slot_past(image, q, name);
+    }
+    slot_within(image, q, name)
 }
 
 // Whether a slot of sector q has 16 zero words.
