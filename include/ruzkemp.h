@@ -396,7 +396,8 @@ static inline ruzkemp_answer ruzkemp_set(ruzkemp_unit *unit, ruzkemp_name name, 
     return ruzkemp_send(unit, ruzkemp_named_message(RUZKEMP_CALL_SET, name), entry, RUZKEMP_ENTRY_WORDS);
 }
 
-/* Create: a new file of so many sectors, all zero; attributes without ENTRY_ONLY. */
+/* Create: a new file of so many sectors, all zero; attributes without ENTRY_ONLY. It lies in one stretch where as many neighbouring slices are
+   free, the lowest that are. */
 static inline ruzkemp_answer ruzkemp_create(ruzkemp_unit *unit, ruzkemp_name name, uint16_t size, uint16_t attributes)
 {
     ruzkemp_message message = ruzkemp_named_message(RUZKEMP_CALL_CREATE, name);

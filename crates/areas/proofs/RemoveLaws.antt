@@ -1,7 +1,7 @@
 -- The answers of Remove area on the plain unit, by what the searches of the state and of SYS found.
 use mathlib.Core.Path.{_≡_, refl, sym, ap, _∙_}
 use mathlib.Core.Bool.{true, false}
-use mathlib.Core.List.{List, [], _∷_}
+use mathlib.Core.List.{List}
 use mathlib.Core.Logic.{_≢_}
 use mathlib.Core.Option.{none, some}
 use Prim.Native.Nat.{ℕ, _<_}
@@ -14,6 +14,7 @@ use Rattle.types.specs.declared.Area.{Area}
 use Rattle.types.specs.declared.State.{State}
 use Rattle.types.specs.State.{areaAt}
 use Rattle.disc.specs.Names.{named, unitIn, isSystem}
+use Rattle.disc.proofs.SliceLaws.{none-left}
 use Rattle.catalog.specs.declared.Place.{Place}
 use Rattle.catalog.specs.declared.Found.{Found}
 use Rattle.catalog.specs.declared.Found.the-variants as place
@@ -38,10 +39,6 @@ use Rattle.lookup.specs.Find.{FindsName}
 use Rattle.lookup.proofs.MeantLaws.{meant-known}
 use Rattle.lookup.proofs.MessageLaws.{Sought, found, name-at}
 use Rattle.areas.specs.Areas.{CanBookFrom, CanBook, Booked, RemovesArea, dummyRemove, books}
-
-pub none-left : {A : Type 0} (l : List A) → length l ≡ 0 → l ≡ []
-none-left [] e = refl
-none-left (x ∷ l) e = absurd (omega arith)
 
 -- ---- on the plain unit
 

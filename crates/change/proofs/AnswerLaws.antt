@@ -11,7 +11,8 @@ use lib.Seq.{take-all}
 use borrow.Author.Tests.{le-leb}
 use Rattle.disc.specs.Names.{legalName}
 use Rattle.disc.specs.Attributes.{legalAttributes, legalWith, permanent}
-use Rattle.disc.specs.Slices.{taken, lastOf}
+use Rattle.disc.specs.OneStretch.{takenForFile}
+use Rattle.disc.proofs.OneStretchLaws.{for-file-none}
 use Rattle.disc.specs.Stretches.{stretchCount}
 use Rattle.disc.proofs.Compare.{below-or}
 use Rattle.disc.proofs.CutLaws.{count-take}
@@ -149,7 +150,7 @@ module _ (p : Plain) (n m size attributes : ℕ) (f : File) (lent : List ℕ) wh
       (asks b (replies p 0x1008 lent) (done (withTables p (t .layers) (p .sys ++ t .catalogNew) changeFiles (p .areas)) lent)))) same
     where
       nothing : count - length (f .slices) ≡ 0 → t .fileNew ≡ []
-      nothing z = ap (taken (M p) (t .catalogNew ++ held p) (lastOf (f .slices))) z
+      nothing z = ap (takenForFile (M p) (t .catalogNew ++ held p) (f .slices)) z ∙ for-file-none (M p) (t .catalogNew ++ held p) (f .slices)
 
       same : leb (stretchCount slices) 127 ≡ leb (stretchCount (f .slices ++ t .fileNew)) 127
       same = below-or (length (f .slices)) count

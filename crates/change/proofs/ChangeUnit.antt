@@ -1,7 +1,7 @@
 -- Change leaves the image of the plain unit after it, with the state as it was.
 use mathlib.Core.Path.{_≡_, refl, sym, ap, _∙_, subst}
 use mathlib.Core.Bool.{Bool, cond}
-use mathlib.Core.List.{List, _++_}
+use mathlib.Core.List.{List, [], _++_}
 use mathlib.Core.Logic.{_≢_}
 use mathlib.Core.Option.{some}
 use Prim.Native.Nat.{ℕ, suc, _+_, _-_, _≤_, _<_}
@@ -67,13 +67,13 @@ on-grown : (p : Plain) (n : ℕ) (f : File) (lent : List ℕ) → ChangeAsked p 
     → layersThen p n lent ≡ suc (p .layers) → OnDisc image p → GrownFrom image p i → OnDisc i (grownUnit p)
 on-grown p n f lent asked next o gf = subst (λ (j : List ℕ). OnDisc j (grownUnit p)) (sym (gf .written)) (grow-on o room few (gf .place) (gf .inside) (gf .named))
   where
-    room : taking p (sysOf p) (suc (p .layers)) 0 0 .forCatalog ≤ freeSlices p
+    room : taking p (sysOf p) (suc (p .layers)) [] 0 .forCatalog ≤ freeSlices p
     room =
-        let h : taking p (sysOf p) (layersThen p n lent) 0 0 .forCatalog + (slicesAfter (p .s) (sizeThen f lent) f - length (f .slices)) ≤ freeSlices p = leb→le _ _ (asked .room) in
-        subst (λ (l : ℕ). taking p (sysOf p) l 0 0 .forCatalog ≤ freeSlices p) next (omega arith)
+        let h : taking p (sysOf p) (layersThen p n lent) [] 0 .forCatalog + (slicesAfter (p .s) (sizeThen f lent) f - length (f .slices)) ≤ freeSlices p = leb→le _ _ (asked .room) in
+        subst (λ (l : ℕ). taking p (sysOf p) l [] 0 .forCatalog ≤ freeSlices p) next (omega arith)
 
-    few : stretchCount (p .sys ++ taking p (sysOf p) (suc (p .layers)) 0 0 .catalogNew) ≤ 127
-    few = subst (λ (l : ℕ). stretchCount (p .sys ++ taking p (sysOf p) l 0 0 .catalogNew) ≤ 127) next (leb→le _ _ (asked .sysFew))
+    few : stretchCount (p .sys ++ taking p (sysOf p) (suc (p .layers)) [] 0 .catalogNew) ≤ 127
+    few = subst (λ (l : ℕ). stretchCount (p .sys ++ taking p (sysOf p) l [] 0 .catalogNew) ≤ 127) next (leb→le _ _ (asked .sysFew))
 
 module _ (p : Plain) (n : ℕ) (f : File) (lent : List ℕ) (g : Good p) (found : tableFind n (p .files) ≡ some f) (words : Words lent) (rec : T (isRecord lent))
     (asked : ChangeAsked p n (newName n lent) (sizeThen f lent) (attributesThen f lent) f lent) where

@@ -1,7 +1,7 @@
 -- Change of a closed file: the plain unit's outcome, and what the writes ask for and leave.
 use mathlib.Core.Path.{_≡_, refl, sym, ap, ap₂, _∙_, subst}
 use mathlib.Core.Bool.{Bool, true, false, not, cond}
-use mathlib.Core.List.{List, _++_}
+use mathlib.Core.List.{List, [], _++_}
 use mathlib.Core.Logic.{_≢_}
 use mathlib.Core.Option.{none}
 use Prim.Native.Nat.{ℕ, suc, _+_, _*_, _-_, _≤_, _<_}
@@ -216,9 +216,9 @@ module _ {image : List ℕ} {o : Unit} {n : ℕ} {place : Place} {lent : List �
         grow-from = record {
           catalog = sys-in (can .on) (can .numbers);
           room =
-              let h : taking p (sysOf p) (layersThen p n lent) 0 0 .forCatalog + (slicesAfter (p .s) (sizeThen f lent) f - length (f .slices)) ≤ freeSlices p = leb→le _ _ (asked .room) in
-              subst (λ (l : ℕ). taking p (sysOf p) l 0 0 .forCatalog ≤ freeSlices p) next-layers (omega arith);
-          few = subst (λ (l : ℕ). stretchCount (p .sys ++ taking p (sysOf p) l 0 0 .catalogNew) ≤ 127) next-layers (leb→le _ _ (asked .sysFew));
+              let h : taking p (sysOf p) (layersThen p n lent) [] 0 .forCatalog + (slicesAfter (p .s) (sizeThen f lent) f - length (f .slices)) ≤ freeSlices p = leb→le _ _ (asked .room) in
+              subst (λ (l : ℕ). taking p (sysOf p) l [] 0 .forCatalog ≤ freeSlices p) next-layers (omega arith);
+          few = subst (λ (l : ℕ). stretchCount (p .sys ++ taking p (sysOf p) l [] 0 .catalogNew) ≤ 127) next-layers (leb→le _ _ (asked .sysFew));
         }
 
         pub can-grow : CanGrow image o

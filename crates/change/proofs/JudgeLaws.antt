@@ -6,7 +6,6 @@ use Prim.Native.Nat.{ℕ, _-_}
 use lib.Dec.{eqb}
 use Rattle.disc.specs.Names.{legalName}
 use Rattle.disc.specs.Attributes.{legalAttributes, legalWith, permanent}
-use Rattle.disc.specs.Slices.{lastOf}
 use Rattle.catalog.specs.declared.Unit.{Unit}
 use Rattle.plain.specs.Table.{isSome}
 use Rattle.plain.specs.Unit.{Plain, File, entry, sysOf}
@@ -67,7 +66,7 @@ module _ {image : List ℕ} {o : Unit} {now : Standing} {w : Wanted} {layers : �
         → x ≡ changeFile p n f m (w .size) (w .attributes) lent .answer .result
     judge-room {x = x} {more = more} lent t h e room =
         let fs = changeFiles p n m (w .size) (w .attributes) f lent in
-        let t₀ : ℕ → ℕ → Taking = λ l k. taking p (sysOf p) l (lastOf (f .slices)) k in
+        let t₀ : ℕ → ℕ → Taking = λ l k. taking p (sysOf p) l (f .slices) k in
         room .all p (sysOf p) (f .slices) judge-asked lent fs
         ∙ ap₂ (λ (l k : ℕ). enough p (sysOf p) (t₀ l k) (f .slices ++ t₀ l k .fileNew) lent fs .answer .result) (a .layered) (e ∙ ap₂ (λ (y z : ℕ). y - z) (a .slices) (a .stands .slices))
         ∙ sym (ap (λ (y : Outcome). y .answer .result)

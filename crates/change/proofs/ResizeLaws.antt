@@ -7,10 +7,12 @@ use native.Mathlib.Nat.{mul-comm}
 use lib.ListN.{length, take, drop, drop-of-length-le}
 use lib.Seq.{take-all, drop-at}
 use Rattle.disc.specs.Numbers.{need}
-use Rattle.disc.specs.Slices.{occurrences, InRangeOnce, taken, lastOf}
+use Rattle.disc.specs.Slices.{occurrences, InRangeOnce}
+use Rattle.disc.specs.OneStretch.{takenForFile}
 use Rattle.disc.specs.Stretches.{sectorIn, fileFrom}
 use Rattle.disc.proofs.NumberLaws.{ceilDiv-le}
-use Rattle.disc.proofs.SliceLaws.{occurrences-append, length-taken, taken-law, length-after, occurrences-take}
+use Rattle.disc.proofs.SliceLaws.{occurrences-append, length-after, occurrences-take}
+use Rattle.disc.proofs.OneStretchLaws.{length-for-file, for-file-law, for-file-none}
 use Rattle.index.specs.Block.{wholeIndex}
 use Rattle.catalog.specs.declared.Unit.{Unit}
 use Rattle.plain.specs.Unit.{Plain, File, M, held}
@@ -19,7 +21,7 @@ use Rattle.refine.proofs.Ground.{Ground, ground, part-file}
 use Rattle.preservation.proofs.ResizeLaws.{Resizes, resizes-taken, cut-none, resliced-size}
 use Rattle.preservation.proofs.WriteLaws.{taken-none}
 use Rattle.slices.specs.FileBlock.{FileBlock}
-use Rattle.slices.specs.Take.{CanLengthenFrom, CanLengthen, Lengthened}
+use Rattle.slices.specs.Take.{CanLengthenFrom, CanLengthenFile, Lengthened}
 use Rattle.slices.specs.Give.{CanCutFrom, CanCut, Cut}
 use Rattle.slices.specs.Zero.{CanZeroFrom, CanZero, Zeroed}
 use Rattle.slices.proofs.BlockLaws.{unit-file}
@@ -33,7 +35,7 @@ module _ {image : List ℕ} {o : Unit} {block : List ℕ} {had has : ℕ} {p : P
   l = f .slices
 
   abbrev new : List ℕ
-  new = taken (M p) (held p) (lastOf l) (has - length l)
+  new = takenForFile (M p) (held p) l (has - length l)
 
   abbrev l′ : List ℕ
   l′ = slicesThen p f has
@@ -50,7 +52,7 @@ module _ {image : List ℕ} {o : Unit} {block : List ℕ} {had has : ℕ} {p : P
       (λ k. omega (arith, part k, can .on .good .once k))
 
   new-length : length new ≡ has - length l
-  new-length = length-taken (M p) (held p) (lastOf l) (has - length l)
+  new-length = length-for-file (M p) (held p) l (has - length l)
 
   pub then-resizes : Resizes l (slicesThen p f has)
   then-resizes = resizes-taken l l′ new has new-length refl
@@ -63,7 +65,7 @@ module _ {image : List ℕ} {o : Unit} {block : List ℕ} {had has : ℕ} {p : P
     then-cut : slicesThen p f has ≡ take has l
     then-cut =
         let z : has - length l ≡ 0 = omega (arith, can .count) in
-        ap (λ (x : ℕ). take has l ++ taken (M p) (held p) (lastOf l) x) z ∙ append-nil (take has l)
+        ap (λ (x : ℕ). take has l ++ takenForFile (M p) (held p) l x) z ∙ ap (λ (x : List ℕ). take has l ++ x) (for-file-none (M p) (held p) l) ∙ append-nil (take has l)
 
     cut-from : CanCutFrom image block (p .F) (p .s) (M p) had l
     cut-from = record { file = had-file; count = sym (can .count) }
@@ -90,7 +92,7 @@ module _ {image : List ℕ} {o : Unit} {block : List ℕ} {had has : ℕ} {p : P
     then-longer : slicesThen p f has ≡ l ++ new
     then-longer = ap (λ (k : List ℕ). k ++ new) (take-all has l (omega (arith, can .count)))
 
-    longer-from : {k : ℕ} → k ≡ has - had → CanLengthenFrom image block (p .F) (p .s) (M p) k (held p) l
+    longer-from : {k : ℕ} → k ≡ has - had → CanLengthenFrom image block (p .F) (p .s) (M p) k (held p) l (takenForFile (M p) (held p) l k)
     longer-from {k} e =
         let z : has - length l ≡ k = omega (arith, can .count) in
         record {
@@ -102,7 +104,7 @@ module _ {image : List ℕ} {o : Unit} {block : List ℕ} {had has : ℕ} {p : P
           few = rw z at (rw then-longer at (can .few));
         }
 
-    pub can-lengthen : CanLengthen image block (o .first .0) (o .slice) (o .slices) (has - had)
+    pub can-lengthen : CanLengthenFile image block (o .first .0) (o .slice) (o .slices) (has - had)
     can-lengthen = rw (can .numbers .first, can .numbers .slice, can .numbers .slices) (record { held = held p; slices = l; can = longer-from refl })
 
     pub longer-sliced : {after longer : List ℕ} → Lengthened image block (o .first .0) (o .slice) (o .slices) (has - had) after longer
@@ -111,12 +113,12 @@ module _ {image : List ℕ} {o : Unit} {block : List ℕ} {had has : ℕ} {p : P
         let own : Lengthened image block (p .F) (p .s) (M p) (has - had) after longer = rw (can .numbers .first, can .numbers .slice, can .numbers .slices) at c in
         let z : has - had ≡ has - length l = omega (arith, can .count) in
         let r = own .all (held p) l (longer-from refl) in
-        let e : l ++ taken (M p) (held p) (lastOf l) (has - had) ≡ l′ = ap (λ (x : ℕ). l ++ taken (M p) (held p) (lastOf l) x) z ∙ sym then-longer in
+        let e : l ++ takenForFile (M p) (held p) l (has - had) ≡ l′ = ap (λ (x : ℕ). l ++ takenForFile (M p) (held p) l x) z ∙ sym then-longer in
         let q : ℕ = sectorIn (p .F) (p .s) l′ 0 in
         let same : cutImage image q (p .F) (p .s) l (length l′) ≡ image = cut-none image q (p .F) (p .s) l (length l′) (omega (arith, then-length, can .count)) in
-        let last : taken (M p) (held p) (lastOf l) (has - had) ≡ drop (length l) l′ =
-        ap (taken (M p) (held p) (lastOf l)) z ∙ sym (drop-at l new (length l) refl) ∙ ap (drop (length l)) (sym then-longer) in (
-          r .0 ∙ ap (λ (k : List ℕ). takenImage image (sectorIn (p .F) (p .s) k 0) (p .F) (p .s) l (taken (M p) (held p) (lastOf l) (has - had))) e
+        let last : takenForFile (M p) (held p) l (has - had) ≡ drop (length l) l′ =
+        ap (takenForFile (M p) (held p) l) z ∙ sym (drop-at l new (length l) refl) ∙ ap (drop (length l)) (sym then-longer) in (
+          r .0 ∙ ap (λ (k : List ℕ). takenImage image (sectorIn (p .F) (p .s) k 0) (p .F) (p .s) l (takenForFile (M p) (held p) l (has - had))) e
               ∙ ap₂ (λ (i k : List ℕ). takenImage i q (p .F) (p .s) l k) (sym same) last,
           r .1 ∙ ap (wholeIndex (p .F) (p .s)) e,
         )
@@ -130,7 +132,7 @@ module _ {image : List ℕ} {o : Unit} {block : List ℕ} {had has : ℕ} {p : P
         occurrences-append k new (held p),
         occurrences-take k has l,
         part k,
-        taken-law (M p) (held p) (lastOf l) (has - length l) (can .on .good .once) (can .room) k,
+        for-file-law (M p) (held p) l (has - length l) (can .on .good .once) (can .room) k,
       )
 
   pub then-file : {after block′ : List ℕ} → Resliced image o block had has after block′ → FileBlock after block′ (p .F) (p .s) (M p) (slicesThen p f has)

@@ -5,7 +5,7 @@ use mathlib.Core.Option.{some}
 use Prim.Native.Nat.{ℕ, _-_, _≤_}
 use lib.ListN.{length, take, drop}
 use Rattle.disc.specs.Numbers.{need}
-use Rattle.disc.specs.Slices.{taken, lastOf}
+use Rattle.disc.specs.OneStretch.{takenForFile}
 use Rattle.disc.specs.Stretches.{stretchCount, sectorIn}
 use Rattle.index.specs.Block.{wholeIndex}
 use Rattle.catalog.specs.declared.Unit.{Unit}
@@ -18,7 +18,7 @@ use Rattle.lookup.specs.Unit.{NumbersOf}
 
 -- "Gives back from the end or takes until need is met": the slices of a file that is to have `count` of them.
 abbrev pub slicesThen : Plain → File → ℕ → List ℕ
-slicesThen p f count = take count (f .slices) ++ taken (M p) (held p) (lastOf (f .slices)) (count - length (f .slices))
+slicesThen p f count = take count (f .slices) ++ takenForFile (M p) (held p) (f .slices) (count - length (f .slices))
 
 -- ---- the slices
 

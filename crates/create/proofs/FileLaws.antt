@@ -11,7 +11,8 @@ use Rattle.disc.specs.Stretches.{sectorIn, fileFrom}
 use Rattle.disc.specs.Entries.{entryWords, indexSector}
 use Rattle.disc.specs.Catalog.{placeSector}
 use Rattle.disc.proofs.NumberLaws.{need-le}
-use Rattle.disc.proofs.SliceLaws.{sum-law, length-taken}
+use Rattle.disc.proofs.SliceLaws.{sum-law}
+use Rattle.disc.proofs.OneStretchLaws.{length-for-file}
 use Rattle.words.specs.Store.{store, zeroWords}
 use Rattle.words.proofs.StoreLaws.{length-store}
 use Rattle.index.specs.Block.{wholeIndex, jointSector}
@@ -35,10 +36,10 @@ use Rattle.lookup.specs.Unit.{NumbersOf}
 use Rattle.lookup.proofs.UnitLaws.{on-catalog}
 use Rattle.lookup.proofs.FindLaws.{place-room}
 use Rattle.slices.specs.FileBlock.{FileBlock}
-use Rattle.slices.specs.Take.{CanLengthenFrom, CanLengthen, Lengthened}
+use Rattle.slices.specs.Take.{CanLengthenFrom, CanLengthenFile, Lengthened}
 use Rattle.slices.specs.Zero.{CanZeroFrom, CanZero, Zeroed}
 use Rattle.slices.proofs.BlockLaws.{unit-file, index-told}
-use Rattle.slices.proofs.StoreLaws.{length-taken-image, longer-file}
+use Rattle.slices.proofs.StoreLaws.{length-taken-image, file-fresh, longer-file}
 use Rattle.create.specs.Create.{unitWith, CreatedOn, AskedFrom, CanWriteFrom}
 use Rattle.create.proofs.LegalLaws.{Legal, legal-all}
 
@@ -98,7 +99,7 @@ module _ {image : List ℕ} {o : Unit} {place : Place} {n size attributes : ℕ}
   on-created = let a = can .placeFor .at in create-on (asked .on) new t (a .is .inside) (a .first .unused) (a .first .key)
 
   length-slices : length (f .slices) ≡ count
-  length-slices = length-taken (M p) (held p) 0 count
+  length-slices = length-for-file (M p) (held p) [] count
 
   -- ---- the slices
 
@@ -111,7 +112,7 @@ module _ {image : List ℕ} {o : Unit} {place : Place} {n size attributes : ℕ}
       let all : count ≤ M p = omega (arith, can .room, sum-law (M p) (held p) (asked .on .good .once)) in
       omega (arith, q, mul-le-mul-left (p .s) all, mul-comm (p .s) (M p), top p gr, asked .on .good .limits .sectors)
 
-  can-own : {none : List ℕ} → none ≡ zeroWords 256 → CanLengthenFrom image none (p .F) (p .s) (M p) count (held p) []
+  can-own : {none : List ℕ} → none ≡ zeroWords 256 → CanLengthenFrom image none (p .F) (p .s) (M p) count (held p) [] (f .slices)
   can-own e = record {
     file = none-file (asked .on) e;
     map = asked .on .layout .map;
@@ -121,7 +122,7 @@ module _ {image : List ℕ} {o : Unit} {place : Place} {n size attributes : ℕ}
     few = can .few;
   }
 
-  pub can-take : {none : List ℕ} {k : ℕ} → none ≡ zeroWords 256 → k ≡ need (o .slice) size → CanLengthen image none (o .first .0) (o .slice) (o .slices) k
+  pub can-take : {none : List ℕ} {k : ℕ} → none ≡ zeroWords 256 → k ≡ need (o .slice) size → CanLengthenFile image none (o .first .0) (o .slice) (o .slices) k
   can-take {none} {k} e q = record {
     held = held p;
     slices = [];
@@ -145,7 +146,7 @@ module _ {image : List ℕ} {o : Unit} {place : Place} {n size attributes : ℕ}
     same = ap length (took-is .0) ∙ length-taken-image image (sectorIn (p .F) (p .s) (f .slices) 0) (p .F) (p .s) [] (f .slices)
 
     file : FileBlock taken block (p .F) (p .s) (M p) (f .slices)
-    file = longer-file (can-own e) same (took-is .1)
+    file = longer-file (can-own e) (file-fresh (can-own e)) same (took-is .1)
 
     -- ---- the blocks
 

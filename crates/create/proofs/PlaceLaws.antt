@@ -44,7 +44,7 @@ use Rattle.create.proofs.FileLaws.{three, six, legal}
 -- Questions 7 and 8, with SYS at l layers.
 abbrev roomOutcome : Plain → ℕ → ℕ → ℕ → ℕ → List ℕ → List ℕ → List ℕ → Outcome
 roomOutcome p l n size attributes optional tail lent =
-    let t : Taking = taking p (sysOf p) l 0 (need (p .s) size) in
+    let t : Taking = taking p (sysOf p) l [] (need (p .s) size) in
     enough p (sysOf p) t (t .fileNew) lent (tablePut n (fileWith p size attributes optional tail (t .fileNew)) (p .files))
 
 module _ {image : List ℕ} {o : Unit} {n size attributes : ℕ} {words : List ℕ} {p : Plain} (asked : AskedFrom image o n size attributes words p) where
@@ -85,12 +85,12 @@ module _ {image : List ℕ} {o : Unit} {n size attributes : ℕ} {words : List �
       room-word lent =
           let c : k ≡ need (p .s) size = count ∙ ap (λ (s : ℕ). need s size) (asked .numbers .slice) in
           let own : RoomFor image o l none (need (p .s) size) r = rw (is, c) at answer in
-          own .all p (sysOf p) [] (asked-of e) lent (tablePut n (fileWith p size attributes optional tail (taking p (sysOf p) l 0 (need (p .s) size) .fileNew)) (p .files))
+          own .all p (sysOf p) [] (asked-of e) lent (tablePut n (fileWith p size attributes optional tail (taking p (sysOf p) l [] (need (p .s) size) .fileNew)) (p .files))
 
       room-refused : (r ≡ 0 → ⊥) → NewFileStep p image n size attributes optional tail image r
       room-refused ne = record {
         step = λ lent.
-            let t : Taking = taking p (sysOf p) l 0 (need (p .s) size) in
+            let t : Taking = taking p (sysOf p) l [] (need (p .s) size) in
             let files : Table File = tablePut n (fileWith p size attributes optional tail (t .fileNew)) (p .files) in
             refuses ne
             (rest-is lent ∙ enough-no p (sysOf p) t (t .fileNew) lent files (λ z. ne (room-word lent ∙ z)) ∙ ap (λ (w : ℕ). replies p w lent) (sym (room-word lent)))
@@ -99,7 +99,7 @@ module _ {image : List ℕ} {o : Unit} {n size attributes : ℕ} {words : List �
 
       room-yes : r ≡ 0 → Yes p l n size attributes
       room-yes z =
-          let t : Taking = taking p (sysOf p) l 0 (need (p .s) size) in
+          let t : Taking = taking p (sysOf p) l [] (need (p .s) size) in
           let files : Table File = tablePut n (fileWith p size attributes optional tail (t .fileNew)) (p .files) in
           let en = enough-yes p (sysOf p) t (t .fileNew) [] files (sym (room-word []) ∙ z) in
           let ok = legal asked in

@@ -13,6 +13,8 @@ use Rattle.disc.specs.Kit.{kitSector, mapSector}
 use Rattle.disc.specs.Map.{mapWord}
 use Rattle.disc.specs.Names.{named}
 use Rattle.disc.proofs.WordLaws.{words-none, words-replicate}
+use Rattle.disc.specs.Slices.{lowestOne}
+use Rattle.disc.specs.OneStretch.{lowestStretch, takenForFile}
 use Rattle.plain.specs.Table.{tableFind}
 use Rattle.plain.specs.Unit.{Plain, File, M, held, entry}
 use Rattle.plain.specs.Questions.{Outcome, asks, given, either}
@@ -21,9 +23,9 @@ use Rattle.plain.specs.Areas.{stepReserve, stepRelease, positioned}
 use Rattle.plain.specs.Transput.{input, append, output, stepTransput}
 use Rattle.plain.specs.Step.{Call, Reply, userStep, operationStep, after, answers}
 use Rattle.plain.specs.Good.{Good}
-use Rattle.plain.specs.Claims.{LentWords}
+use Rattle.plain.specs.Claims.{LentWords, slicesIn}
 use Rattle.examples.specs.Cases.{callsOf, answersIn}
-use Rattle.examples.specs.Paper.{paperUnit, pass, slicesIn, passSlices, lookedUp, sixCalls, sevenCalls, eightCalls, sixth, seventh}
+use Rattle.examples.specs.Paper.{paperUnit, pass, passSlices, lookedUp, sixCalls, sevenCalls, eightCalls, sixth, seventh}
 use Rattle.examples.proofs.Paper.{paper}
 use Rattle.refine.specs.Represents.{Represents}
 use Rattle.refine.proofs.Format.{format-paper}
@@ -134,19 +136,19 @@ eight-words =
 
 module _ {replies : List Reply} {fresh end : List ℕ} {stop : State} where
   six : FromFormat (callsOf sixCalls) replies fresh end stop → Holds end 12 (1 ∷ 4 ∷ 12 ∷ []) × (word end mapSector 0 ≡ 0x1800) × (word end kitSector 3 ≡ 4)
-  unfolding entry asks given either newFile stepReserve stepRelease positioned input append output stepTransput userStep operationStep
+  unfolding lowestOne lowestStretch takenForFile entry asks given either newFile stepReserve stepRelease positioned input append output stepTransput userStep operationStep
   six b =
       let s : Standing end stop sixth = ends b six-words .1 in
       (pass-index s 2 (3 ∷ []) refl, map-start s ∙ paper .p6 .2, s .represents .layout .kit .unused ∙ paper .p6 .3)
 
   seven : FromFormat (callsOf sevenCalls) replies fresh end stop → Holds end 12 (1 ∷ 6 ∷ 12 ∷ []) × (word end kitSector 3 ≡ 2) × LookUpGives end stop 2 4
-  unfolding entry asks given either newFile stepReserve stepRelease positioned input append output stepTransput userStep operationStep
+  unfolding lowestOne lowestStretch takenForFile entry asks given either newFile stepReserve stepRelease positioned input append output stepTransput userStep operationStep
   seven b =
       let s : Standing end stop seventh = ends b seven-words .1 in
       (pass-index s 2 (3 ∷ 4 ∷ []) refl, s .represents .layout .kit .unused ∙ paper .p7 .1, looks-up s)
 
   eight : FromFormat (callsOf eightCalls) replies fresh end stop → LookUpGives end stop 4 6
-  unfolding entry asks given either newFile stepReserve stepRelease positioned input append output stepTransput userStep operationStep
+  unfolding lowestOne lowestStretch takenForFile entry asks given either newFile stepReserve stepRelease positioned input append output stepTransput userStep operationStep
   eight b = looks-up (ends b eight-words .1)
 
 pub paper-on-image : PaperOnImage

@@ -11,8 +11,8 @@ use Rattle.types.specs.declared.Message.the-variants.{Init, Set, Create, LookUp
 use Rattle.disc.specs.Words.{Words}
 use Rattle.disc.specs.Names.{named}
 use Rattle.disc.specs.Kit.{sysIndexSector}
-use Rattle.disc.specs.Slices.{taken, lastOf}
-use Rattle.disc.proofs.SliceLaws.{length-taken}
+use Rattle.disc.specs.OneStretch.{takenForFile}
+use Rattle.disc.proofs.OneStretchLaws.{length-for-file}
 use Rattle.map.proofs.MarkLaws.{InMap}
 use Rattle.plain.specs.Table.{Table, tableFind, tableRemove}
 use Rattle.plain.specs.Unit.{Plain, File, sysOf, AreaUser, M, held, withTables}
@@ -114,7 +114,7 @@ module _ (p : Plain) (n : ℕ) (f : File) (lent : List ℕ) where
   changed-resizes =
       let count : ℕ = slicesAfter (p .s) (change.sizeThen f lent) f in
       let more : ℕ = count - length (f .slices) in
-      resizes-taken (f .slices) (f′ .slices) (taken (M p) (held p) (lastOf (f .slices)) more) count (length-taken (M p) (held p) (lastOf (f .slices)) more) refl
+      resizes-taken (f .slices) (f′ .slices) (takenForFile (M p) (held p) (f .slices) more) count (length-for-file (M p) (held p) (f .slices) more) refl
 
   module _ (old : InMap (f .slices)) (g′ : Good (change.unitAfter p n f lent)) (i : List ℕ) (far : 2560 ≤ length i) (q : ℕ) (off : Off (change.unitAfter p n f lent) (change.fileAfter p f lent) q)
       (own : OffIndex p (change.fileAfter p f lent) q) where

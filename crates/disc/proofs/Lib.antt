@@ -4,9 +4,11 @@ pub mod NumberLaws
 pub mod WordLaws
 pub mod NameLaws
 pub mod CapitalLaws
+pub mod LowestLaws
 pub mod SliceLaws
 pub mod TakenLaws
 pub mod StretchLaws
+pub mod OneStretchLaws
 pub mod Geometry
 pub mod EntryLaws
 pub mod IndexUnique

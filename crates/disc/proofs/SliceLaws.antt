@@ -5,7 +5,7 @@ use mathlib.Core.Logic.{_≢_}
 use Prim.Native.Nat.{ℕ, zero, suc, _+_, _-_, _≤_, _<_, compare, Ordering, Ordering·lt, Ordering·eq, Ordering·gt}
 use native.Mathlib.Omega.{arith}
 use lib.ListN.{length, take, drop, length-append, length-take, take-append-drop}
-use Rattle.disc.specs.Slices.{oneIfSame, occurrences, oneIfBelow, inUnit, InRangeOnce, oneIfNone, freeCount, firstIf, lowestFrom, nextOr, choose, taken, lastOf}
+use Rattle.disc.specs.Slices.{oneIfSame, occurrences, oneIfBelow, inUnit, InRangeOnce, oneIfNone, freeCount, firstIf, lowestOne, lowestFrom, nextOr, choose, taken, lastOf}
 use Rattle.disc.proofs.Compare.{compare-cases, tri-less, tri-more, tri-same, same-or, below-or}
 
 pub same-le : (o : Ordering) → oneIfSame o ≤ 1
@@ -50,6 +50,10 @@ occurrences-append k (x ∷ s) t = omega (arith, occurrences-append k s t)
 
 pub occurrences-take : (k c : ℕ) (l : List ℕ) → occurrences k (take c l) ≤ occurrences k l
 occurrences-take k c l = omega (arith, ap (occurrences k) (take-append-drop c l), occurrences-append k (take c l) (drop c l))
+
+pub none-left : {A : Type 0} (l : List A) → length l ≡ 0 → l ≡ []
+none-left [] e = refl
+none-left (x ∷ l) e = absurd (omega arith)
 
 -- the first ones kept, and as many taken as are wanted beyond those there are
 pub length-after : (l l′ new : List ℕ) (count : ℕ) → length new ≡ count - length l → l′ ≡ take count l ++ new → length l′ ≡ count
@@ -125,6 +129,7 @@ free-some (suc m) h p = go (occurrences (suc m) h) refl (λ q. free-some m h q)
 -- the lowest free: it is free and no smaller one is
 pub lowest-law : (n k j : ℕ) (h : List ℕ) → k ≤ j → j < k + n → occurrences j h ≡ 0
     → (occurrences (lowestFrom n k h) h ≡ 0) × (k ≤ lowestFrom n k h) × (lowestFrom n k h ≤ j)
+unfolding lowestOne
 lowest-law zero k j h p q z = absurd (omega arith)
 lowest-law (suc n) k j h p q z = go (occurrences k h) refl (λ l. lowest-law n (suc k) j h l (omega arith) z)
   where

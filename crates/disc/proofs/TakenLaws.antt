@@ -3,15 +3,15 @@ use mathlib.Core.Path.{_≡_, refl, ap, ap₂, _∙_}
 use mathlib.Core.List.{List, _∷_}
 use Prim.Native.Nat.{ℕ, zero, suc}
 use native.Mathlib.Omega.{arith}
-use Rattle.disc.specs.Slices.{occurrences, inUnit, oneIfNone, freeCount, firstIf, lowestFrom, nextOr, choose, taken}
+use Rattle.disc.proofs.LowestLaws.{lowest-agree}
+use Rattle.disc.specs.Slices.{occurrences, inUnit, oneIfNone, freeCount, lowestFrom, nextOr, choose, taken}
 
 pub free-same : (m : ℕ) (h l : List ℕ) → ((x : ℕ) → occurrences x h ≡ occurrences x l) → freeCount m h ≡ freeCount m l
 free-same zero h l e = refl
 free-same (suc m) h l e = omega (arith, ap oneIfNone (e (suc m)), free-same m h l e)
 
 lowest-same : (n k : ℕ) (h l : List ℕ) → ((x : ℕ) → occurrences x h ≡ occurrences x l) → lowestFrom n k h ≡ lowestFrom n k l
-lowest-same zero k h l e = refl
-lowest-same (suc n) k h l e = ap₂ (λ (a r : ℕ). firstIf (oneIfNone a) k r) (e k) (lowest-same n (suc k) h l e)
+lowest-same n k h l e = lowest-agree (λ j. oneIfNone (occurrences j h)) (λ j. oneIfNone (occurrences j l)) n k (λ j. ap oneIfNone (e j))
 
 choose-same : (m last : ℕ) (h l : List ℕ) → ((x : ℕ) → occurrences x h ≡ occurrences x l) → choose m h last ≡ choose m l last
 choose-same m last h l e = ap₂ (λ (a r : ℕ). nextOr (inUnit m (suc last)) a (suc last) r) (e (suc last)) (lowest-same m 1 h l e)

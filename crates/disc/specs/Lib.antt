@@ -6,6 +6,7 @@ pub mod Capitals
 pub mod Attributes
 pub mod Slices
 pub mod Stretches
+pub mod OneStretch
 pub mod Kit
 pub mod Map
 pub mod Entries

@@ -41,10 +41,14 @@ abbrev pub firstIf : ℕ → ℕ → ℕ → ℕ
 firstIf zero k rest = rest
 firstIf (suc n) k rest = k
 
+-- The lowest of the n numbers from k on whose bit is not 0; 0 if there is none.
+unfoldable pub lowestOne : (ℕ → ℕ) → ℕ → ℕ → ℕ
+lowestOne bits zero k = 0
+lowestOne bits (suc n) k = firstIf (bits k) k (lowestOne bits n (suc k))
+
 -- The lowest free slice of the n slices from k on; 0 if there is none.
 abbrev pub lowestFrom : ℕ → ℕ → List ℕ → ℕ
-lowestFrom zero k held = 0
-lowestFrom (suc n) k held = let rest = lowestFrom n (suc k) held in firstIf (oneIfNone (occurrences k held)) k rest
+lowestFrom n k held = lowestOne (λ j. oneIfNone (occurrences j held)) n k
 
 -- The slice k where it is one of the unit's and not held, else the slice low.
 abbrev pub nextOr : ℕ → ℕ → ℕ → ℕ → ℕ
@@ -57,7 +61,8 @@ nextOr (suc r) (suc h) k low = low
 abbrev pub choose : ℕ → List ℕ → ℕ → ℕ
 choose m held last = let low = lowestFrom m 1 held in nextOr (inUnit m (suc last)) (occurrences (suc last) held) (suc last) low
 
--- n slices taken one after the other, beside the held ones, for a file whose last slice is `last`.
+-- n slices taken one after the other, beside the held ones, for a file whose last slice is `last`; a file that has none takes otherwise, by
+-- `OneStretch`.
 abbrev pub taken : ℕ → List ℕ → ℕ → ℕ → List ℕ
 taken m held last zero = []
 taken m held last (suc n) = let k = choose m held last in k ∷ taken m (k ∷ held) k n

@@ -1,5 +1,7 @@
 -- The examples, by computation.
 use mathlib.Core.Path.{refl}
+use Rattle.disc.specs.Slices.{lowestOne}
+use Rattle.disc.specs.OneStretch.{lowestStretch, takenForFile}
 use Rattle.plain.specs.Unit.{entry}
 use Rattle.plain.specs.Questions.{asks, given, either}
 use Rattle.plain.specs.Catalog.{newFile, changeFile}
@@ -10,7 +12,7 @@ use Rattle.plain.specs.Step.{userStep, operationStep}
 use Rattle.examples.specs.Examples.{Examples}
 
 pub examples : Examples
-unfolding entry asks given either newFile changeFile stepReserve stepRelease positioned endWord input append output stepTransput stepListing stepDescription userStep operationStep
+unfolding lowestOne lowestStretch takenForFile entry asks given either newFile changeFile stepReserve stepRelease positioned endWord input append output stepTransput stepListing stepDescription userStep operationStep
 examples = record {
   init = refl;
   initNone = refl;
@@ -44,6 +46,7 @@ examples = record {
   remove = refl;
   removed = refl;
   stretched = refl;
+  oneStretch = (refl, refl);
   crowdedSys = refl;
   createArea = refl;
   removeArea = refl;

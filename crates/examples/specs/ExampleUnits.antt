@@ -1,7 +1,7 @@
 -- Small plain units for the examples, their names and lent words.
 use mathlib.Core.List.{List, [], _∷_, _++_}
-use Prim.Native.Nat.{ℕ, zero, suc, _*_, _-_}
-use lib.ListN.{length, replicate}
+use Prim.Native.Nat.{ℕ, zero, suc, _-_}
+use lib.ListN.{replicate}
 use Rattle.types.specs.declared.Name.{Name}
 use Rattle.types.specs.declared.Role.{Role}
 use Rattle.types.specs.declared.Role.the-variants.{Sharing, ExclusiveWriter, ExclusiveUser}
@@ -9,12 +9,9 @@ use Rattle.disc.specs.Names.{named, pack}
 use Rattle.plain.specs.Table.{Row, Table}
 use Rattle.plain.specs.Unit.{Plain, File, AreaUser}
 use Rattle.plain.specs.Taking.{zeroSectors}
-use Rattle.examples.specs.Paper.{sectorOf}
+use Rattle.examples.specs.Paper.{char, fileWith, sectorOf}
 
--- ---- names: a single character of unit 0, 'A' of unit 1, the names of the system, and one of four characters
-
-abbrev pub char : ℕ → Name
-char c = record { 0 = c * 256; 1 = 0; 2 = 0 }
+-- ---- names: of a single character, 'A' of unit 1, the names of the system, and one of four characters
 
 abbrev pub aName : Name
 aName = char 0x41
@@ -84,18 +81,6 @@ abbrev pub blank : ℕ → List ℕ
 blank n = replicate n 0xFFFF
 
 -- ---- files, users, tables
-
--- A closed file with attributes, slices and sectors, no optional words and no tail.
-abbrev pub fileWith : ℕ → List ℕ → List (List ℕ) → File
-fileWith attributes slices sectors = record {
-  attributes = attributes;
-  optional = replicate 3 0;
-  tail = replicate 6 0;
-  booked = length sectors;
-  bookedSlices = length slices;
-  slices = slices;
-  sectors = sectors;
-}
 
 abbrev pub fileRow : Name → File → Row File
 fileRow name f = record { key = named name; val = f }
@@ -210,20 +195,27 @@ outputUnit = smallUnit 0 1
 
 -- ---- units with many stretches
 
--- 259 slices: SYS has slice 1, 'A' 3, 5, .., 255 (127 stretches, all full), 'B' 256 and 258. Free are 2, 4, .., 254, 257
--- and 259, of which no two are neighbours.
-abbrev pub scattered : Table (Table AreaUser) → Plain
-scattered areas = record {
+-- SYS has slice 1, 'A' 3, 5, .., 255 (127 stretches, all full), 'B' 256 and 258. Free are 2, 4, .., 254, 257 and all from 259 on.
+abbrev pub scatteredIn : ℕ → Table (Table AreaUser) → Plain
+scatteredIn N areas = record {
   unit = 0;
   H = 1;
   s = 2;
   F = 10;
-  N = 528;
+  N = N;
   layers = 1;
   sys = 1 ∷ [];
   files = fileRow aName (fileWith 1 (alternate 3 127) (zeroSectors 253)) ∷ fileRow bName (fileWith 1 (256 ∷ 258 ∷ []) (zeroSectors 3)) ∷ [];
   areas = areas;
 }
+
+-- 259 slices: of the free ones no two are neighbours.
+abbrev pub scattered : Table (Table AreaUser) → Plain
+scattered areas = scatteredIn 528 areas
+
+-- 389 slices: the last 131 are one stretch.
+abbrev pub endsFree : Plain
+endsFree = scatteredIn 788 []
 
 -- 255 slices, H = 64: SYS has three layers in slices 1, 67, 69, .., 255 (96 stretches), and 48 files take all places of
 -- key 27. 'Z' has slices 3, 5, .., 65; the even ones are free. One layer more takes 32 slices.

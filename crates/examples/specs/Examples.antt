@@ -12,15 +12,17 @@ use Rattle.types.specs.declared.Operation.the-variants.{Reserve, Position, Sens
 use Rattle.types.specs.declared.Message.the-variants.{Init, Set, Create, LookUp, Change, Remove, CreateArea, RemoveArea, AreaMessage}
 use Rattle.types.specs.declared.Message.the-variants.{UnitDescription, Listing}
 use Rattle.disc.specs.Names.{named}
+use Rattle.disc.specs.Stretches.{span}
 use Rattle.plain.specs.Table.{Table, tableFind}
 use Rattle.plain.specs.Unit.{Plain, File, AreaUser, freeSectors}
 use Rattle.plain.specs.Step.{after}
+use Rattle.plain.specs.Claims.{slicesIn}
 use Rattle.examples.specs.Cases.{Case, gives, givesAt, givesCounts, callsOf, Shows, wordsAfter}
-use Rattle.examples.specs.Paper.{paperUnit, pass, mixedPass, smallPass, sectorOf, slicesIn}
-use Rattle.examples.specs.ExampleUnits.{char, aName, bName, cName, dName, zName, smallA, oneName, bracketName, elsewhere, sysName}
+use Rattle.examples.specs.Paper.{paperUnit, char, pass, mixedPass, smallPass, sectorOf}
+use Rattle.examples.specs.ExampleUnits.{aName, bName, cName, dName, zName, smallA, oneName, bracketName, elsewhere, sysName}
 use Rattle.examples.specs.ExampleUnits.{mapName, smallSys, mixedMap, crowdName, lentEntry, setEntry, keptName, keep, blank}
 use Rattle.examples.specs.ExampleUnits.{userRow, areaRow, smallUnit, nineFiles, oldUnit, fullLayer, twoLayers, heldUnit, keyFull}
-use Rattle.examples.specs.ExampleUnits.{openUnit, countedUnit, outputUnit, scattered, crowded}
+use Rattle.examples.specs.ExampleUnits.{openUnit, countedUnit, outputUnit, scattered, endsFree, crowded}
 
 -- The unit after the calls of some cases; a file of it, its slices, and the users of an area.
 abbrev pub afterCases : Plain → List Case → Plain
@@ -284,6 +286,13 @@ stretchCases =
     gives (Create cName 255 0) [] 0x1008  -- 8: 128 slices, no two neighbours
     ∷ gives (Change aName) (keptName keep 254) 0x1008  -- 8: a 128th stretch
     ∷ gives (Create cName 253 0) [] 0
+    ∷ []
+
+-- Question 8 "by the slices so chosen" (R-6), on the scattered unit with a long stretch at its end.
+abbrev pub endCases : List Case
+endCases =
+    gives (Change aName) (keptName keep 254) 0x1008  -- 8: 'A' has slices, and 2 would be a 128th stretch
+    ∷ gives (Create cName 255 0) [] 0  -- 128 slices, of which 01's choice would be 128 stretches
     ∷ []
 
 -- Question 8, for SYS, and question 7 on the crowded unit.
@@ -610,6 +619,7 @@ pub record Examples : Type 0 where
   pub remove : Shows paperUnit removeCases
   pub removed : freeSectors (afterCases paperUnit removeCases) ≡ 8
   pub stretched : Shows (scattered []) stretchCases
+  pub oneStretch : Shows endsFree endCases × (slicesIn (fileIn cName (afterCases endsFree endCases)) ≡ span 259 128)
   pub crowdedSys : Shows crowded crowdCases
   pub createArea : Shows nineFiles createAreaCases
   pub removeArea : Shows openUnit removeAreaCases

@@ -1,10 +1,9 @@
 -- Section 'Worked on paper': P1 to P8 and the cases not marked, as rows of one stated fact; and of document 02 the end of a file (R-4),
--- names that differ in small letters (R-8) and a disc of before that holds an entry-only file (R-9).
+-- new files in one stretch (R-6), names that differ in small letters (R-8) and a disc of before that holds an entry-only file (R-9).
 use mathlib.Core.Path.{_≡_}
 use mathlib.Core.List.{List, [], _∷_, _++_}
-use mathlib.Core.Option.{Option, none, some}
-use Prim.Native.Nat.{ℕ}
-use lib.ListN.{getD, take, drop, replicate}
+use Prim.Native.Nat.{ℕ, zero, suc, _*_, _-_}
+use lib.ListN.{length, getD, take, drop, replicate}
 use Rattle.types.specs.declared.Name.{Name}
 use Rattle.types.specs.declared.Operation.{Operation}
 use Rattle.types.specs.declared.Operation.the-variants.{Reserve, Position, Transput}
@@ -13,10 +12,11 @@ use Rattle.disc.specs.Numbers.{need}
 use Rattle.disc.specs.Names.{named, keyOf, SYS, MAP}
 use Rattle.disc.specs.Stretches.{indexWords}
 use Rattle.disc.specs.Map.{mapWord}
-use Rattle.plain.specs.Table.{tableFind}
+use Rattle.plain.specs.Table.{tableFind, tablePut}
 use Rattle.plain.specs.Unit.{Plain, File, M, held, freeSectors, withFiles}
 use Rattle.plain.specs.Fresh.{freshUnit}
 use Rattle.plain.specs.Step.{after}
+use Rattle.plain.specs.Claims.{slicesIn}
 use Rattle.examples.specs.Cases.{Case, gives, givesAt, givesCounts, callsOf, Shows, wordsAfter}
 
 -- "H = 1, s = 2, N = 20, F = 10", fresh: unit 0 as Format makes it.
@@ -37,13 +37,13 @@ mixedPass = record { 0 = 0x5061; 1 = 0x7373; 2 = 0 }
 abbrev pub smallPass : Name
 smallPass = record { 0 = 0x7061; 1 = 0x7373; 2 = 0 }
 
+-- A name of a single character, of unit 0.
+abbrev pub char : ℕ → Name
+char c = record { 0 = c * 256; 1 = 0; 2 = 0 }
+
 -- "Sums to": a key before it is taken modulo H, which 65,536 leaves as it is.
 abbrev pub sumOf : ℕ → ℕ
 sumOf n = keyOf 65536 n
-
-abbrev pub slicesIn : Option File → List ℕ
-slicesIn none = []
-slicesIn (some f) = f .slices
 
 -- The slices of 'PASS', the words of its index block, and the first word of the unit's map.
 abbrev pub passSlices : Plain → List ℕ
@@ -221,6 +221,104 @@ areaCalls =
     ∷ passArea 9 (Transput 3 512 0) (sectorOf 1) 0x0A00  -- appending: extendable?
     ∷ []
 
+-- H = 2, s = 2, N = 30, F = 10, fresh: ten slices, of which SYS has slice 1.
+abbrev pub tenSlices : Plain
+tenSlices = freshUnit 0 2 2 10 30
+
+abbrev pub createsLetter : ℕ → ℕ → Case
+createsLetter c size = gives (Create (char c) size 1) [] 0
+
+-- 'A', 'D', 'B', 'E' and 'C' of 1, 3, 1, 1 and 1 blocks get slices 2, 3 with 4, 5, 6 and 7, and 'D' and 'E' are removed: free are stretches
+-- of two, one and three slices, 3 and 4, 6, and 8 to 10.
+abbrev pub gapCalls : List Case
+gapCalls =
+    createsLetter 0x41 1
+    ∷ createsLetter 0x44 3
+    ∷ createsLetter 0x42 1
+    ∷ createsLetter 0x45 1
+    ∷ createsLetter 0x43 1
+    ∷ gives (Remove (char 0x44)) [] 0
+    ∷ gives (Remove (char 0x45)) [] 0
+    ∷ []
+
+abbrev pub gaps : Plain
+gaps = after tenSlices (callsOf gapCalls)
+
+-- A name gets its first slices, for this size: by Create; by Set; by a Change of 'PASS', which has none and gets the name.
+abbrev pub byCreate : Name → ℕ → ℕ → List Case
+byCreate name size word = gives (Create name size 1) [] word ∷ []
+
+abbrev pub bySet : Name → ℕ → ℕ → List Case
+bySet name size word = gives (Set name) (recordOf 0 0 1 size) word ∷ []
+
+abbrev pub byChange : Name → ℕ → ℕ → List Case
+byChange name size word = gives (Create pass 0 1) [] 0 ∷ gives (Change pass) (recordOf (name .0) (name .1) 1 size) word ∷ []
+
+-- The calls are answered so on a unit, and then the name has these slices, its index block these words and the map this first word.
+abbrev pub Takes : Plain → List Case → Name → List ℕ → List ℕ → ℕ → Type 0
+Takes p cases name slices index map =
+    let q : Plain = after p (callsOf cases) in
+    let new : List ℕ = slicesIn (tableFind (named name) (q .files)) in
+    Shows p cases × (new ≡ slices) × (indexWords (q .F) (q .s) new ≡ index) × (mapStart q ≡ map)
+
+-- The same of each of the three ways.
+abbrev pub NewTakes : Plain → Name → ℕ → List ℕ → List ℕ → ℕ → Type 0
+NewTakes p name size slices index map =
+    Takes p (byCreate name size 0) name slices index map
+    × Takes p (bySet name size 0) name slices index map
+    × Takes p (byChange name size 0) name slices index map
+
+-- Each of them is refused with this word.
+abbrev pub NewRefused : Plain → Name → ℕ → ℕ → Type 0
+NewRefused p name size word =
+    Shows p (byCreate name size word) × Shows p (bySet name size word) × Shows p (byChange name size word)
+
+-- An area is opened, and user 9 writes n blocks from block k on; one at the length is appended.
+abbrev pub outputs : Name → ℕ → ℕ → List Case
+outputs name k zero = []
+outputs name k (suc n) = givesAt (AreaMessage name 9 (Transput 7 512 k)) (sectorOf k) 0 512 k ∷ outputs name (suc k) n
+
+abbrev pub writing : Name → ℕ → ℕ → List Case
+writing name k n = gives (CreateArea name) [] 0 ∷ gives (AreaMessage name 9 (Reserve 3)) [] 0 ∷ outputs name k n
+
+-- A closed file with attributes, slices and sectors, no optional words and no tail.
+abbrev pub fileWith : ℕ → List ℕ → List (List ℕ) → File
+fileWith attributes slices sectors = record {
+  attributes = attributes;
+  optional = replicate 3 0;
+  tail = replicate 6 0;
+  booked = length sectors;
+  bookedSlices = length slices;
+  slices = slices;
+  sectors = sectors;
+}
+
+-- The same from an old disc, on which 'C' has slice 7 and no block: "at least need(length) slices".
+abbrev pub surplus : Plain
+surplus = withFiles gaps (tablePut (named (char 0x43)) (fileWith 1 (7 ∷ []) []) (gaps .files))
+
+-- n empty files, whose names' first two words are a, b and then a + 1, b - 1 and so on: one sum.
+abbrev pub sameSum : ℕ → ℕ → ℕ → List Case
+sameSum a b zero = []
+sameSum a b (suc n) = gives (Create (record { 0 = a; 1 = b; 2 = 0 }) 0 0) [] 0 ∷ sameSum (suc a) (b - 1) n
+
+-- 'AAZZ' to 'ANZM' sum to 9B9Bh, 'SYS' to A659h and 'MAP' to 9D41h: for H = 2 they take the 16 places of key 1.
+abbrev pub fullKeyCalls : List Case
+fullKeyCalls = sameSum 0x4141 0x5A5A 14
+
+abbrev pub fullKey : Plain
+fullKey = after gaps (callsOf fullKeyCalls)
+
+-- 'AOZL', the next of that sum.
+abbrev pub aozl : Name
+aozl = record { 0 = 0x414F; 1 = 0x5A4C; 2 = 0 }
+
+-- After some calls on that unit SYS has two layers, 4 sectors, in slices 1 and 3; and the words of its index block.
+abbrev pub SysGrown : List Case → Type 0
+SysGrown cases =
+    let q : Plain = after fullKey (callsOf cases) in
+    (q .layers ≡ 2) × (q .sys ≡ 1 ∷ 3 ∷ []) × (indexWords (q .F) (q .s) (q .sys) ≡ 2 ∷ 2 ∷ 10 ∷ 2 ∷ 14 ∷ [])
+
 -- The fresh unit after the calls of P6, P7 and P8.
 abbrev pub sixth : Plain
 sixth = after paperUnit (callsOf sixCalls)
@@ -272,6 +370,48 @@ pub record Paper : Type 0 where
   pub fixedEnd : Shows paperUnit (endCalls 0 0x0A00)
   -- "An extendable file still gives 0810h there."
   pub extendableEnd : Shows paperUnit (endCalls 1 0x0810)
+  -- the unit for R-6: free are 3, 4, 6, 8, 9 and 10, in the map 2000h, 1000h, 400h, 100h, 80h and 40h; slice k starts at sector
+  -- 10 + 2 (k - 1), so that 3, 4, 5, 6, 7 and 8 start at 14, 16, 18, 20, 22 and 24
+  pub gapsLeft : Shows tenSlices gapCalls × (mapStart gaps ≡ 0x35C0) × (freeSectors gaps ≡ 12)
+  -- "The lowest stretch of as many neighbouring free slices as it needs": (1 + 1) / 2 = 1, (3 + 1) / 2 = 2, (5 + 1) / 2 = 3
+  pub oneSlice : NewTakes gaps pass 1 (3 ∷ []) (1 ∷ 2 ∷ 14 ∷ []) 0x15C0
+  pub twoSlices : NewTakes gaps pass 3 (3 ∷ 4 ∷ []) (1 ∷ 4 ∷ 14 ∷ []) 0x05C0
+  pub threeSlices : NewTakes gaps pass 5 (8 ∷ 9 ∷ 10 ∷ []) (1 ∷ 6 ∷ 24 ∷ []) 0x3400
+  -- "01's old choice otherwise": (7 + 1) / 2 = 4, and (11 + 1) / 2 = 6, all that are free
+  pub fourSlices : NewTakes gaps pass 7 (3 ∷ 4 ∷ 6 ∷ 8 ∷ []) (3 ∷ 4 ∷ 14 ∷ 2 ∷ 20 ∷ 2 ∷ 24 ∷ []) 0x00C0
+  pub sixSlices : NewTakes gaps pass 11 (3 ∷ 4 ∷ 6 ∷ 8 ∷ 9 ∷ 10 ∷ []) (3 ∷ 4 ∷ 14 ∷ 2 ∷ 20 ∷ 6 ∷ 24 ∷ []) 0
+  -- question 7: (13 + 1) / 2 = 7 of six
+  pub sevenSlices : NewRefused gaps pass 13 0x1100
+  -- with slice 3 in use, two of the three neighbours, and not 4 and 6
+  pub partOfThree : Takes gaps (byCreate pass 1 0 ++ byCreate zzzzz 3 0) zzzzz (8 ∷ 9 ∷ []) (1 ∷ 4 ∷ 24 ∷ []) 0x1440
+  -- "a file that has none": the first slice of an output that appends; with it the file has one, and the next are 4 and, past 5, 6
+  pub firstOutput : Takes gaps (byCreate pass 0 0 ++ writing pass 0 1) pass (3 ∷ []) (1 ∷ 2 ∷ 14 ∷ []) 0x15C0
+  pub fourOutputs : Takes gaps (byCreate pass 0 0 ++ writing pass 0 4) pass (3 ∷ 4 ∷ 6 ∷ []) (2 ∷ 4 ∷ 14 ∷ 2 ∷ 20 ∷ []) 0x01C0
+  -- live slices count, booked or not: PASS has slice 3 and takes 4, the next, though 2, which 'A' left, is lower
+  pub liveOutput : Takes gaps (byCreate pass 0 0 ++ writing pass 0 1 ++ (gives (Remove (char 0x41)) [] 0 ∷ outputs pass 1 1)) pass
+      (3 ∷ 4 ∷ []) (1 ∷ 4 ∷ 14 ∷ []) 0x45C0
+  -- 'C' gives slice 7 back and has none: of 3, 4 and 6 to 10 it takes 6, 7 and 8
+  pub cutAndLonger : Takes gaps (gives (Change (char 0x43)) (recordOf 0 0 1 0) 0 ∷ gives (Change (char 0x43)) (recordOf 0 0 1 5) 0 ∷ []) (char 0x43)
+      (6 ∷ 7 ∷ 8 ∷ []) (1 ∷ 6 ∷ 20 ∷ []) 0x30C0
+  -- a file that has slices takes by 01's choice: 'B' two more than slice 5, the next and the lowest free, though 3 and 4 are neighbours
+  pub letterLonger : Takes gaps (gives (Change (char 0x42)) (recordOf 0 0 1 5) 0 ∷ []) (char 0x42)
+      (5 ∷ 6 ∷ 3 ∷ []) (2 ∷ 4 ∷ 18 ∷ 2 ∷ 14 ∷ []) 0x11C0
+  -- the same: an output to 'C' at its length 1 takes the slice next to 7, and not the lowest
+  pub letterOutput : Takes gaps (writing (char 0x43) 1 1) (char 0x43) (7 ∷ 8 ∷ []) (1 ∷ 4 ∷ 22 ∷ []) 0x34C0
+  -- the same at length 0: (4 + 1) / 2 rounded up is 3, two more than slice 7; the first block needs none more, the second one
+  pub surplusLonger : Takes surplus (gives (Change (char 0x43)) (recordOf 0 0 1 4) 0 ∷ []) (char 0x43)
+      (7 ∷ 8 ∷ 9 ∷ []) (1 ∷ 6 ∷ 22 ∷ []) 0x3440
+  pub surplusOutput : Takes surplus (writing (char 0x43) 0 1) (char 0x43) (7 ∷ []) (1 ∷ 2 ∷ 22 ∷ []) 0x35C0
+  pub surplusOutputs : Takes surplus (writing (char 0x43) 0 2) (char 0x43) (7 ∷ 8 ∷ []) (1 ∷ 4 ∷ 22 ∷ []) 0x34C0
+  -- a name of another key leaves SYS as it is
+  pub otherKey : Shows gaps fullKeyCalls × NewTakes fullKey pass 3 (3 ∷ 4 ∷ []) (1 ∷ 4 ∷ 14 ∷ []) 0x05C0
+  -- "SYS still takes first": for the 17th name of key 1 it grows by H = 2 sectors, to 4, and as 2 is in use takes 3, the lowest free; of 4,
+  -- 6, 8, 9 and 10 the file takes 8 and 9
+  pub sysFirst : NewTakes fullKey aozl 3 (8 ∷ 9 ∷ []) (1 ∷ 4 ∷ 24 ∷ []) 0x1440
+  pub sysTaken : SysGrown (byCreate aozl 3 0) × SysGrown (bySet aozl 3 0) × SysGrown (byChange aozl 3 0)
+  -- five slices and one of SYS, of six; six and one, of six
+  pub sysAndFive : NewTakes fullKey aozl 9 (4 ∷ 6 ∷ 8 ∷ 9 ∷ 10 ∷ []) (3 ∷ 2 ∷ 16 ∷ 2 ∷ 20 ∷ 6 ∷ 24 ∷ []) 0
+  pub sysAndSix : NewRefused fullKey aozl 11 0x1100
   -- "Small letters .. enter the key as given": for H = 3 'Pass' has the key of 'PASS' and 'pass' another
   pub mixedKey : (sumOf (named mixedPass) ≡ 0xC3D4) × (keyOf 3 (named mixedPass) ≡ 2)
   pub smallKey : (sumOf (named smallPass) ≡ 0xE3D4) × (keyOf 3 (named smallPass) ≡ 1)

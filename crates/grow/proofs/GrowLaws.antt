@@ -1,6 +1,6 @@
 -- A catalog's growth on the image of a unit, and SYS's: what its steps ask for, and that they leave the grown unit's image.
 use mathlib.Core.Path.{_≡_, refl, sym, ap, ap₂, _∙_}
-use mathlib.Core.List.{List, _++_}
+use mathlib.Core.List.{List, [], _++_}
 use mathlib.Core.Option.{none}
 use Prim.Native.Nat.{ℕ, suc, _+_, _*_, _-_, _%_, _≤_, _<_}
 use native.Mathlib.Omega.{arith}
@@ -41,7 +41,7 @@ use Rattle.lookup.proofs.UnitLaws.{on-catalog}
 use Rattle.lookup.proofs.FindLaws.{place-room}
 use Rattle.slices.specs.Take.{CanLengthenFrom, CanLengthen, LengthenedAt}
 use Rattle.slices.specs.Zero.{CanZeroFrom, CanZero, Zeroed}
-use Rattle.slices.proofs.StoreLaws.{length-taken-image, longer-file}
+use Rattle.slices.proofs.StoreLaws.{length-taken-image, catalog-fresh, longer-file}
 use Rattle.grow.specs.Grow.{CanGrowFrom, LayerAdded, withLayers, GrownFrom}
 use Rattle.grow.proofs.BlockLaws.{slices-for, catalog-file, catalog-block, catalog-had}
 
@@ -53,14 +53,14 @@ module _ {image : List ℕ} {o : Unit} {p : Plain} {c : Catalog} (can : CanGrowF
   num = can .catalog .numbers
 
   abbrev more : ℕ
-  more = taking p c (suc (c .layers)) 0 0 .forCatalog
+  more = taking p c (suc (c .layers)) [] 0 .forCatalog
 
   gr : Ground p
   gr = ground p (on .good)
 
   -- ---- its index block
 
-  can-own : {block : List ℕ} → block ≡ blockAt image (o .catalog .index .0) → CanLengthenFrom image block (p .F) (p .s) (M p) more (held p) (c .slices)
+  can-own : {block : List ℕ} → block ≡ blockAt image (o .catalog .index .0) → CanLengthenFrom image block (p .F) (p .s) (M p) more (held p) (c .slices) (layerOf p c)
   can-own e = record {
     file = catalog-block (can .catalog) e;
     map = on .layout .map;
@@ -74,7 +74,7 @@ module _ {image : List ℕ} {o : Unit} {p : Plain} {c : Catalog} (can : CanGrowF
 
   -- the slices with the layer are those of a unit
   longer-once : InRangeOnce (M p) (c .slices ++ layerOf p c)
-  longer-once = longer-file (can-own refl) {after = image} {longer = wholeIndex (p .F) (p .s) (c .slices ++ layerOf p c)} refl refl .own .once
+  longer-once = longer-file (can-own refl) (catalog-fresh (can-own refl)) {after = image} {longer = wholeIndex (p .F) (p .s) (c .slices ++ layerOf p c)} refl refl .own .once
 
   longer-sectors : p .s * length (c .slices ++ layerOf p c) + 10 ≤ 32767
   longer-sectors =
@@ -150,7 +150,7 @@ module _ {image : List ℕ} {o : Unit} {p : Plain} {c : Catalog} (can : CanGrowF
 
     zero-own : CanZeroFrom taken longer (p .H * c .layers + c .from) (p .H) (p .F) (p .s) (M p) (c .slices ++ layerOf p c)
     zero-own = record {
-      file = longer-file (can-own e) same (took-is .1);
+      file = longer-file (can-own e) (catalog-fresh (can-own e)) same (took-is .1);
       room = λ some. omega (arith, cover, mul-comm (p .s) (length (c .slices ++ layerOf p c)));
     }
 

@@ -8,7 +8,6 @@ use native.Mathlib.Nat.{mul-le-mul-left, mul-le-mul-right, le-mul-of-pos-right}
 use lib.Dec.{leb→le}
 use borrow.Author.Tests.{le-leb, lt-leb}
 use Rattle.disc.specs.Decide.{Decides}
-use Rattle.disc.specs.Slices.{lastOf}
 use Rattle.disc.specs.Stretches.{stretchCount}
 use Rattle.disc.specs.Map.{onesInMap}
 use Rattle.disc.specs.Catalog.{Catalog, slicesFor}
@@ -100,7 +99,7 @@ module _ {image : List ℕ} {o : Unit} {block : List ℕ} {p : Plain} {c : Catal
   module _ {index : List ℕ} (at-index : index ≡ blockAt image (o .catalog .index .0)) where
     module _ (layers : ℕ) {more : ℕ} (took : more ≡ slicesFor (o .catalog .from) (o .slice) (o .catalog .keys * layers) - sliceTotal (o .slice) index 0) (forFile : ℕ) where
       abbrev t : Taking
-      t = taking p c layers (lastOf slices) forFile
+      t = taking p c layers slices forFile
 
       pub for-catalog : more ≡ t .forCatalog
       for-catalog = took ∙ ap₂ (λ (a b : ℕ). a - b) (rw (num .catalog .keys, num .catalog .from, num .slice) refl) (catalog-had (asked .catalog) at-index)

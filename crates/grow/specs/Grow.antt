@@ -1,6 +1,6 @@
 -- SYS's growth: "With all 16 times L places taken by other names, SYS first grows by H zeroed sectors."
 use mathlib.Core.Path.{_≡_}
-use mathlib.Core.List.{List, _++_}
+use mathlib.Core.List.{List, [], _++_}
 use Prim.Native.Nat.{ℕ, suc, _+_, _≤_, _<_}
 use Rattle.disc.specs.Names.{SYS}
 use Rattle.disc.specs.Stretches.{stretchCount}
@@ -17,7 +17,7 @@ use Rattle.lookup.specs.Unit.{NumbersOf, unitPlaces}
 -- A catalog of a unit that has slices for one layer more, in at most 127 stretches.
 pub record CanGrowFrom (image : List ℕ) (o : Unit) (p : Plain) (c : Catalog) : Type 0 where
   pub catalog : CatalogIn image o p c
-  pub room : taking p c (suc (c .layers)) 0 0 .forCatalog ≤ freeSlices p
+  pub room : taking p c (suc (c .layers)) [] 0 .forCatalog ≤ freeSlices p
   pub few : stretchCount (c .slices ++ layerOf p c) ≤ 127
 
 -- ---- the layer

@@ -2,7 +2,7 @@
 use mathlib.Core.Path.{_≡_}
 use mathlib.Core.List.{List, _++_}
 use Prim.Native.Nat.{ℕ, _≤_}
-use Rattle.disc.specs.Slices.{occurrences, lastOf}
+use Rattle.disc.specs.Slices.{occurrences}
 use Rattle.disc.specs.Stretches.{stretchCount}
 use Rattle.disc.specs.Catalog.{Catalog}
 use Rattle.index.specs.Block.{wholeIndex}
@@ -28,4 +28,4 @@ pub record CanAsk (image : List ℕ) (o : Unit) (block : List ℕ) : Type 0 wher
 -- The answer is the plain unit's, with so many layers and `forFile` slices for the file: 0, or the word of the first no.
 pub record RoomFor (image : List ℕ) (o : Unit) (layers : ℕ) (block : List ℕ) (forFile r : ℕ) : Type 0 where
   pub all : (p : Plain) (c : Catalog) (slices : List ℕ) → AskedOf image o block p c slices → (lent : List ℕ) (files : Table File)
-      → let t : Taking = taking p c layers (lastOf slices) forFile in r ≡ enough p c t (slices ++ t .fileNew) lent files .answer .result
+      → let t : Taking = taking p c layers slices forFile in r ≡ enough p c t (slices ++ t .fileNew) lent files .answer .result

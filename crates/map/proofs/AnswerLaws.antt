@@ -8,14 +8,15 @@ use native.Mathlib.Omega.{arith}
 use lib.Dec.{eqb, leb}
 use borrow.Author.Tests.{ne-eqb, le-leb}
 use Rattle.disc.specs.Decide.{Decides}
-use Rattle.disc.specs.Slices.{inUnit, freeCount, firstIf}
+use Rattle.disc.specs.Slices.{inUnit, freeCount, firstIf, lowestOne}
 use Rattle.disc.specs.Map.{mapBit, MapOf}
 use Rattle.disc.proofs.Compare.{same-or}
+use Rattle.disc.proofs.LowestLaws.{lowest-found}
 use Rattle.disc.proofs.DecideLaws.{holds, fails}
 use Rattle.map.specs.declared.Choice.{Choice}
-use Rattle.map.specs.Choice.{lowestOne, lowestFree, chosen, choiceOf, wordOf, SomeFree, Answers}
+use Rattle.map.specs.Choice.{lowestFree, chosen, choiceOf, wordOf, SomeFree, Answers}
 use Rattle.map.proofs.MarkLaws.{mapBit-le}
-use Rattle.map.proofs.ChoiceLaws.{lowest-found, chosen-one, choice-some, choice-full}
+use Rattle.map.proofs.ChoiceLaws.{chosen-one, choice-some, choice-full}
 
 -- where nothing is found, no bit is one
 lowest-zero : (bits : ℕ → ℕ) (n a : ℕ) → 1 ≤ a → lowestOne bits n a ≡ 0 → (j : ℕ) → a ≤ j → j < a + n → bits j ≡ 0

@@ -7,22 +7,19 @@ use native.Mathlib.Nat.{zero-mul, mul-zero, suc-mul}
 use native.Mathlib.Numerals.{add-one}
 use native.Mathlib.Omega.{arith}
 use Rattle.types.specs.declared.Slice.{Slice}
-use Rattle.disc.specs.Slices.{occurrences, inUnit, oneIfNone, freeCount, firstIf, lowestFrom, nextOr, choose}
+use Rattle.disc.specs.Slices.{occurrences, inUnit, oneIfNone, freeCount, firstIf, lowestOne, lowestFrom, nextOr, choose}
 use Rattle.disc.specs.Map.{mapBit, MapOf}
 use Rattle.disc.proofs.Compare.{same-or}
+use Rattle.disc.proofs.LowestLaws.{first-some, lowest-none, lowest-is, lowest-found}
 use Rattle.disc.proofs.SliceLaws.{inUnit-le, inUnit-in, inUnit-no, inUnit-out, choose-law}
 use Rattle.map.specs.declared.Choice.{Choice}
 use Rattle.map.specs.declared.Choice.the-variants.{Free, None}
-use Rattle.map.specs.Choice.{lowestOne, lowestFree, chosen, choiceOf}
+use Rattle.map.specs.Choice.{lowestFree, chosen, choiceOf}
 use Rattle.map.proofs.CountLaws.{bit-free, bit-past}
 
 -- ---- the lowest one among any bits
 
-first-some : (d k rest : ℕ) → d ≢ 0 → firstIf d k rest ≡ k
-first-some zero k rest h = absurd (h refl)
-first-some (suc d) k rest h = refl
-
-choice-at : (k : ℕ) → 1 ≤ k → Free (record { 0 = k }) ≡ choiceOf k
+pub choice-at : (k : ℕ) → 1 ≤ k → Free (record { 0 = k }) ≡ choiceOf k
 choice-at zero h = absurd (omega arith)
 choice-at (suc k) h = refl
 
@@ -31,47 +28,22 @@ module _ (bits : ℕ → ℕ) where
   abbrev pub NoneBelow : ℕ → Type 0
   NoneBelow k = (j : ℕ) → 1 ≤ j → j < k → bits j ≡ 0
 
-  lowest-none : (n a : ℕ) → ((j : ℕ) → a ≤ j → j < a + n → bits j ≡ 0) → lowestOne bits n a ≡ 0
-  unfolding lowestOne
-  lowest-none zero a none = refl
-  lowest-none (suc n) a none =
-      rw (none a (omega arith) (omega arith)) (lowest-none n (suc a) (λ j p q. none j (omega arith) (omega arith)))
-
-  lowest-is : (n a k : ℕ) → a ≤ k → k < a + n → bits k ≢ 0 → ((j : ℕ) → a ≤ j → j < k → bits j ≡ 0) → lowestOne bits n a ≡ k
-  unfolding lowestOne
-  lowest-is zero a k l h one none = absurd (omega arith)
-  lowest-is (suc n) a k l h one none = same-or a k
-      (λ e. rw e (first-some (bits k) k (lowestOne bits n (suc k)) one))
-      (λ d. rw (none a (omega arith) (omega arith)) (lowest-is n (suc a) k (omega arith) (omega arith) one (λ j p q. none j (omega arith) q)))
-
   -- bits that are 0 past the first n say nothing
   lowest-past : (n r a : ℕ) → ((j : ℕ) → a + n ≤ j → j < a + n + r → bits j ≡ 0) → lowestOne bits (n + r) a ≡ lowestOne bits n a
   unfolding lowestOne
   lowest-past zero r a none =
-      ap (λ (x : ℕ). lowestOne bits x a) (let e : 0 + r ≡ r = omega arith in e) ∙ lowest-none r a (λ j p q. none j (omega arith) (omega arith))
+      ap (λ (x : ℕ). lowestOne bits x a) (let e : 0 + r ≡ r = omega arith in e) ∙ lowest-none bits r a (λ j p q. none j (omega arith) (omega arith))
   lowest-past (suc n) r a none =
       ap (λ (x : ℕ). lowestOne bits x a) (let e : suc n + r ≡ suc (n + r) = omega arith in e)
       ∙ ap (firstIf (bits a) a) (lowest-past n r (suc a) (λ j p q. none j (omega arith) (omega arith)))
 
-  -- what is found is a one of the n bits from a on
-  pub lowest-found : (n a k : ℕ) → lowestOne bits n a ≡ suc k → (a ≤ suc k) × (suc k < a + n) × (bits (suc k) ≢ 0)
-  unfolding lowestOne
-  lowest-found zero a k e = absurd (omega arith)
-  lowest-found (suc n) a k e = go (bits a) refl e (λ f. lowest-found n (suc a) k f)
-    where
-      go : (d : ℕ) → bits a ≡ d → firstIf d a (lowestOne bits n (suc a)) ≡ suc k
-          → (lowestOne bits n (suc a) ≡ suc k → (suc a ≤ suc k) × (suc k < suc a + n) × (bits (suc k) ≢ 0))
-          → (a ≤ suc k) × (suc k < a + suc n) × (bits (suc k) ≢ 0)
-      go zero f e rest = let r = rest e in (omega (arith, r .0), omega (arith, r .1), r .2)
-      go (suc d) f e rest = (omega arith, omega arith, λ z. omega (arith, f, z, ap bits e))
-
   -- ---- what a scan answers
 
   pub scan-none : (n : ℕ) → 4096 < n → NoneBelow n → None ≡ choiceOf (lowestFree bits)
-  scan-none n h none = ap choiceOf (sym (lowest-none 4096 1 (λ j p q. none j p (omega arith))))
+  scan-none n h none = ap choiceOf (sym (lowest-none bits 4096 1 (λ j p q. none j p (omega arith))))
 
   pub scan-found : (k : ℕ) → 1 ≤ k → k ≤ 4096 → bits k ≢ 0 → NoneBelow k → Free (record { 0 = k }) ≡ choiceOf (lowestFree bits)
-  scan-found k a b one none = choice-at k a ∙ ap choiceOf (sym (lowest-is 4096 1 k a (omega arith) one none))
+  scan-found k a b one none = choice-at k a ∙ ap choiceOf (sym (lowest-is bits 4096 1 k a (omega arith) one none))
 
   -- ---- the next after the last, or the lowest
 
@@ -106,7 +78,7 @@ module _ (bits : ℕ → ℕ) where
   chosen-one m last (suc k) few p e = go (inUnit m (suc last)) refl (bits (suc last)) refl e
     where
       low : lowestFree bits ≡ suc k → (suc k ≤ 4096) × (bits (suc k) ≢ 0)
-      low e = let r = lowest-found 4096 1 k e in (omega (arith, r .1), r .2)
+      low e = let r = lowest-found bits 4096 1 k e in (omega (arith, r .1), r .2)
 
       go : (r : ℕ) → inUnit m (suc last) ≡ r → (d : ℕ) → bits (suc last) ≡ d → firstIf (r * d) (suc last) (lowestFree bits) ≡ suc k
           → (suc k ≤ 4096) × (bits (suc k) ≢ 0)

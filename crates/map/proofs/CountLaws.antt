@@ -20,6 +20,13 @@ mapBit-at image w b h =
     let f : (16 * w + b + 1 - 1) % 16 ≡ b = omega arith in
     ap₂ (λ (i j : ℕ). digit (word image mapSector i) (15 - j)) e f
 
+-- the bit of a slice of word w
+pub mapBit-in : (image : List ℕ) (w k : ℕ) → 16 * w < k → k ≤ 16 * w + 16
+    → mapBit image k ≡ digit (word image mapSector w) (15 - (k - 1 - 16 * w))
+mapBit-in image w k a b =
+    let e : k ≡ 16 * w + (k - 1 - 16 * w) + 1 = omega arith in
+    ap (mapBit image) e ∙ mapBit-at image w (k - 1 - 16 * w) (omega arith)
+
 pub ones-below : (image : List ℕ) → Words image → (w : ℕ) → onesBelow image w ≡ countTo (mapBit image) (16 * w)
 ones-below image words zero = refl
 ones-below image words (suc w) =

@@ -1,7 +1,10 @@
 pub mod Digits
+pub mod DigitOps
 pub mod MarkLaws
 pub mod CountLaws
 pub mod ChoiceLaws
 pub mod AnswerLaws
 pub mod ScanLaws
+pub mod BeginningLaws
+pub mod StretchLaws
 pub mod MapWordLaws

@@ -1,16 +1,16 @@
 -- What a scan of the map has passed: the bits below a slice are all 0.
 use mathlib.Core.Path.{_≡_, sym, ap, _∙_}
 use mathlib.Core.List.{List}
-use Prim.Native.Nat.{ℕ, _+_, _-_, _*_, _/_, _%_, _^_, _≤_, _<_, compare, Ordering}
+use Prim.Native.Nat.{ℕ, _+_, _-_, _*_, _/_, _%_, _^_, _<_, compare, Ordering}
 use native.Mathlib.Omega.{arith}
 use lib.Count.{leadingZeros, leading-le}
 use Rattle.disc.specs.Numbers.{bitWord}
 use Rattle.disc.specs.Words.{word}
 use Rattle.disc.specs.Kit.{mapSector}
 use Rattle.disc.specs.Map.{mapBit}
-use Rattle.disc.proofs.Compare.{Tri, less, same, more, tri}
+use Rattle.disc.proofs.Compare.{Tri, less, same, more, tri, below-or}
 use Rattle.map.proofs.Digits.{leading-digit}
-use Rattle.map.proofs.CountLaws.{mapBit-at}
+use Rattle.map.proofs.CountLaws.{mapBit-at, mapBit-in}
 use Rattle.map.proofs.ChoiceLaws.{NoneBelow}
 
 module _ (image : List ℕ) where
@@ -33,15 +33,8 @@ module _ (image : List ℕ) where
   -- the zeros before the first one of word w
   pub none-leading : (w : ℕ) → word image mapSector w < 2 ^ 16 → NoneBelow (mapBit image) (16 * w + 1)
       → NoneBelow (mapBit image) (16 * w + leadingZeros 16 (word image mapSector w) + 1)
-  none-leading w h none j p q = go (compare j (16 * w + 1)) (tri j (16 * w + 1))
-    where
-      past : 16 * w + 1 ≤ j → mapBit image j ≡ 0
-      past l =
-          let b = j - 1 - 16 * w in
-          let e : j ≡ 16 * w + b + 1 = omega arith in
-          ap (mapBit image) e ∙ mapBit-at image w b (omega (arith, leading-le 16 (word image mapSector w))) ∙ leading-digit (word image mapSector w) b h (omega arith)
-
-      go : (o : Ordering) → Tri j (16 * w + 1) o → mapBit image j ≡ 0
-      go o (less h) = none j p h
-      go o (same h) = past (omega arith)
-      go o (more h) = past (omega arith)
+  none-leading w h none j p q =
+      let x = word image mapSector w in
+      below-or (16 * w) j
+      (λ l. mapBit-in image w j l (omega (arith, leading-le 16 x)) ∙ leading-digit x (j - 1 - 16 * w) h (omega arith))
+      (λ l. none j p (omega arith))

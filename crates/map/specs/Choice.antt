@@ -5,15 +5,10 @@ use mathlib.Core.List.{List}
 use Prim.Native.Nat.{ℕ, zero, suc, _*_, _≤_}
 use lib.Dec.{eqb}
 use Rattle.disc.specs.Decide.{Decides}
-use Rattle.disc.specs.Slices.{inUnit, firstIf}
+use Rattle.disc.specs.Slices.{inUnit, firstIf, lowestOne}
 use Rattle.disc.specs.Map.{mapBit}
 use Rattle.map.specs.declared.Choice.{Choice}
 use Rattle.map.specs.declared.Choice.the-variants.{Free, None}
-
--- The lowest of the n slices from k on whose bit is one; 0 if there is none.
-unfoldable pub lowestOne : (ℕ → ℕ) → ℕ → ℕ → ℕ
-lowestOne bits zero k = 0
-lowestOne bits (suc n) k = firstIf (bits k) k (lowestOne bits n (suc k))
 
 -- The lowest free slice of a map: a sector of 256 words has 4,096 bits.
 abbrev pub lowestFree : (ℕ → ℕ) → ℕ

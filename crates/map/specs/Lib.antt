@@ -1,2 +1,3 @@
 pub mod Marks
 pub mod Choice
+pub mod Stretch

@@ -1,12 +1,13 @@
-// The map of free slices, sector 9 of the image: its bits, their count, and the choice of a slice to take.
+// The map of free slices, sector 9 of the image: its bits, their count, and the choice of a slice, or of a stretch, to take.
 
 ghost use mathlib.Core.Path.{_≡_};
-ghost use Prim.Native.Nat.{_+_, _*_, _≤_, _<_};
+ghost use Prim.Native.Nat.{_+_, _*_, _≤_, _<_, min};
 ghost use lib.Dec.{eqb};
 ghost use lib.ListN.{length};
 ghost use Rattle.disc.specs.Map.{mapBit, onesInMap};
 ghost use Rattle.map.specs.Marks.{marked, markedUsed, markedFree};
 ghost use Rattle.map.specs.Choice.{lowestFree, chosen, Answers};
+ghost use Rattle.map.specs.Stretch.{FindsStretch, Passed, Beginnings};
 use types::Slice;
 
 // The image's index of the map's first word, and the words of the map.
@@ -110,4 +111,73 @@ pub fn choose_slice(image: &[u16], last: Slice, slices: u16) -> Choice
         }
     }
     lowest_free(image)
+}
+
+// The smaller of two numbers.
+fn smaller(a: usize, b: usize) -> usize
+    ensures { λ r. ⌜ r ≡ min a b ⌝ }
+{
+    if a <= b {
+        return a;
+    }
+    b
+}
+
+// The bits of a word at which n neighbouring ones of the word begin: where `have` ones begin at a bit and at the one `step`
+// bits after it, `have + step` ones begin.
+fn beginnings(word: u16, n: usize) -> u16
+    requires { ⌜ (1 ≤ n) × (n ≤ 16) ⌝ }
+    ensures { λ r. ⌜ Beginnings word n r ⌝ }
+{
+    let mut found = word;
+    let mut have: usize = 1;
+    while have < n {
+        let step = smaller(have, n - have);
+        found = found & (found << step);
+        have += step;
+    }
+    found
+}
+
+// Where a stretch of n free slices may begin once word w of the map is passed, as the number of slices before it: at
+// `start` as before, if it ends in this word or goes on through it; else at the first place where n free slices of the word
+// begin; else after the word's last zero. Words of ones and of zeros, the most there are, are told at once.
+fn start_past(image: &[u16], w: usize, n: usize, start: usize) -> usize
+    requires { ⌜ (w < 256) × (2560 ≤ length (now image)) × (n < 65536) × (16 * w < start + n) × Passed (now image) n (16 * w) start ⌝ }
+    ensures { λ r. ⌜ Passed (now (image .entry)) n (16 * w + 16) r ⌝ }
+{
+    let word = image[MAP + w];
+    if word == 65535 {
+        return start;
+    }
+    if word == 0 {
+        return 16 * w + 16;
+    }
+    let first = u16::leading_zeros(!word) as usize;
+    if start + n <= 16 * w + first {
+        return start;
+    }
+    // A stretch between two zeros of a word has at most 14 slices.
+    if n < 15 {
+        let b = u16::leading_zeros(beginnings(word, n)) as usize;
+        if b < 16 {
+            return 16 * w + b;
+        }
+    }
+    16 * w + 16 - u16::trailing_zeros(!word) as usize
+}
+
+// The lowest slice at which n neighbouring slices are marked free: one pass over the map's words.
+pub fn lowest_stretch(image: &[u16], n: u16) -> Choice
+    requires { ⌜ (1 ≤ n) × (2560 ≤ length (now image)) ⌝ }
+    ensures { λ r. ⌜ FindsStretch (now (image .entry)) n r ⌝ }
+{
+    let mut start: usize = 0;
+    for w in 0..MAP_WORDS {
+        start = start_past(image, w, n as usize, start);
+        if start + n as usize <= 16 * w + 16 {
+            return Choice::Free(slice_at(start / 16, start % 16));
+        }
+    }
+    Choice::None
 }

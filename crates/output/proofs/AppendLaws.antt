@@ -23,9 +23,9 @@ use Rattle.refine.specs.Writes.{countedFree, takenImage, extendedImage}
 use Rattle.refine.proofs.Ground.{ground, part-file}
 use Rattle.preservation.proofs.OutputStep.{extended-counts, Appends, appends-extends, appends-room, appends-few}
 use Rattle.slices.specs.FileBlock.{FileBlock}
-use Rattle.slices.specs.Take.{CanLengthenFrom, CanLengthen, Lengthened}
+use Rattle.slices.specs.Take.{CanLengthenFrom, CanLengthenFile, Lengthened}
 use Rattle.slices.proofs.BlockLaws.{index-told}
-use Rattle.slices.proofs.StoreLaws.{length-taken-image, longer-file}
+use Rattle.slices.proofs.StoreLaws.{length-taken-image, file-fresh, longer-file}
 use Rattle.preservation.specs.Units.{appendSlices}
 use Rattle.output.specs.Output.{roomWord, outputWord, CanExtendFrom}
 use Rattle.output.proofs.FileLaws.{file-block}
@@ -73,7 +73,7 @@ module _ {image : List ℕ} {o : Unit} {block : List ℕ} {count : ℕ} {p : Pla
 
   -- ---- slices taken
 
-  lengthen : CanLengthenFrom image block (p .F) (p .s) (M p) (slicesToTake (p .s) f) (held p) (f .slices)
+  lengthen : CanLengthenFrom image block (p .F) (p .s) (M p) (slicesToTake (p .s) f) (held p) (f .slices) (appendSlices p f)
   lengthen = record {
     file = file;
     map = can .on .layout .map;
@@ -83,7 +83,7 @@ module _ {image : List ℕ} {o : Unit} {block : List ℕ} {count : ℕ} {p : Pla
     few = append-few (can .on .good) n (can .file) (appends-few yes);
   }
 
-  pub can-lengthen : CanLengthen image block (o .first .0) (o .slice) (o .slices) count
+  pub can-lengthen : CanLengthenFile image block (o .first .0) (o .slice) (o .slices) count
   can-lengthen = rw (can .numbers .first, can .numbers .slice, can .numbers .slices, can .more) (record { held = held p; slices = f .slices; can = lengthen })
 
   module _ {image₁ longer : List ℕ} (took : Lengthened image block (o .first .0) (o .slice) (o .slices) count image₁ longer) where
@@ -106,4 +106,4 @@ module _ {image : List ℕ} {o : Unit} {block : List ℕ} {count : ℕ} {p : Pla
     extended-is e = e ∙ ap₂ countedFree (took-all .0) (can .numbers .slice)
 
     pub index-is : {q : ℕ} → q ≡ jointSector longer 0 0 → q ≡ indexSector (p .F) (p .s) (length (f .slices ++ appendSlices p f)) (f .slices ++ appendSlices p f)
-    index-is e = e ∙ index-told (longer-file lengthen {after = image₁} took-size (took-all .1))
+    index-is e = e ∙ index-told (longer-file lengthen (file-fresh lengthen) {after = image₁} took-size (took-all .1))

@@ -1,4 +1,4 @@
-// The cases of document 01's section 'Worked on paper', and those of document 02, run through the one call: s = 2, N = 20, F = 10. Each
+// The cases of document 01's section 'Worked on paper', and those of document 02, run through the one call: s = 2, F = 10. Each
 // line of the standard input is a step: a text, and after ':' a letter and numbers in base 16; a line that begins with '#' is a comment.
 // The text is written with its ':', and then what the letter says. The expected lines are derived from documents 01 and 02 and not taken
 // from a run.
@@ -20,7 +20,7 @@
 // Lines of words by their indices.
 //   w INDEX .., g INDEX ..          words of the image, words lent
 // What writes nothing.
-//   f H                             the unit is formatted anew
+//   f H N                           the unit is formatted anew, with N sectors, at most 30
 //   e WORD ..                       an entry is lent
 //   k WORD ..                       an entry is written into SYS's third place
 
@@ -28,7 +28,7 @@ mod lines;
 mod step;
 
 fn main() {
-    let mut image: step::Disc = [0; 5120];
+    let mut image: step::Disc = [0; 7680];
     let mut lent: step::Lent = [0; 256];
     let mut text = io::large_buffer();
     let n = io::read_full(0, &mut text);

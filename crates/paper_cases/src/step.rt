@@ -11,8 +11,8 @@ use types::Operation;
 use types::Sector;
 use types::State;
 
-// The image, 256 times N words.
-pub type Disc = [u16; 5120];
+// Room for an image: its first 256 times N words, N being at most 30.
+pub type Disc = [u16; 7680];
 
 // The words that are lent, or the first of them.
 pub type Lent = [u16; 256];
@@ -114,17 +114,29 @@ fn start(letter: u8, state: State) -> State {
     state
 }
 
-// The one call, with so many words lent.
+// The words of the image: 256 times the N that its kit has, and no word where that is above 30.
+fn image_size(image: &[u16]) -> usize
+    ensures { λ r. ⌜ r ≤ 7680 ⌝ }
+{
+    let sectors = words::word(image, Sector(8), 2);
+    if 30 < sectors {
+        return 0;
+    }
+    256 * sectors as usize
+}
+
+// The one call, on so many words of the image and with so many words lent.
 fn performed(
     image: &mut [u16],
+    size: usize,
     state: State,
     message: Message,
     lent: &mut [u16],
     n: usize,
 ) -> Outcome
-    requires { ⌜ n ≤ length (now lent) ⌝ }
+    requires { ⌜ (size ≤ length (now image)) × (n ≤ length (now lent)) ⌝ }
 {
-    perform::perform(image, state, message, &mut lent[0..n])
+    perform::perform(&mut image[0..size], state, message, &mut lent[0..n])
 }
 
 // A call.
@@ -139,7 +151,8 @@ pub fn called(
     let from = start(letter, state);
     let message = message_of(letter, numbers);
     let n = lend(lent, letter, numbers);
-    let o = performed(image, from, message, lent, n);
+    let size = image_size(image);
+    let o = performed(image, size, from, message, lent, n);
     let answer = o.answer;
     io::write_all(1, label);
     answered(letter, answer, lent);
@@ -147,10 +160,23 @@ pub fn called(
     next
 }
 
-// A fresh unit with this H.
-fn fresh(image: &mut Disc, keys: u16) {
-    let record = [0, keys, 2, 20, 10, 10, 20, 0, 0];
-    format::format(image, types::fresh_state(0), 18, &record);
+// Format, on so many words of the image.
+fn formatted(image: &mut [u16], size: usize, record: &[u16; 9])
+    requires { ⌜ size ≤ length (now image) ⌝ }
+{
+    format::format(&mut image[0..size], types::fresh_state(0), 18, record);
+}
+
+// A fresh unit with this H and N; none is made where N is not 10 to 30.
+fn fresh(image: &mut Disc, keys: u16, sectors: u16) {
+    if sectors < 10 {
+        return;
+    }
+    if 30 < sectors {
+        return;
+    }
+    let record = [0, keys, 2, sectors, sectors - 10, 10, sectors, 0, 0];
+    formatted(image, 256 * sectors as usize, &record);
 }
 
 // An entry in SYS's third place.
@@ -198,7 +224,7 @@ pub fn done(
 {
     match letter {
         b'e' => words::store_words(lent, Sector(0), 0, numbers, 16),
-        b'f' => fresh(image, numbers[0]),
+        b'f' => fresh(image, numbers[0], numbers[1]),
         b'g' => show(lent, numbers, count, label),
         b'k' => enter(image, numbers),
         _ => show(image, numbers, count, label),

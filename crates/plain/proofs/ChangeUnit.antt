@@ -14,10 +14,12 @@ use Rattle.disc.specs.Numbers.{need}
 use Rattle.disc.specs.Words.{Words}
 use Rattle.disc.specs.Names.{legalName, isSystem, keyOf}
 use Rattle.disc.specs.Attributes.{legalAttributes, legalWith, permanent}
-use Rattle.disc.specs.Slices.{occurrences, taken, lastOf}
+use Rattle.disc.specs.Slices.{occurrences}
+use Rattle.disc.specs.OneStretch.{takenForFile}
 use Rattle.disc.specs.Stretches.{stretchCount}
 use Rattle.disc.proofs.Compare.{same-or}
-use Rattle.disc.proofs.SliceLaws.{occurrences-append, occurrences-take, length-after, length-taken, taken-law}
+use Rattle.disc.proofs.SliceLaws.{occurrences-append, occurrences-take, length-after}
+use Rattle.disc.proofs.OneStretchLaws.{for-file-law, length-for-file}
 use Rattle.plain.specs.Table.{Table, tableFind, tablePut, tableRemove, isSome}
 use Rattle.plain.specs.Unit.{Plain, File, M, held, freeSlices, entry, withTables, withFiles, sysOf}
 use Rattle.plain.specs.Questions.{done}
@@ -38,7 +40,7 @@ use Rattle.plain.proofs.CreateUnit.{booked-good, placed-good}
 -- File f becomes f′, of `size` sectors in `count` slices: "gives back from the end or takes until need is met; sectors
 -- that join are zero"; with what the questions have made sure of.
 pub record Changes (p : Plain) (f f′ : File) (size count : ℕ) : Type 0 where
-  pub slices : f′ .slices ≡ take count (f .slices) ++ taken (M p) (held p) (lastOf (f .slices)) (count - length (f .slices))
+  pub slices : f′ .slices ≡ take count (f .slices) ++ takenForFile (M p) (held p) (f .slices) (count - length (f .slices))
   pub sectors : f′ .sectors ≡ resized size (f .sectors)
   pub booked : f′ .booked ≡ size
   pub bookedSlices : f′ .bookedSlices ≡ count
@@ -52,10 +54,10 @@ pub record Changes (p : Plain) (f f′ : File) (size count : ℕ) : Type 0 where
 
 module _ {p : Plain} {f f′ : File} {size count : ℕ} (c : Changes p f f′ size count) where
   abbrev new : List ℕ
-  new = taken (M p) (held p) (lastOf (f .slices)) (count - length (f .slices))
+  new = takenForFile (M p) (held p) (f .slices) (count - length (f .slices))
 
   pub changes-count : length (f′ .slices) ≡ count
-  changes-count = length-after (f .slices) (f′ .slices) new count (length-taken (M p) (held p) (lastOf (f .slices)) (count - length (f .slices))) (c .slices)
+  changes-count = length-after (f .slices) (f′ .slices) new count (length-for-file (M p) (held p) (f .slices) (count - length (f .slices))) (c .slices)
 
   pub changes-size : length (f′ .sectors) ≡ size
   changes-size = ap length (c .sectors) ∙ length-resized size (f .sectors)
@@ -80,7 +82,7 @@ module _ {p : Plain} {f f′ : File} {size count : ℕ} (c : Changes p f f′ si
         occurrences-append k (take count (f .slices)) new,
         occurrences-append k new (held p),
         occurrences-take k count (f .slices),
-        taken-law (M p) (held p) (lastOf (f .slices)) (count - length (f .slices)) (g .once) (c .room) k,
+        for-file-law (M p) (held p) (f .slices) (count - length (f .slices)) (g .once) (c .room) k,
       ))
       (booked-good (sysOf p) (p .s) (p .areas) m f′ legal ordinary (c .attributes) (rw (c .bookedSlices) (c .entryOnly)) (c .optional) (c .tail)
       (rw (c .sectors) (resized-words size (f .sectors) (g .catalog .files n f found .sectors))) (changes-size ∙ sym (c .booked)) (c .bookedSlices ∙ sym changes-count)
@@ -97,7 +99,7 @@ module _ (p : Plain) (n m size attributes : ℕ) (f : File) (lent : List ℕ) wh
   changeCount = slicesAfter (p .s) size f
 
   abbrev pub changeTaking : Taking
-  changeTaking = taking p (sysOf p) changeLayers (lastOf (f .slices)) (changeCount - length (f .slices))
+  changeTaking = taking p (sysOf p) changeLayers (f .slices) (changeCount - length (f .slices))
 
   -- the unit with SYS grown, and the file as it changes on a unit q
   abbrev pub changeGrown : Plain
@@ -106,7 +108,7 @@ module _ (p : Plain) (n m size attributes : ℕ) (f : File) (lent : List ℕ) wh
   abbrev pub changedOn : Plain → File
   changedOn q =
       changed f attributes size changeCount
-      (take changeCount (f .slices) ++ taken (M q) (held q) (lastOf (f .slices)) (changeCount - length (f .slices))) lent
+      (take changeCount (f .slices) ++ takenForFile (M q) (held q) (f .slices) (changeCount - length (f .slices))) lent
 
   -- the unit after the change on a unit q
   abbrev pub changedUnit : Plain → Plain
@@ -121,7 +123,7 @@ module _ (p : Plain) (n m size attributes : ℕ) (f : File) (lent : List ℕ) wh
 
   slices-grown : slices ≡ changedOn changeGrown .slices
   slices-grown =
-      ap (λ (l : List ℕ). take changeCount (f .slices) ++ l) (taken-grown p changeLayers (lastOf (f .slices)) (changeCount - length (f .slices)))
+      ap (λ (l : List ℕ). take changeCount (f .slices) ++ l) (taken-grown p changeLayers (f .slices) (changeCount - length (f .slices)))
 
   pub change-unit : withTables p (changeTaking .layers) (p .sys ++ changeTaking .catalogNew) files (p .areas)
       ≡ changedUnit changeGrown

@@ -11,10 +11,12 @@ use lib.ListN.{length, getD}
 use Rattle.disc.specs.Numbers.{need, negative}
 use Rattle.disc.specs.Names.{isSystem, legalName, keyOf}
 use Rattle.disc.specs.Attributes.{legalAttributes, legalWith, givesEntryOnly}
-use Rattle.disc.specs.Slices.{occurrences, InRangeOnce, taken}
+use Rattle.disc.specs.Slices.{occurrences, InRangeOnce}
+use Rattle.disc.specs.OneStretch.{takenForFile}
 use Rattle.disc.specs.Stretches.{stretchCount}
 use Rattle.disc.specs.Catalog.{Catalog, isReserved}
-use Rattle.disc.proofs.SliceLaws.{occurrences-append, taken-law, length-taken}
+use Rattle.disc.proofs.SliceLaws.{occurrences-append}
+use Rattle.disc.proofs.OneStretchLaws.{for-file-law, length-for-file}
 use Rattle.plain.specs.Table.{Table, tableFind, tablePut, isSome, Every}
 use Rattle.plain.specs.Unit.{Plain, File, AreaUser, M, held, slicesOf, freeSlices, entry, withTables, withFiles, sysOf}
 use Rattle.plain.specs.Questions.{done}
@@ -65,7 +67,7 @@ pub record NewFile (p : Plain) (n : ℕ) (f : File) : Type 0 where
   pub entryOnly : T (legalWith (f .attributes) (need (p .s) (f .booked)))
   pub optional : WordsOf 3 (f .optional)
   pub tail : WordsOf 6 (f .tail)
-  pub slices : f .slices ≡ taken (M p) (held p) 0 (need (p .s) (f .booked))
+  pub slices : f .slices ≡ takenForFile (M p) (held p) [] (need (p .s) (f .booked))
   pub sectors : f .sectors ≡ zeroSectors (f .booked)
   pub bookedSlices : f .bookedSlices ≡ need (p .s) (f .booked)
   pub room : need (p .s) (f .booked) ≤ freeSlices p
@@ -82,10 +84,10 @@ module _ {p : Plain} {n : ℕ} {f : File} (g : Good p) (new : NewFile p n f) whe
   long-sectors = ap length (new .sectors) ∙ length-zeroSectors (f .booked)
 
   abbrev new-slices : List ℕ
-  new-slices = taken (M p) (held p) 0 (need (p .s) (f .booked))
+  new-slices = takenForFile (M p) (held p) [] (need (p .s) (f .booked))
 
   long-slices : length (f .slices) ≡ need (p .s) (f .booked)
-  long-slices = ap length (new .slices) ∙ length-taken (M p) (held p) 0 (need (p .s) (f .booked))
+  long-slices = ap length (new .slices) ∙ length-for-file (M p) (held p) [] (need (p .s) (f .booked))
 
   pub held-more : (k : ℕ) → occurrences k (held (withFiles p (tablePut n f (p .files)))) ≡ occurrences k (f .slices) + occurrences k (held p)
   held-more k =
@@ -104,7 +106,7 @@ module _ {p : Plain} {n : ℕ} {f : File} (g : Good p) (new : NewFile p n f) whe
         arith,
         held-more k,
         ap (occurrences k) (new .slices),
-        taken-law (M p) (held p) 0 (need (p .s) (f .booked)) (g .once) (new .room) k,
+        for-file-law (M p) (held p) [] (need (p .s) (f .booked)) (g .once) (new .room) k,
         occurrences-append k new-slices (held p),
       ))
       (booked-good (sysOf p) (p .s) (p .areas) n f (new .name) ordinary (new .attributes) (rw (new .bookedSlices) (new .entryOnly)) (new .optional) (new .tail)
@@ -126,11 +128,11 @@ zeroFile s size attributes optional tail slices = record {
 
 -- The file with the slices that it takes in the unit p.
 abbrev pub zeroFileOf : Plain → ℕ → ℕ → List ℕ → List ℕ → File
-zeroFileOf p size attributes optional tail = zeroFile (p .s) size attributes optional tail (taken (M p) (held p) 0 (need (p .s) size))
+zeroFileOf p size attributes optional tail = zeroFile (p .s) size attributes optional tail (takenForFile (M p) (held p) [] (need (p .s) size))
 
 -- the file's slices, after SYS has taken its own for l layers
 abbrev pub slicesLeft : Plain → ℕ → ℕ → List ℕ
-slicesLeft p l size = taken (M p) (sysTaken p l ++ held p) 0 (need (p .s) size)
+slicesLeft p l size = takenForFile (M p) (sysTaken p l ++ held p) [] (need (p .s) size)
 
 -- The unit where every question is answered yes.
 abbrev pub unitAfter : Plain → ℕ → ℕ → ℕ → ℕ → List ℕ → List ℕ → Plain
@@ -169,7 +171,7 @@ module _ (p : Plain) (l n size attributes : ℕ) (optional tail : List ℕ) wher
       ≡ withFiles (grownTo p l) (tablePut n (zeroFileOf (grownTo p l) size attributes optional tail) (p .files))
   unit-grown =
       ap (λ (x : List ℕ). withTables p l (p .sys ++ sysTaken p l) (tablePut n (zeroFile (p .s) size attributes optional tail x) (p .files)) (p .areas))
-      (taken-grown p l 0 (need (p .s) size))
+      (taken-grown p l [] (need (p .s) size))
 
   pub new-grown : Good p → Yes p l n size attributes → WordsOf 3 optional → WordsOf 6 tail → NewFile (grownTo p l) n (zeroFileOf (grownTo p l) size attributes optional tail)
   new-grown g y three six =
@@ -178,7 +180,7 @@ module _ (p : Plain) (l n size attributes : ℕ) (optional tail : List ℕ) wher
         y,
         entry-grown p l n (not-some (entry p n) (y .vacant)),
         given-legal attributes (need (p .s) size) (y .allowed) (y .given),
-        rw (taken-grown p l 0 (need (p .s) size)) at (leb→le (stretchCount (slicesLeft p l size)) 127 (y .few)),
+        rw (taken-grown p l [] (need (p .s) size)) at (leb→le (stretchCount (slicesLeft p l size)) 127 (y .few)),
       )
 
 -- ---- SYS stays: the file is made on p

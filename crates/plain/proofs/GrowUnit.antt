@@ -9,9 +9,11 @@ use lib.ListN.{length, length-append}
 use Rattle.disc.specs.Names.{SYS}
 use Rattle.disc.specs.Slices.{occurrences, InRangeOnce, freeCount, taken, lastOf, firstOf}
 use Rattle.disc.specs.Stretches.{stretchCount}
+use Rattle.disc.specs.OneStretch.{takenForFile}
 use Rattle.disc.specs.Catalog.{Catalog, slicesNeeded}
 use Rattle.disc.proofs.SliceLaws.{occurrences-append, sum-law, taken-law, length-taken}
-use Rattle.disc.proofs.TakenLaws.{free-same, taken-same}
+use Rattle.disc.proofs.TakenLaws.{free-same}
+use Rattle.disc.proofs.OneStretchLaws.{for-file-same}
 use Rattle.plain.specs.Table.{Table}
 use Rattle.plain.specs.Unit.{Plain, File, M, held, freeSlices, entry, withTables, sysOf}
 use Rattle.plain.specs.Good.{Good, GoodCatalog}
@@ -85,8 +87,8 @@ module _ (p : Plain) (layers : ℕ) where
       )
 
   -- the file takes as on the grown unit
-  pub taken-grown : (last n : ℕ) → taken (M p) (sysTaken p layers ++ held p) last n ≡ taken (M (grownTo p layers)) (held (grownTo p layers)) last n
-  taken-grown last n = taken-same (M p) (sysTaken p layers ++ held p) (held (grownTo p layers)) last n held-grown
+  pub taken-grown : (slices : List ℕ) (n : ℕ) → takenForFile (M p) (sysTaken p layers ++ held p) slices n ≡ takenForFile (M (grownTo p layers)) (held (grownTo p layers)) slices n
+  taken-grown slices n = for-file-same (M p) (sysTaken p layers ++ held p) (held (grownTo p layers)) slices n held-grown
 
   -- SYS's entry alone is another
   pub entry-but-sys : (m : ℕ) → m ≢ SYS → entry (grownTo p layers) m ≡ entry p m

@@ -14,11 +14,13 @@ use Rattle.types.specs.declared.Operation.the-variants.{Reserve, Position, Sens
 use Rattle.disc.specs.Numbers.{need}
 use Rattle.disc.specs.Words.{Words}
 use Rattle.disc.specs.Attributes.{entryOnly, extendable, legalAttributes, legalWith}
-use Rattle.disc.specs.Slices.{occurrences, inUnit, InRangeOnce, taken, lastOf}
+use Rattle.disc.specs.Slices.{occurrences, inUnit, InRangeOnce}
+use Rattle.disc.specs.OneStretch.{takenForFile}
 use Rattle.disc.specs.Stretches.{stretchCount}
 use Rattle.disc.proofs.Compare.{same-or}
 use Rattle.disc.proofs.NumberLaws.{need-suc}
-use Rattle.disc.proofs.SliceLaws.{occurrences-append, taken-law, length-taken}
+use Rattle.disc.proofs.SliceLaws.{occurrences-append}
+use Rattle.disc.proofs.OneStretchLaws.{for-file-law, length-for-file, for-file-none}
 use Rattle.plain.specs.Table.{Table, tableFind, tablePut, Every}
 use Rattle.plain.specs.Unit.{Plain, File, AreaUser, sysOf, M, held, freeSlices}
 use Rattle.plain.specs.Questions.{either}
@@ -114,23 +116,23 @@ module _ {p : Plain} (g : Good p) (n : ℕ) {f : File} (found : tableFind n (p .
   count = slicesToTake (p .s) f
 
   abbrev new-slices : List ℕ
-  new-slices = taken (M p) (held p) (lastOf (f .slices)) count
+  new-slices = takenForFile (M p) (held p) (f .slices) count
 
   -- at most 127 stretches where no slice is needed, too
-  pub append-few : (slicesToTake (p .s) f ≡ 0) ⊎ (stretchCount (f .slices ++ taken (M p) (held p) (lastOf (f .slices)) (slicesToTake (p .s) f)) ≤ 127)
-      → stretchCount (f .slices ++ taken (M p) (held p) (lastOf (f .slices)) (slicesToTake (p .s) f)) ≤ 127
-  append-few few = ⊎-elim (λ (z : count ≡ 0). rw (z, append-nil (f .slices)) (g .catalog .files n f found .few)) (λ x. x) few
+  pub append-few : (slicesToTake (p .s) f ≡ 0) ⊎ (stretchCount (f .slices ++ takenForFile (M p) (held p) (f .slices) (slicesToTake (p .s) f)) ≤ 127)
+      → stretchCount (f .slices ++ takenForFile (M p) (held p) (f .slices) (slicesToTake (p .s) f)) ≤ 127
+  append-few few = ⊎-elim (λ (z : count ≡ 0). rw (z, for-file-none (M p) (held p) (f .slices), append-nil (f .slices)) (g .catalog .files n f found .few)) (λ x. x) few
 
   -- a block is appended to an open file
   pub append-good : {users : Table AreaUser} → tableFind n (p .areas) ≡ some users → T (extendable (f .attributes)) → slicesToTake (p .s) f ≤ freeSlices p
-      → stretchCount (f .slices ++ taken (M p) (held p) (lastOf (f .slices)) (slicesToTake (p .s) f)) ≤ 127 → (words : List ℕ) → WordsOf 256 words
-      → Good (withFile n (rewritten f (f .slices ++ taken (M p) (held p) (lastOf (f .slices)) (slicesToTake (p .s) f)) (f .sectors ++ (words ∷ []))) p)
+      → stretchCount (f .slices ++ takenForFile (M p) (held p) (f .slices) (slicesToTake (p .s) f)) ≤ 127 → (words : List ℕ) → WordsOf 256 words
+      → Good (withFile n (rewritten f (f .slices ++ takenForFile (M p) (held p) (f .slices) (slicesToTake (p .s) f)) (f .sectors ++ (words ∷ []))) p)
   append-good live ext room few words ok =
       let old = g .catalog .files n f found in
       let slices : length (f .slices ++ new-slices) ≡ length (f .slices) + count =
-      omega (arith, length-append (f .slices) new-slices, length-taken (M p) (held p) (lastOf (f .slices)) count) in
+      omega (arith, length-append (f .slices) new-slices, length-for-file (M p) (held p) (f .slices) count) in
       let sectors : length (f .sectors ++ (words ∷ [])) ≡ suc (length (f .sectors)) = omega (arith, length-append (f .sectors) (words ∷ [])) in
-      let once : InRangeOnce (M p) (new-slices ++ held p) = taken-law (M p) (held p) (lastOf (f .slices)) count (g .once) room in
+      let once : InRangeOnce (M p) (new-slices ++ held p) = for-file-law (M p) (held p) (f .slices) count (g .once) room in
       rewrite-good (f .slices ++ new-slices) (f .sectors ++ (words ∷ [])) (record {
         entryOnly = extendable-legal (f .attributes) (length (f .slices ++ new-slices)) (old .attributes) ext;
         words = each-append (WordsOf 256) [] (f .sectors) (words ∷ []) (old .sectors) (each-one (WordsOf 256) [] words ok);

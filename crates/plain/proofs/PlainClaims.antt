@@ -1,7 +1,9 @@
 -- The claims about the plain unit, proved.
+use Rattle.disc.proofs.OneStretchLaws.{in-one-stretch}
 use Rattle.plain.specs.Step.{after}
 use Rattle.plain.specs.Claims.{PlainClaims}
 use Rattle.plain.proofs.Keeps.{step-keeps, list-keeps, good-adds}
+use Rattle.plain.proofs.NewFiles.{new-files}
 use Rattle.plain.proofs.Refuses.{refuses, never-shrinks, no-more-entry-only, never-unsound, never-unsound-after}
 
 pub plain-claims : PlainClaims
@@ -11,6 +13,8 @@ plain-claims = record {
   refuses = refuses;
   neverShrinks = never-shrinks;
   noMoreEntryOnly = no-more-entry-only;
+  newFiles = new-files;
+  inOneStretch = in-one-stretch;
   neverUnsound = never-unsound;
   neverUnsoundAfter = never-unsound-after;
 }

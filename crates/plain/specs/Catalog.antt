@@ -1,6 +1,6 @@
 -- The catalog messages, each with the questions 1 and 3 to 8 that concern it (question 2 is never answered no here).
 use mathlib.Core.Bool.{Bool, not, _&&_, _||_, cond}
-use mathlib.Core.List.{List, _++_}
+use mathlib.Core.List.{List, [], _++_}
 use Prim.Native.Nat.{ℕ, _-_}
 use lib.ListN.{length, take, getD, replicate}
 use lib.Dec.{leb, eqb}
@@ -8,7 +8,6 @@ use Rattle.types.specs.declared.Name.{Name}
 use Rattle.disc.specs.Numbers.{need, negative}
 use Rattle.disc.specs.Names.{named, unitIn, nameOf, legalName}
 use Rattle.disc.specs.Attributes.{legalAttributes, legalWith, givesEntryOnly, permanent}
-use Rattle.disc.specs.Slices.{lastOf}
 pub use Rattle.disc.specs.Entries.{optionalIn, tailIn}
 use Rattle.plain.specs.Table.{Table, tableFind, tablePut, tableRemove, isSome}
 use Rattle.plain.specs.Unit.{Plain, File, sysOf, entry, withFiles}
@@ -38,7 +37,7 @@ stepInit p unit lent =
 unfoldable pub newFile : Plain → ℕ → ℕ → ℕ → List ℕ → List ℕ → List ℕ → Outcome
 newFile p n size attributes optional tail lent =
     let count : ℕ = need (p .s) size in
-    let t : Taking = taking p (sysOf p) (layersFor (p .H) (sysOf p) n (p .files)) 0 count in
+    let t : Taking = taking p (sysOf p) (layersFor (p .H) (sysOf p) n (p .files)) [] count in
     let f : File = record {
       attributes = attributes;
       optional = optional;
@@ -123,7 +122,7 @@ changeFile p n f m size attributes lent =
     let others : Table File = tableRemove n (p .files) in
     let count : ℕ = slicesAfter (p .s) size f in
     let layers : ℕ = cond (eqb m n) (p .layers) (layersFor (p .H) (sysOf p) m others) in
-    let t : Taking = taking p (sysOf p) layers (lastOf (f .slices)) (count - length (f .slices)) in
+    let t : Taking = taking p (sysOf p) layers (f .slices) (count - length (f .slices)) in
     let slices : List ℕ = take count (f .slices) ++ t .fileNew in
     asks (legalName m) (replies p 0x1200 lent)
     (asks (legalAttributes attributes) (replies p 0x1200 lent)

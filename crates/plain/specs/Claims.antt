@@ -1,8 +1,8 @@
 -- What is claimed of the plain unit alone: `Good` is kept, the sum, what a refused call leaves, that SYS never shrinks, that
--- entry-only files never become more, and which result words never come.
+-- entry-only files never become more, which slices a new file takes, and which result words never come.
 use mathlib.Core.Path.{_≡_}
 use mathlib.Core.List.{List, [], _∷_, _++_}
-use mathlib.Core.Option.{some}
+use mathlib.Core.Option.{Option, none, some}
 use mathlib.Core.Logic.{_≢_}
 use Prim.Native.Nat.{ℕ, _+_, _≤_}
 use lib.ListN.{length}
@@ -10,14 +10,16 @@ use lib.Dec.{T, eqb}
 use Rattle.types.specs.declared.Operation.{Operation}
 use Rattle.types.specs.declared.Operation.the-variants.{Position, Transput}
 use Rattle.types.specs.declared.Message.{Message}
-use Rattle.types.specs.declared.Message.the-variants.{AreaMessage}
+use Rattle.types.specs.declared.Message.the-variants.{Set, Create, Change, AreaMessage}
 use Rattle.types.specs.declared.Name.{Name}
 use Rattle.disc.specs.Words.{Words}
 use Rattle.disc.specs.Names.{named}
 use Rattle.disc.specs.Attributes.{entryOnly}
 use Rattle.disc.specs.Slices.{InRangeOnce}
+use Rattle.disc.specs.OneStretch.{takenForFile, InOneStretch}
 use Rattle.plain.specs.Table.{Row, Table, tableFind, total}
-use Rattle.plain.specs.Unit.{Plain, File, AreaUser, M, held, freeSlices}
+use Rattle.plain.specs.Unit.{Plain, File, AreaUser, M, slicesOf, held, freeSlices}
+use Rattle.plain.specs.Catalog.{newName}
 use Rattle.plain.specs.Areas.{moved}
 use Rattle.plain.specs.Transput.{isRandom, oneIf}
 use Rattle.plain.specs.Step.{Call, Reply, step, after, answers}
@@ -81,6 +83,26 @@ filesWith a p = total (hasAttributes a) (p .files)
 abbrev pub NoMoreEntryOnly : Plain → Plain → Type 0
 NoMoreEntryOnly p q = (a : ℕ) → T (entryOnly a) → filesWith a q ≤ filesWith a p
 
+-- The slices of a file that there may be.
+abbrev pub slicesIn : Option File → List ℕ
+slicesIn none = []
+slicesIn (some f) = f .slices
+
+-- "Taking slices for a file that has none" (document 02, R-6): those that the name n has in q are the choice for a file that has none, beside
+-- the slices that SYS has in q, since "SYS still takes first", and the files of p.
+abbrev pub NewSlices : Plain → ℕ → Plain → Type 0
+NewSlices p n q =
+    let new : List ℕ = slicesIn (tableFind n (q .files)) in
+    new ≡ takenForFile (M p) (q .sys ++ slicesOf (p .files)) [] (length new)
+
+-- It is so after every Create and Set, and every Change of a file that has none, that is answered 0.
+pub record NewFiles (p : Plain) (name : Name) (lent : List ℕ) : Type 0 where
+  pub create : (size attributes : ℕ) → let o = step p (Create name size attributes) lent in
+      o .answer .result ≡ 0 → NewSlices p (named name) (o .unit)
+  pub set : let o = step p (Set name) lent in o .answer .result ≡ 0 → NewSlices p (named name) (o .unit)
+  pub change : (f : File) → tableFind (named name) (p .files) ≡ some f → f .slices ≡ [] → let o = step p (Change name) lent in
+      o .answer .result ≡ 0 → NewSlices p (newName (named name) lent) (o .unit)
+
 -- "9000h and 8800h never come": a result word is neither.
 pub record NeverUnsound (word : ℕ) : Type 0 where
   pub catalog : word ≢ 0x9000
@@ -91,7 +113,7 @@ abbrev pub EachNeverUnsound : List Reply → Type 0
 EachNeverUnsound [] = Unit {0}
 EachNeverUnsound (r ∷ replies) = NeverUnsound (r .answer .result) × EachNeverUnsound replies
 
--- The claims. The last five hold of every plain unit, good or not.
+-- The claims. The last seven hold of every plain unit, good or not; `inOneStretch` is said of the choice, whatever slices are held.
 pub record PlainClaims : Type 0 where
   pub keeps : (p : Plain) (message : Message) (lent : List ℕ) → Good p → Words lent → Good (step p message lent .unit)
   pub adds : (calls : List Call) (p : Plain) → Good p → LentWords calls → Good (after p calls) × Adds (after p calls)
@@ -99,5 +121,7 @@ pub record PlainClaims : Type 0 where
       → Refused p message lent (step p message lent)
   pub neverShrinks : (calls : List Call) (p : Plain) → NeverShrinks p (after p calls)
   pub noMoreEntryOnly : (calls : List Call) (p : Plain) → NoMoreEntryOnly p (after p calls)
+  pub newFiles : (p : Plain) (name : Name) (lent : List ℕ) → NewFiles p name lent
+  pub inOneStretch : (m : ℕ) (held : List ℕ) (n : ℕ) → 1 ≤ n → InOneStretch m held n
   pub neverUnsound : (p : Plain) (message : Message) (lent : List ℕ) → NeverUnsound (step p message lent .answer .result)
   pub neverUnsoundAfter : (calls : List Call) (p : Plain) → EachNeverUnsound (answers p calls)

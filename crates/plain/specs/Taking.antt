@@ -7,6 +7,7 @@ use lib.ListN.{length, replicate}
 use lib.Dec.{leb}
 use Rattle.disc.specs.Names.{keyOf}
 use Rattle.disc.specs.Slices.{oneIfSame, taken, lastOf}
+use Rattle.disc.specs.OneStretch.{takenForFile}
 use Rattle.disc.specs.Stretches.{stretchCount}
 use Rattle.disc.specs.Catalog.{Catalog, slicesNeeded}
 use Rattle.plain.specs.Table.{Table, total}
@@ -39,9 +40,9 @@ pub record Taking : Type 0 where
   pub catalogNew : List ℕ
   pub fileNew : List ℕ
 
--- With these layers of the catalog, a file whose last slice is `last` takes `forFile` slices.
-abbrev pub taking : Plain → Catalog → ℕ → ℕ → ℕ → Taking
-taking p c layers last forFile =
+-- With these layers of the catalog, a file with these slices takes `forFile` more: "SYS still takes first, one by one" (R-6).
+abbrev pub taking : Plain → Catalog → ℕ → List ℕ → ℕ → Taking
+taking p c layers slices forFile =
     let forCatalog : ℕ = slicesNeeded (p .H) (p .s) c layers - length (c .slices) in
     let catalogNew : List ℕ = taken (M p) (held p) (lastOf (c .slices)) forCatalog in
     record {
@@ -49,7 +50,7 @@ taking p c layers last forFile =
       forCatalog = forCatalog;
       forFile = forFile;
       catalogNew = catalogNew;
-      fileNew = taken (M p) (catalogNew ++ held p) last forFile;
+      fileNew = takenForFile (M p) (catalogNew ++ held p) slices forFile;
     }
 
 -- "7. Enough free slices for SYS and file together? 1100h. 8. At most 127 stretches in each? 1008h." Then the unit has

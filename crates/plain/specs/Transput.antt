@@ -7,7 +7,7 @@ use lib.ListN.{length, take, getD, set}
 use lib.Dec.{leb, ltb, eqb}
 use Rattle.disc.specs.Numbers.{need}
 use Rattle.disc.specs.Attributes.{writeProtected, extendable}
-use Rattle.disc.specs.Slices.{taken, lastOf}
+use Rattle.disc.specs.OneStretch.{takenForFile}
 use Rattle.disc.specs.Stretches.{stretchCount}
 use Rattle.plain.specs.Table.{Table, tablePut}
 use Rattle.plain.specs.Unit.{Plain, File, AreaUser, M, held, freeSlices, withFiles}
@@ -72,7 +72,7 @@ slicesToTake s f = oneIf (ltb (length (f .slices)) (need s (suc (length (f .sect
 unfoldable pub append : Plain → Plain → (ℕ → Plain) → ℕ → File → ℕ → List ℕ → Outcome
 append p q move n f k lent =
     let count : ℕ = slicesToTake (p .s) f in
-    let slices : List ℕ = f .slices ++ taken (M p) (held p) (lastOf (f .slices)) count in
+    let slices : List ℕ = f .slices ++ takenForFile (M p) (held p) (f .slices) count in
     asks (extendable (f .attributes)) (refusedAt q 0x0A00 k lent)
     (asks (leb count (freeSlices p)) (refusedAt q 0x0900 k lent)
     (asks (eqb count 0 || leb (stretchCount slices) 127) (refusedAt q 0x0808 k lent)

@@ -7,10 +7,10 @@ use Prim.Native.Nat.{ℕ, _*_, _-_, _<_, _/_, _%_}
 use native.Mathlib.Omega.{arith}
 use lib.ListN.{length}
 use Rattle.disc.specs.Words.{Words}
-use Rattle.disc.specs.Slices.{taken, lastOf}
+use Rattle.disc.specs.OneStretch.{takenForFile}
 use Rattle.disc.specs.Stretches.{sysFrom}
 use Rattle.disc.specs.Entries.{indexSector, placeWord, placeCount, nameAt}
-use Rattle.disc.proofs.SliceLaws.{length-taken}
+use Rattle.disc.proofs.OneStretchLaws.{length-for-file}
 use Rattle.disc.proofs.EntryLaws.{length-entry}
 use Rattle.words.proofs.StoreLaws.{words-store, words-zeroWords}
 use Rattle.plain.specs.Table.{tableFind, tablePut, tableRemove, Table}
@@ -38,8 +38,8 @@ use Rattle.refine.proofs.Writers.{write-zero, write-entry}
 module _ {p : Plain} {f f′ : File} {size count : ℕ} (c : Changes p f f′ size count) where
   pub changes-resizes : Resizes (f .slices) (f′ .slices)
   changes-resizes =
-      resizes-taken (f .slices) (f′ .slices) (taken (M p) (held p) (lastOf (f .slices)) (count - length (f .slices))) count
-      (length-taken (M p) (held p) (lastOf (f .slices)) (count - length (f .slices))) (c .slices)
+      resizes-taken (f .slices) (f′ .slices) (takenForFile (M p) (held p) (f .slices) (count - length (f .slices))) count
+      (length-for-file (M p) (held p) (f .slices) (count - length (f .slices))) (c .slices)
 
   pub changes-entry : (n : ℕ) → length (fileEntry (p .F) (p .s) n f′) ≡ 16
   changes-entry n =

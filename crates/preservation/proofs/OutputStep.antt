@@ -11,12 +11,13 @@ use lib.ListN.{length, getD, set, length-append, length-set, List·getD-append, 
 use lib.Seq.{getD-append-seam, getD-set-same, getD-set-other}
 use Rattle.disc.specs.Words.{Words, Holds}
 use Rattle.disc.specs.Attributes.{extendable}
-use Rattle.disc.specs.Slices.{occurrences, lastOf}
+use Rattle.disc.specs.Slices.{occurrences}
 use Rattle.disc.specs.Stretches.{sectorIn, stretchCount, indexWords, blockSector, fileFrom}
 use Rattle.disc.specs.Map.{onesInMap}
 use Rattle.disc.specs.Entries.{indexSector}
 use Rattle.disc.proofs.Compare.{same-or}
-use Rattle.disc.proofs.SliceLaws.{occurrences-append, length-taken}
+use Rattle.disc.proofs.SliceLaws.{occurrences-append}
+use Rattle.disc.proofs.OneStretchLaws.{length-for-file}
 use Rattle.disc.proofs.TakenLaws.{free-same}
 use Rattle.words.specs.Store.{store, sectorWords, zeroWords}
 use Rattle.words.proofs.StoreLaws.{length-store, words-store, holds-store, store-same, length-zeroWords, words-zeroWords, length-sectorWords, getD-sectorWords, words-sectorWords, sectorWords-holds}
@@ -175,7 +176,7 @@ module _ {i : List ℕ} {p : Plain} (o : OnDisc i p) (n : ℕ) {f : File} (found
   after = withFile n more p
 
   new-count : length new ≡ count
-  new-count = length-taken (M p) (held p) (lastOf (f .slices)) count
+  new-count = length-for-file (M p) (held p) (f .slices) count
 
   slices-count : length slices ≡ length (f .slices) + count
   slices-count = omega (arith, length-append (f .slices) new, new-count)

@@ -15,9 +15,9 @@ use Rattle.disc.proofs.SliceLaws.{occurrences-append}
 use Rattle.words.specs.Store.{store, sectorWords}
 use Rattle.words.proofs.StoreLaws.{store-in, length-store, length-sectorWords, getD-sectorWords}
 use Rattle.slices.specs.declared.Growth.{Growth}
-use Rattle.slices.specs.Take.{CanTakeFrom, CanTake, Taken}
+use Rattle.slices.specs.Take.{CanTakeFrom, CanTake, Taken, FileTaken}
 use Rattle.slices.specs.Fit.{CanFitFrom, CanFit, Fits}
-use Rattle.slices.proofs.TakeLaws.{can-fewer, can-after}
+use Rattle.slices.proofs.TakeLaws.{can-fewer, can-fresh, can-after}
 
 -- the copy has the image's map
 pub record Copied (image scratch : List ℕ) : Type 0 where
@@ -67,12 +67,12 @@ module _ {image scratch : List ℕ} (copy : Copied image scratch) where
         second-from {held} {cs} can =
             let new : List ℕ = taken m held (lastOf cs) (catalog .more) in
             rw (took .all held cs (first-from can) .marked e)
-            (can-after (catalog .more) (file .more) (can-copied (can .first)) (can .second .own) (λ k. omega (arith, occurrences-append k new held, can .second .part k)))
+            (can-after (catalog .more) (file .more) (can-copied (can .first)) (can-fresh (first-from can)) (can .second .own) (λ k. omega (arith, occurrences-append k new held, can .second .part k)))
 
         pub can-second : CanFit image F s m catalog file → CanTake after (file .block .words) F s m (file .more)
         can-second fit = record { held = _; slices = fit .fileSlices; can = second-from (fit .can) }
 
-        pub second-fits : {after₂ new₂ : List ℕ} {r₂ : Bool} → Taken after (file .block .words) F s m (file .more) after₂ new₂ r₂ → Fits image F s m catalog file r₂
+        pub second-fits : {after₂ new₂ : List ℕ} {r₂ : Bool} → FileTaken after (file .block .words) F s m (file .more) after₂ new₂ r₂ → Fits image F s m catalog file r₂
         second-fits then = record {
           all = λ held cs fs can.
               let one = took .all held cs (first-from can) .fits in

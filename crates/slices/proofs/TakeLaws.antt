@@ -12,10 +12,12 @@ use borrow.Author.Tests.{le-leb, lt-leb}
 use Rattle.types.specs.declared.Slice.{Slice}
 use Rattle.disc.specs.Slices.{occurrences, InRangeOnce, freeCount, choose, taken, lastOf}
 use Rattle.disc.specs.Stretches.{stretchCount}
+use Rattle.disc.specs.OneStretch.{takenForFile}
 use Rattle.disc.specs.Map.{mapBit}
 use Rattle.disc.proofs.Compare.{same-or}
 use Rattle.disc.proofs.DecideLaws.{holds}
-use Rattle.disc.proofs.SliceLaws.{choose-law, inUnit-out, occurrences-append, sum-law, taken-law, length-taken, last-snoc}
+use Rattle.disc.proofs.SliceLaws.{choose-law, inUnit-out, occurrences-self, occurrences-append, sum-law, taken-law, length-taken, last-snoc}
+use Rattle.disc.proofs.OneStretchLaws.{for-file-law, length-for-file, for-file-one}
 use Rattle.disc.proofs.CutLaws.{count-take}
 use Rattle.map.specs.declared.Choice.{Choice}
 use Rattle.map.specs.declared.Choice.the-variants.{Free, None}
@@ -37,6 +39,18 @@ use Rattle.slices.proofs.BlockLaws.{slice-in, start-small, block-last, 
 count-prefix : (l m : List ℕ) → stretchCount l ≤ stretchCount (l ++ m)
 count-prefix l m = rw (take-append-seam l m) at (count-take (length l) (l ++ m))
 
+-- n slices that are not held, none of them twice
+pub record Fresh (m n : ℕ) (held more : List ℕ) : Type 0 where
+  pub once : InRangeOnce m (more ++ held)
+  pub count : length more ≡ n
+
+-- those of 01's choice, and those that a file takes
+pub fresh-taken : (m : ℕ) (held : List ℕ) (last n : ℕ) → InRangeOnce m held → n ≤ freeCount m held → Fresh m n held (taken m held last n)
+fresh-taken m held last n once enough = record { once = taken-law m held last n once enough; count = length-taken m held last n }
+
+pub fresh-by : (m : ℕ) (held slices : List ℕ) (n : ℕ) → InRangeOnce m held → n ≤ freeCount m held → Fresh m n held (takenForFile m held slices n)
+fresh-by m held slices n once enough = record { once = for-file-law m held slices n once enough; count = length-for-file m held slices n }
+
 module _ {image block : List ℕ} {F s m n : ℕ} {held slices : List ℕ} (can : CanTakeFrom image block F s m n held slices) where
   -- fewer can be taken too
   pub can-fewer : {k : ℕ} → k ≤ n → CanTakeFrom image block F s m k held slices
@@ -49,39 +63,36 @@ module _ {image block : List ℕ} {F s m n : ℕ} {held slices : List ℕ} (can 
     part = can .part;
   }
 
-  -- all slices of the longer file are the unit's, and none stands in it twice
-  pub longer-once : InRangeOnce m (slices ++ taken m held (lastOf slices) n)
-  longer-once k =
-      let new : List ℕ = taken m held (lastOf slices) n in
-      omega (arith, occurrences-append k slices new, occurrences-append k new held, taken-law m held (lastOf slices) n (can .once) (can .enough) k, can .part k)
+  pub can-fresh : Fresh m n held (taken m held (lastOf slices) n)
+  can-fresh = fresh-taken m held (lastOf slices) n (can .once) (can .enough)
 
-  -- the block of the longer file
-  pub longer-own : {longer : List ℕ} → stretchCount (slices ++ taken m held (lastOf slices) n) ≤ 127 → longer ≡ wholeIndex F s (slices ++ taken m held (lastOf slices) n)
-      → SliceBlock longer F s m (slices ++ taken m held (lastOf slices) n)
-  longer-own few words = record {
-    size = can .own .size;
-    most = can .own .most;
-    top = can .own .top;
-    words = words;
-    few = few;
-    once = longer-once;
-  }
+  module _ {more : List ℕ} (fresh : Fresh m n held more) where
+    -- all slices of the longer file are the unit's, and none stands in it twice
+    pub longer-once : InRangeOnce m (slices ++ more)
+    longer-once k = omega (arith, occurrences-append k slices more, occurrences-append k more held, fresh .once k, can .part k)
+
+    -- the block of the longer file
+    pub longer-own : {longer : List ℕ} → stretchCount (slices ++ more) ≤ 127 → longer ≡ wholeIndex F s (slices ++ more) → SliceBlock longer F s m (slices ++ more)
+    longer-own few words = record {
+      size = can .own .size;
+      most = can .own .most;
+      top = can .own .top;
+      words = words;
+      few = few;
+      once = longer-once;
+    }
 
 -- once n of n + r slices are taken, the map is that of a file whose slices are among those held then
-pub can-after : {image block : List ℕ} {F s m : ℕ} (n r : ℕ) {held slices : List ℕ} → CanTakeFrom image block F s m (n + r) held slices → {other l : List ℕ} → SliceBlock other F s m l
-    → ((k : ℕ) → occurrences k l ≤ occurrences k (taken m held (lastOf slices) n ++ held))
-    → CanTakeFrom (allUsed image (taken m held (lastOf slices) n)) other F s m r (taken m held (lastOf slices) n ++ held) l
-can-after {image} {m = m} n r {held} {slices} can own part =
-    let new : List ℕ = taken m held (lastOf slices) n in
-    let once : InRangeOnce m (new ++ held) = taken-law m held (lastOf slices) n (can .once) (omega (arith, can .enough)) in
-    record {
-      own = own;
-      long = omega (arith, can .long, length-all-marked 0 new image);
-      map = map-taken m new held image (own .most) (can .long) (can .map) once;
-      once = once;
-      enough = omega (arith, can .enough, sum-law m held (can .once), sum-law m (new ++ held) once, length-append new held, length-taken m held (lastOf slices) n);
-      part = part;
-    }
+pub can-after : {image block : List ℕ} {F s m : ℕ} (n r : ℕ) {held slices more : List ℕ} → CanTakeFrom image block F s m (n + r) held slices → Fresh m n held more
+    → {other l : List ℕ} → SliceBlock other F s m l → ((k : ℕ) → occurrences k l ≤ occurrences k (more ++ held)) → CanTakeFrom (allUsed image more) other F s m r (more ++ held) l
+can-after {image} {m = m} n r {held} {more = more} can fresh own part = record {
+  own = own;
+  long = omega (arith, can .long, length-all-marked 0 more image);
+  map = map-taken m more held image (own .most) (can .long) (can .map) (fresh .once);
+  once = fresh .once;
+  enough = omega (arith, can .enough, sum-law m held (can .once), sum-law m (more ++ held) (fresh .once), length-append more held, fresh .count);
+  part = part;
+}
 
 -- slices of a file of a unit on the image
 pub unit-take : {image block : List ℕ} {p : Plain} {n : ℕ} {slices : List ℕ} → OnDisc image p → FileBlock image block (p .F) (p .s) (M p) slices → n ≤ freeSlices p
@@ -96,7 +107,11 @@ answered : {m : ℕ} {held slices : List ℕ} {r : Next} → r ≡ nextOf m held
 unfolding nextOf nextAsked
 answered {m} {held} {slices} e =
     let k : ℕ = choose m held (lastOf slices) in
-    record { next = e; word = ap nextWord e ∙ go (leb 1 (freeCount m held)) (leb (stretchCount (slices ++ (k ∷ []))) 127) k }
+    record {
+      next = e;
+      word = ap nextWord e ∙ go (leb 1 (freeCount m held)) (leb (stretchCount (slices ++ (k ∷ []))) 127) k
+          ∙ ap (λ (l : List ℕ). cond (leb 1 (freeCount m held)) (cond (leb (stretchCount (slices ++ l)) 127) 0 0x0808) 0x0900) (sym (for-file-one m held slices));
+    }
   where
     go : (a b : Bool) (k : ℕ) → nextWord (cond a (cond b (At (record { 0 = k })) Crowded) NoneFree) ≡ cond a (cond b 0 0x0808) 0x0900
     go true true k = refl
@@ -148,13 +163,29 @@ module _ {image block : List ℕ} {F s m : ℕ} {held slices : List ℕ} (can : 
 
 -- ---- one slice
 
-module _ {image block : List ℕ} {F s m n : ℕ} {held slices : List ℕ} (can : CanTakeFrom image block F s m (suc n) held slices) where
+-- a slice that is not held, put at the end of the block
+module _ {image block : List ℕ} {F s m : ℕ} {held slices : List ℕ} (can : CanTakeFrom image block F s m 1 held slices) {k : ℕ} (fresh : Fresh m 1 held (k ∷ [])) where
+  pub inside : (1 ≤ k) × (k ≤ m)
+  inside = inUnit-out m k (omega (arith, fresh .once k, occurrences-self k held))
+
+  module _ (few : stretchCount (slices ++ (k ∷ [])) ≤ 127) where
+    pub ready : Appendable F s k block
+    ready =
+        let own = can .own in
+        let all : suc (length slices) ≤ m = omega (arith, sum-law m (slices ++ (k ∷ [])) (longer-once can fresh), length-append slices (k ∷ [])) in
+        rw (own .words)
+        (append-ready F s slices k (omega (arith, own .size)) (λ j x. slice-in own j x .0) (inside .0) few (start-small own k (inside .1))
+        (omega (arith, mul-le-mul-left s all, own .top)))
+
+    pub appended-is : appended F s k block ≡ wholeIndex F s (slices ++ (k ∷ []))
+    appended-is =
+        ap (appended F s k) (can .own .words)
+        ∙ append-whole F s slices k (omega (arith, can .own .size)) (λ j x. slice-in (can .own) j x .0) (inside .0) few
+
+module _ {image block : List ℕ} {F s m : ℕ} {held slices : List ℕ} (can : CanTakeFrom image block F s m 1 held slices) where
   -- the slice that is taken
   abbrev pub next : ℕ
   next = choose m held (lastOf slices)
-
-  pub next-inside : (1 ≤ next) × (next ≤ m)
-  next-inside = inUnit-out m next (omega (arith, choose-law m (lastOf slices) held (omega (arith, can .enough)) .1))
 
   -- the answer, as one is free
   answer : nextOf m held slices ≡ cond (leb (stretchCount (slices ++ (next ∷ []))) 127) (At (record { 0 = next })) Crowded
@@ -174,33 +205,18 @@ module _ {image block : List ℕ} {F s m n : ℕ} {held slices : List ℕ} (can 
           sliceOf Crowded = 0
       go false f g = let z : _≡_ {A = ℕ} 0 1 = cc in absurd (omega arith)
 
-  module _ (few : stretchCount (slices ++ (next ∷ [])) ≤ 127) where
-    pub one-few : nextOf m held slices ≡ At (record { 0 = next })
-    one-few = answer ∙ rw (le-leb (stretchCount (slices ++ (next ∷ []))) 127 few) refl
+  pub one-few : stretchCount (slices ++ (next ∷ [])) ≤ 127 → nextOf m held slices ≡ At (record { 0 = next })
+  one-few few = answer ∙ rw (le-leb (stretchCount (slices ++ (next ∷ []))) 127 few) refl
 
-    pub ready : Appendable F s next block
-    ready =
-        let own = can .own in
-        let all : suc (length slices) ≤ m =
-        omega (arith, sum-law m (slices ++ (next ∷ [])) (longer-once (can-fewer can {k = 1} (omega arith))), length-append slices (next ∷ [])) in
-        rw (own .words)
-        (append-ready F s slices next (omega (arith, own .size)) (λ j x. slice-in own j x .0) (next-inside .0) few (start-small own next (next-inside .1))
-        (omega (arith, mul-le-mul-left s all, own .top)))
-
-    pub appended-is : appended F s next block ≡ wholeIndex F s (slices ++ (next ∷ []))
-    appended-is =
-        ap (appended F s next) (can .own .words)
-        ∙ append-whole F s slices next (omega (arith, can .own .size)) (λ j x. slice-in (can .own) j x .0) (next-inside .0) few
-
-pub took-one : {image block : List ℕ} {F s m : ℕ} {held slices : List ℕ} (can : CanTakeFrom image block F s m 1 held slices) {k : Slice} {after new : List ℕ}
-    → At k ≡ nextOf m held slices → after ≡ markedUsed image (k .0) → new ≡ appended F s (k .0) block → TakenFrom image F s m 1 held slices after new true
-took-one {image} {block} {F} {s} can {k} e a b =
-    let is = one-at {n = 0} can e in
-    record {
-      fits = holds (is .1);
-      marked = λ _. a ∙ ap (markedUsed image) (is .0) ∙ sym (all-marked-one 0 image (next {n = 0} can));
-      words = λ _. b ∙ ap (λ (x : ℕ). appended F s x block) (is .0) ∙ appended-is {n = 0} can (is .1);
-    }
+  pub took-one : {k : Slice} {after new : List ℕ} → At k ≡ nextOf m held slices → after ≡ markedUsed image (k .0) → new ≡ appended F s (k .0) block
+      → TakenFrom image F s slices (taken m held (lastOf slices) 1) after new true
+  took-one {k} e a b =
+      let is = one-at e in
+      record {
+        fits = holds (is .1);
+        marked = λ _. a ∙ ap (markedUsed image) (is .0) ∙ sym (all-marked-one 0 image next);
+        words = λ _. b ∙ ap (λ (x : ℕ). appended F s x block) (is .0) ∙ appended-is can (can-fresh can) (is .1);
+      }
 
 -- ---- several slices: what is left to take gives what was to be taken
 
@@ -232,11 +248,11 @@ module _ {image₀ image block : List ℕ} {F s m n r : ℕ} {held slices : List
     unfolding allMarked
     left-next e =
         let t = took .all (left .nowHeld) (left .nowSlices) one in
-        let own = longer-own one (t .fits .yes e) refl in
+        let own = longer-own one (can-fresh one) (t .fits .yes e) refl in
         rw (t .marked e, t .words e) (record {
           nowHeld = k ∷ left .nowHeld;
           nowSlices = left .nowSlices ++ (k ∷ []);
-          can = can-after 1 r (can-fewer (left .can) (omega arith)) own (λ j. omega (arith, occurrences-append j (left .nowSlices) (k ∷ []), left .can .part j));
+          can = can-after 1 r (can-fewer (left .can) (omega arith)) (can-fresh one) own (λ j. omega (arith, occurrences-append j (left .nowSlices) (k ∷ []), left .can .part j));
           sameImage = rw (last-snoc (left .nowSlices) k) (left .sameImage);
           sameSlices = rw (last-snoc (left .nowSlices) k, append-assoc (left .nowSlices) (k ∷ []) rest) (left .sameSlices);
         })
@@ -249,7 +265,7 @@ module _ {image₀ image block : List ℕ} {F s m n r : ℕ} {held slices : List
         t .fits .not e (omega (arith, count-prefix longer rest, ap stretchCount (append-assoc (left .nowSlices) (k ∷ []) rest ∙ left .sameSlices)))
 
 pub left-done : {image₀ image block : List ℕ} {F s m n : ℕ} {held slices : List ℕ} → Left image₀ image block F s m n 0 held slices
-    → TakenFrom image₀ F s m n held slices image block true
+    → TakenFrom image₀ F s slices (taken m held (lastOf slices) n) image block true
 unfolding allMarked
 left-done {F = F} {s = s} left =
     let e = sym (append-nil (left .nowSlices)) ∙ left .sameSlices in

@@ -5,6 +5,7 @@ use Prim.Native.Nat.{ℕ, _+_, _≤_}
 use Rattle.disc.specs.Decide.{Decides}
 use Rattle.disc.specs.Slices.{taken, lastOf}
 use Rattle.disc.specs.Stretches.{stretchCount}
+use Rattle.disc.specs.OneStretch.{takenForFile}
 use Rattle.slices.specs.declared.Growth.{Growth}
 use Rattle.slices.specs.Take.{CanTakeFrom}
 
@@ -23,5 +24,5 @@ pub record CanFit (image : List ℕ) (F s m : ℕ) (catalog file : Growth) : Typ
 pub record Fits (image : List ℕ) (F s m : ℕ) (catalog file : Growth) (r : Bool) : Type 0 where
   pub all : (held catalogSlices fileSlices : List ℕ) → CanFitFrom image F s m catalog file held catalogSlices fileSlices
       → let catalogNew = taken m held (lastOf catalogSlices) (catalog .more) in
-      let fileNew = taken m (catalogNew ++ held) (lastOf fileSlices) (file .more) in
+      let fileNew = takenForFile m (catalogNew ++ held) fileSlices (file .more) in
       Decides r ((stretchCount (catalogSlices ++ catalogNew) ≤ 127) × (stretchCount (fileSlices ++ fileNew) ≤ 127))

@@ -1,12 +1,12 @@
-// The slices of files: which one is taken next, slices taken and given back with the index block stored whole, whether there is room for
-// all that are wanted, sectors zeroed, and the free slices counted.
+// The slices of files: which one is taken next, slices taken, for a new file in one stretch where there is one, and given back, with the
+// index block stored whole; whether there is room for all that are wanted; sectors zeroed, and the free slices counted.
 
 ghost use mathlib.Core.Path.{_≡_};
 ghost use Prim.Native.Nat.{_+_, _*_, _≤_, _<_};
 ghost use lib.ListN.{length};
 ghost use Rattle.disc.specs.Map.{onesInMap};
 ghost use Rattle.refine.specs.Writes.{countedFree};
-ghost use Rattle.slices.specs.Take.{Chosen, CanTake, Taken, CanLengthen, LengthenedAt, Lengthened};
+ghost use Rattle.slices.specs.Take.{Chosen, CanTake, Taken, FileTaken, CanLengthen, LengthenedAt, CanLengthenFile, Lengthened};
 ghost use Rattle.slices.specs.Fit.{CanFit, Fits};
 ghost use Rattle.slices.specs.Give.{CanFree, Freed, CanCut, Cut};
 ghost use Rattle.slices.specs.Zero.{CanZero, Zeroed};
@@ -29,7 +29,7 @@ pub struct Growth {
     pub more: u16,
 }
 
-// The slice that the file with this index block takes next: the next after its last if that is free, else the lowest free.
+// The slice that the file with this index block takes, if it takes one: the next after its last if that is free, else the lowest free.
 pub fn next_slice(image: &[u16], words: &[u16], first: Sector, s: u16, slices: u16) -> Next
     requires { ⌜ CanTake (now image) (now words) (first .0) s slices 0 ⌝ }
     ensures { λ r. ⌜ Chosen (now (image .entry)) (now (words .entry)) (first .0) s slices r ⌝ }
@@ -57,8 +57,8 @@ fn take_one(image: &mut [u16], words: &mut [u16], first: Sector, s: u16, slices:
     true
 }
 
-// Takes n slices, one after the other: the one loop for a file's slices on the image and for those that are only tried. It stops, with
-// false, where the block has no room.
+// Takes n slices, one after the other: the one loop for slices on the image and for those that are only tried. It stops, with false, where
+// the block has no room.
 fn take_slices(
     image: &mut [u16],
     words: &mut [u16],
@@ -80,6 +80,30 @@ fn take_slices(
     true
 }
 
+// Takes n slices for a file. One that has none takes the lowest stretch of n neighbouring free slices, if there is one: its first slice is
+// that of the stretch, and the others are the next ones. All else is taken one after the other.
+fn take_for_file(
+    image: &mut [u16],
+    words: &mut [u16],
+    first: Sector,
+    s: u16,
+    slices: u16,
+    n: u16,
+) -> bool
+    requires { ⌜ CanTake (now image) (now words) (first .0) s slices n ⌝ }
+    ensures { λ r. ⌜ FileTaken (now (image .entry)) (now (words .entry)) (first .0) s slices n (now (image .exit)) (now (words .exit)) r ⌝ }
+{
+    if n == 0 || index::pair_count(words, Sector(0)) != 0 {
+        return take_slices(image, words, first, s, slices, n);
+    }
+    let Choice::Free(k) = map::lowest_stretch(image, n) else {
+        return take_slices(image, words, first, s, slices, n);
+    };
+    map::mark_used(image, k);
+    index::append_slice(words, first, s, k);
+    take_slices(image, words, first, s, slices, n - 1)
+}
+
 // Whether a catalog and then a file have room for the slices that they are to take: both take them on a copy of the map, sector 9.
 pub fn fits(
     image: &[u16],
@@ -99,11 +123,11 @@ pub fn fits(
         return false;
     }
     let mut others = file.block.words;
-    take_slices(&mut scratch, &mut others, first, s, slices, file.more)
+    take_for_file(&mut scratch, &mut others, first, s, slices, file.more)
 }
 
-// Takes n slices, for which there is room, for the file whose index block, given and changed, stands in sector q; with n = 0 nothing is
-// written.
+// Takes n slices, for which there is room, one after the other: for the catalog whose index block, given and changed, stands in sector q;
+// with n = 0 nothing is written.
 pub fn take_at(
     image: &mut [u16],
     q: Sector,
@@ -126,7 +150,8 @@ pub fn take_at(
     longer
 }
 
-// The same for an ordinary file, whose index block goes to the first sector of its first slice: a new one, if it had none.
+// The same for an ordinary file, by the choice for files; its index block goes to the first sector of its first slice: a new one, if it had
+// none.
 pub fn take_more(
     image: &mut [u16],
     block: IndexBlock,
@@ -135,14 +160,14 @@ pub fn take_more(
     slices: u16,
     n: u16,
 ) -> IndexBlock
-    requires { ⌜ CanLengthen (now image) (block .words) (first .0) s slices n ⌝ }
+    requires { ⌜ CanLengthenFile (now image) (block .words) (first .0) s slices n ⌝ }
     ensures { λ r. ⌜ Lengthened (now (image .entry)) (block .words) (first .0) s slices n (now (image .exit)) (r .words) ⌝ }
 {
     if n == 0 {
         return block;
     }
     let mut words = block.words;
-    take_slices(image, &mut words, first, s, slices, n);
+    take_for_file(image, &mut words, first, s, slices, n);
     let longer = IndexBlock { words: words };
     let q = index::block_sector(longer, 0, Block(0));
     index::store_block(image, q, longer);

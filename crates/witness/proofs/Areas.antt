@@ -31,7 +31,7 @@ use Rattle.refine.proofs.StateLaws.{same-absent, same-full}
 use Rattle.preservation.proofs.Whole.{on-disc}
 use Rattle.preservation.proofs.WriteLaws.{words-file-entry}
 use Rattle.lookup.proofs.FileLaws.{name-open, name-absent}
-use Rattle.areas.proofs.RemoveLaws.{none-left}
+use Rattle.disc.proofs.SliceLaws.{none-left}
 use Rattle.areas.specs.Areas.{AreaCreated, dummyCreate, made, AreaRemoved, dummyRemove, books}
 use Rattle.witness.proofs.Ends.{Effect, Ends, ask, turn, finish, give}
 use Rattle.witness.proofs.Files.{name-place}

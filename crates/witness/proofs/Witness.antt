@@ -11,6 +11,8 @@ use Rattle.disc.specs.Words.{Words}
 use Rattle.disc.proofs.WordLaws.{words-none, words-replicate}
 use Rattle.words.specs.Store.{zeroWords}
 use Rattle.words.proofs.StoreLaws.{length-zeroWords, words-zeroWords}
+use Rattle.disc.specs.Slices.{lowestOne}
+use Rattle.disc.specs.OneStretch.{lowestStretch, takenForFile}
 use Rattle.plain.specs.Unit.{Plain, entry}
 use Rattle.plain.specs.Questions.{asks, given, either}
 use Rattle.plain.specs.Catalog.{newFile}
@@ -35,7 +37,7 @@ use Rattle.witness.proofs.Total.{no-unit, not-sound, total}
 -- ---- on the plain unit, by computation
 
 shows : Shows paperUnit witnessCases
-unfolding entry asks given either newFile stepReserve stepRelease positioned input append output stepTransput userStep operationStep
+unfolding lowestOne lowestStretch takenForFile entry asks given either newFile stepReserve stepRelease positioned input append output stepTransput userStep operationStep
 shows = refl
 
 -- ---- the list

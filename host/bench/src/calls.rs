@@ -1,15 +1,18 @@
 //! Calls per second, each with its soundness check: the proved library and the second
-//! implementation on copies of the same unit.
+//! implementation on copies of the same unit. Then the time of a Create by where the stretch lies that
+//! the file gets.
 
 use std::hint::black_box;
 use std::ops::Range;
 
 use reference::generate::{self, shaped, Shape};
+use reference::layout::name_of;
 use reference::random::Random;
 use ruzkemp::{Name, NameWords, Role, Unit};
 
 use crate::compare::Timed;
 use crate::entries::{gathered, name_in, Words};
+use crate::layouts::{with_free, with_stretch_at, Layout, EMPTY, LAYOUTS, PLACES};
 use crate::shapes::{FEW, MANY, MIDDLE};
 use crate::timing::{is_file, needed, read, verdict, Fastest};
 
@@ -24,6 +27,17 @@ const SENDER: u16 = 7;
 /// The word of an input at the length of an extendable file, as the generated files are. A library
 /// of before R-4 has it too, and since then a fixed file takes the same steps to its own word.
 const AT_END: u16 = 0x0810;
+/// The word for more than 127 stretches.
+const MANY_STRETCHES: u16 = 0x1008;
+
+/// New files: how many slices they have.
+const NEW: [(&str, usize); 3] = [
+    ("Create and Remove, 1 slice", 1),
+    ("Create and Remove, 60 slices", 60),
+    ("Create and Remove, 1,000 slices", 1_000),
+];
+/// The last of these where no more than 127 stretches of one slice would do.
+const REFUSED: &str = "Create, 1,000 slices, refused with 1008h";
 
 const UNITS: [(&str, Shape); 3] = [
     ("small: 100 files", FEW),
@@ -76,22 +90,33 @@ fn look_up(entries: &[Words]) -> Calls {
     }
 }
 
-fn create_and_remove(name: NameWords) -> Calls {
-    let (size, attributes) = (1, 1);
+fn create_and_remove(title: &'static str, name: NameWords, size: u16) -> Calls {
     Calls {
-        title: "Create and Remove",
-        messages: vec![
-            both!(Create {
-                name,
-                size,
-                attributes
-            }),
-            both!(Remove { name }),
-        ],
+        title,
+        messages: vec![create(name, size), both!(Remove { name })],
         calls: 1,
         result: 0,
         lent: vec![],
     }
+}
+
+/// Create that is refused.
+fn refused(title: &'static str, name: NameWords, size: u16, result: u16) -> Calls {
+    Calls {
+        title,
+        messages: vec![create(name, size)],
+        calls: 1,
+        result,
+        lent: vec![],
+    }
+}
+
+fn create(name: NameWords, size: u16) -> Both {
+    both!(Create {
+        name,
+        size,
+        attributes: 1
+    })
 }
 
 /// Transput of a block of a file, with its result word.
@@ -132,8 +157,7 @@ struct Pair {
 }
 
 impl Pair {
-    fn new(random: &mut Random, shape: &Shape) -> Pair {
-        let second = shaped(random, shape);
+    fn new(second: generate::Unit) -> Pair {
         let mut proved = Unit::new(second.image.clone(), second.state.unit);
         proved.init().expect("a sound unit");
         Pair { proved, second }
@@ -148,7 +172,8 @@ impl Pair {
             operation: Operation::Reserve(count)
         });
         for message in [both!(CreateArea { name }), reserve] {
-            self.send_both(&message, 0, &mut []);
+            let same = self.send_both(&message, 0, &mut []);
+            assert!(same, "{:?} differs", message.0);
         }
     }
 
@@ -161,8 +186,8 @@ impl Pair {
         reference::perform(image, state, &message.1, lent).result
     }
 
-    /// Sends a message to both, which have to answer this result word and to agree on the image;
-    /// says whether they agree on the lent words too.
+    /// Sends a message to both, which have to answer this result word; says whether they agree on
+    /// the image and the lent words too.
     fn send_both(&mut self, message: &Both, result: u16, lent: &mut [u16]) -> bool {
         let mut copy = lent.to_vec();
         let results = (
@@ -170,9 +195,7 @@ impl Pair {
             self.send_second(message, &mut copy),
         );
         assert_eq!(results, (result, result), "{:?}", message.0);
-        let images = self.proved.image() == self.second.image;
-        assert!(images, "{:?} differs", message.0);
-        lent == copy
+        lent == copy && self.proved.image() == self.second.image
     }
 }
 
@@ -195,8 +218,9 @@ pub struct Row {
     unit: &'static str,
     calls: Calls,
     pair: Pair,
-    /// Whether both have handed back the same words. A library of before R-1 lists in another
-    /// order, and is timed all the same where two libraries are compared.
+    /// Whether both have left and handed back the same words. A library of before R-1 lists in
+    /// another order, and one of before R-6 takes other slices for new files: both are timed all the
+    /// same where two libraries are compared.
     same_words: bool,
     parts: Vec<Range<usize>>,
     reading: Fastest,
@@ -205,6 +229,24 @@ pub struct Row {
 }
 
 impl Row {
+    /// Calls on a unit, after both have answered them; `parts` is what every check reads.
+    fn new(unit: &'static str, mut calls: Calls, mut pair: Pair, parts: Vec<Range<usize>>) -> Row {
+        let mut same_words = true;
+        for message in &calls.messages {
+            same_words &= pair.send_both(message, calls.result, &mut calls.lent);
+        }
+        Row {
+            unit,
+            calls,
+            pair,
+            same_words,
+            parts,
+            reading: Fastest::NONE,
+            second: Fastest::NONE,
+            proved: Fastest::NONE,
+        }
+    }
+
     fn measure(&mut self) {
         let (pair, calls) = (&mut self.pair, &mut self.calls);
         self.reading.measure(|| {
@@ -255,7 +297,7 @@ impl Timed for Row {
 /// answered it. Files are taken by their places, so that two libraries get the same calls whatever
 /// their listings' order.
 fn rows_of(random: &mut Random, unit: &'static str, shape: &Shape) -> Vec<Row> {
-    let closed = Pair::new(random, shape);
+    let closed = Pair::new(shaped(random, shape));
     let parts = needed(closed.proved.image(), shape);
     let entries = gathered(closed.proved.image());
     let with_block = |entry: &&Words| is_file(*entry) && entry[7] > 0;
@@ -268,7 +310,7 @@ fn rows_of(random: &mut Random, unit: &'static str, shape: &Shape) -> Vec<Row> {
     let new = new_name(random, &closed.proved);
     let kinds = [
         (file, look_up(&entries)),
-        (file, create_and_remove(new)),
+        (file, create_and_remove("Create and Remove", new, 1)),
         (file, transput("Input", file, 5, 0, 0)),
         (
             last,
@@ -277,25 +319,29 @@ fn rows_of(random: &mut Random, unit: &'static str, shape: &Shape) -> Vec<Row> {
         (file, transput("Output", file, 7, 0, 0)),
         (file, listing(&entries)),
     ];
-    let row = |(opened, mut calls): (NameWords, Calls)| {
+    let row = |(opened, calls): (NameWords, Calls)| {
         let mut pair = closed.clone();
         pair.open(opened);
-        let mut same_words = true;
-        for message in &calls.messages {
-            same_words &= pair.send_both(message, calls.result, &mut calls.lent);
-        }
-        Row {
-            unit,
-            calls,
-            pair,
-            same_words,
-            parts: parts.clone(),
-            reading: Fastest::NONE,
-            second: Fastest::NONE,
-            proved: Fastest::NONE,
-        }
+        Row::new(unit, calls, pair, parts.clone())
     };
     kinds.map(row).into_iter().collect()
+}
+
+/// The rows of new files on a unit whose free slices lie in given stretches, nothing open. Of 2,000
+/// slices that lie alone 1,000 are refused.
+fn rows_of_new(layout: &'static Layout) -> Vec<Row> {
+    let pair = Pair::new(with_free(layout.is_free));
+    let parts = needed(pair.proved.image(), &EMPTY);
+    let name = name_of("NEW", 0);
+    let calls = NEW.map(|(title, slices)| {
+        let size = (EMPTY.s * slices - 1) as u16;
+        match slices {
+            1_000 if layout.alone => refused(REFUSED, name, size, MANY_STRETCHES),
+            _ => create_and_remove(title, name, size),
+        }
+    });
+    let row = |calls: Calls| Row::new(layout.title, calls, pair.clone(), parts.clone());
+    calls.map(row).into_iter().collect()
 }
 
 /// The rows of the table, not measured yet.
@@ -306,6 +352,7 @@ pub fn rows() -> Vec<Row> {
         .flat_map(|(unit, shape)| rows_of(random, unit, shape))
         .collect();
     rows.sort_by_key(|row| row.calls.title);
+    rows.extend(LAYOUTS.iter().flat_map(rows_of_new));
     rows
 }
 
@@ -313,7 +360,7 @@ pub fn rows() -> Vec<Row> {
 pub fn run() {
     let mut rows = rows();
     for row in &rows {
-        assert!(row.same_words, "{}: the lent words differ", row.title());
+        assert!(row.same_words, "{}: the words differ", row.title());
     }
     for _ in 0..ROUNDS {
         rows.iter_mut().for_each(Row::measure);
@@ -321,4 +368,37 @@ pub fn run() {
     println!("| call | unit | second implementation, calls per second | proved, calls per second | time proved / second | time proved / reading | target |");
     println!("|---|---|--:|--:|--:|--:|---|");
     rows.iter().for_each(Row::print);
+}
+
+/// Measures and prints how the time of a Create grows with the place of the stretch that the file gets:
+/// the part of the map before it is looked through once.
+pub fn run_places() {
+    let (title, slices) = NEW[1];
+    let size = (EMPTY.s * slices - 1) as u16;
+    let mut rows = PLACES.map(|first| {
+        let pair = Pair::new(with_stretch_at(first));
+        let parts = needed(pair.proved.image(), &EMPTY);
+        let calls = create_and_remove(title, name_of("NEW", 0), size);
+        Row::new(title, calls, pair, parts)
+    });
+    for row in &rows {
+        assert!(row.same_words, "{}: the words differ", row.title());
+    }
+    for _ in 0..ROUNDS {
+        rows.iter_mut().for_each(Row::measure);
+    }
+    println!("| {title}: their stretch begins at slice | second implementation, microseconds | proved, microseconds |");
+    println!("|--:|--:|--:|");
+    for (first, row) in PLACES.iter().zip(&rows) {
+        let (second, proved) = (row.second.0, row.proved.0);
+        println!("| {first} | {second:.2} | {proved:.2} |");
+    }
+    let steps = |number: fn(&Row) -> f64| {
+        let [quarter, half, end] = [&rows[0], &rows[1], &rows[2]].map(number);
+        (half - quarter, end - half)
+    };
+    let ((near, far), distance) = (steps(|row| row.proved.0), (PLACES[2] - PLACES[1]) as f64);
+    let distance = distance / (PLACES[1] - PLACES[0]) as f64;
+    println!();
+    println!("From the first to the second {near:.2} microseconds, from the second to the third, {distance:.2} times as far, {far:.2}.");
 }

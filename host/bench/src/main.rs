@@ -1,6 +1,7 @@
 //! The speed of the proved library: its soundness check and its calls, beside the second
-//! implementation and beside reading the same words once, and its listing beside Rust that gathers
-//! the entries and sorts them. Prints three tables in markdown.
+//! implementation and beside reading the same words once, a Create by where its stretch of slices
+//! lies, and its listing beside Rust that gathers the entries and sorts them. Prints four tables in
+//! markdown.
 //!
 //! `bench --compare BEFORE AFTER ..` compares two libraries instead: pairs of programs `bench`,
 //! each linked with one of the two. `bench --times` is what these are asked for then. The script
@@ -10,6 +11,7 @@ mod calls;
 mod checks;
 mod compare;
 mod entries;
+mod layouts;
 mod listing;
 mod pad;
 mod shapes;
@@ -46,10 +48,12 @@ fn tables() {
     println!();
     calls::run();
     println!();
+    calls::run_places();
+    println!();
     listing::run();
 }
 
-/// The rows of the first two tables, and of the third that whose unit they do not have.
+/// The rows of the first two tables, and of the last that whose unit they do not have.
 fn rows() -> Vec<Box<dyn compare::Timed>> {
     let mut rows: Vec<Box<dyn compare::Timed>> = Vec::new();
     for row in checks::rows() {

@@ -5,6 +5,7 @@ use reference::Answer;
 
 use crate::cases::{self, Cases};
 use crate::entry_only::{self, Uses};
+use crate::one_stretch::{Taking, Ways};
 use crate::{compare, Difference, Second, Seen, Side, Step};
 
 /// A unit as the proved library and as the second implementation have it.
@@ -14,6 +15,7 @@ pub struct Both<P> {
     sound: bool,
     cases: Cases,
     uses: Uses,
+    ways: Ways,
 }
 
 impl<P: Side> Both<P> {
@@ -25,6 +27,7 @@ impl<P: Side> Both<P> {
             sound: false,
             cases: Cases::default(),
             uses: Uses::default(),
+            ways: Ways::default(),
         }
     }
 
@@ -36,6 +39,11 @@ impl<P: Side> Both<P> {
     /// The uses of entry-only files, as they came up so far.
     pub fn uses(&self) -> &Uses {
         &self.uses
+    }
+
+    /// The ways in which slices were taken so far.
+    pub fn ways(&self) -> &Ways {
+        &self.ways
     }
 
     /// The second implementation.
@@ -52,14 +60,19 @@ impl<P: Side> Both<P> {
 
     /// Puts a step to both sides and compares them.
     pub fn put(&mut self, step: &Step) -> Result<(Answer, Vec<u16>), Difference> {
-        let mut uses = Vec::new();
+        let (mut uses, mut taking) = (Vec::new(), None);
         if self.sound {
             cases::count(&mut self.cases, step, self.second.current());
             uses = entry_only::met(step, self.second.current());
+            taking = Taking::before(step, self.second.current());
         }
         let (proved_answer, proved_lent) = self.proved.put(step);
         let (answer, lent) = self.second.put(step);
         self.uses.add(uses, entry_only::outcome(answer));
+        if let Some(taking) = taking {
+            let ways = taking.ways(self.second.current(), answer);
+            self.ways.add(ways, taking.column);
+        }
         let proved = Seen::of(&self.proved, proved_answer, &proved_lent);
         let second = Seen::of(&self.second, answer, &lent);
         if let Some(difference) = compare(self.sound, &proved, &second) {

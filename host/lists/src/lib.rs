@@ -5,7 +5,8 @@
 //! * [`stored`] replays lists that stand in files, with the answers that they shall have.
 //! * [`images`] has images of before a request, which are to be read as they were then.
 //! * [`cases`] counts how often calls met names that differ in case only, [`entry_only`] how often
-//!   they met entry-only files, or gave the attribute that makes one.
+//!   they met entry-only files, or gave the attribute that makes one, and [`one_stretch`] in which
+//!   ways they took slices.
 
 #![warn(missing_docs)]
 
@@ -14,6 +15,7 @@ pub mod cases;
 mod compare;
 pub mod entry_only;
 pub mod images;
+pub mod one_stretch;
 mod proved;
 pub mod random;
 mod side;

@@ -2,7 +2,8 @@
 //!
 //! * `lists --seed S --calls N` runs the lists of a seed until N calls were put and prints how
 //!   often each pair of call and result word came up, by which question where several give the
-//!   word, and how often calls met names that differ in case only and entry-only files.
+//!   word, how often calls met names that differ in case only and entry-only files, and in which
+//!   ways they took slices.
 //! * `lists --seed S --list K` runs the seed's list K alone and prints each step.
 //! * `lists --store` writes the answers of the second implementation into the stored lists.
 
@@ -56,7 +57,7 @@ fn run(seed: u64, calls: u64) -> Result<(), String> {
     let mut lists = Lists::new(Proved::default(), seed);
     let number = lists.run(calls).map_err(told)?;
     let counts = lists.counts();
-    print!("{counts}{}{}", lists.cases(), lists.uses());
+    print!("{counts}{}{}{}", lists.cases(), lists.uses(), lists.ways());
     let seconds = begun.elapsed().as_secs_f64();
     println!(
         "seed {seed}: {} calls in {number} lists, {seconds:.1} s; after each call both sides \
@@ -67,8 +68,10 @@ fn run(seed: u64, calls: u64) -> Result<(), String> {
         ("never came up", counts.missing()),
         ("never came up", lists.cases().missing()),
         ("never came up", lists.uses().missing()),
+        ("never came up", lists.ways().missing()),
         ("is not allowed", counts.foreign()),
         ("is not allowed", lists.uses().foreign()),
+        ("is not allowed", lists.ways().foreign()),
     ];
     let faults = faults.into_iter().flat_map(|(what, pairs)| {
         let tell = move |pair| format!("{pair} {what}");
@@ -78,8 +81,8 @@ fn run(seed: u64, calls: u64) -> Result<(), String> {
     if faults.is_empty() {
         println!(
             "every pair of call and result word that is allowed came up, by each of its \
-             questions, and no other; so did every case of names that differ in case only, and \
-             every use of entry-only files"
+             questions, and no other; so did every case of names that differ in case only, every \
+             use of entry-only files, and every way in which slices are taken"
         );
         Ok(())
     } else {

@@ -10,6 +10,7 @@ use reference::{soundness, Answer, Message};
 
 use crate::cases::Cases;
 use crate::entry_only::Uses;
+use crate::one_stretch::Ways;
 use crate::text::{outcome_text, step_text};
 use crate::{Both, Difference, Side, Step};
 
@@ -35,8 +36,8 @@ enum Kind {
 /// How many lists of a thousand are of each kind.
 const KINDS: [(Kind, usize); 7] = [
     (Kind::Fresh, 250),
-    (Kind::Aged, 399),
-    (Kind::Crowded, 80),
+    (Kind::Aged, 359),
+    (Kind::Crowded, 120),
     (Kind::Damaged, 120),
     (Kind::Formats, 70),
     (Kind::Foreign, 80),
@@ -124,6 +125,11 @@ impl<P: Side> Lists<P> {
         self.both.uses()
     }
 
+    /// The ways in which slices were taken so far.
+    pub fn ways(&self) -> &Ways {
+        self.both.ways()
+    }
+
     /// Runs the lists from number 0 on until so many calls were put; the number of lists.
     pub fn run(&mut self, calls: u64) -> Result<u64, Box<Failure>> {
         let mut lists = 0;
@@ -162,7 +168,7 @@ impl<P: Side> Lists<P> {
             Kind::Crowded => {
                 let unit = crowded(random);
                 self.begin("a crowded unit", unit);
-                self.calls(random, 40)
+                self.calls(random, 60)
             }
             Kind::Damaged => self.damaged(random),
             Kind::Formats => self.formats(random),

@@ -1,5 +1,5 @@
 //! A second implementation of the RC3600 catalog unit, written from document 01 and the changes
-//! of document 02 alone.
+//! of document 02 alone.
 //!
 //! It is plain rather than fast: the proved implementation is compared with it, call by call
 //! and word by word.

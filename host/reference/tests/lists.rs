@@ -118,7 +118,7 @@ fn numbers_of_no_call(random: &mut Random, tally: &mut Tally) {
 }
 
 /// What accepted calls must have done at least once.
-const EVENTS: [&str; 33] = [
+const EVENTS: [&str; 36] = [
     "Change: SYS takes, file gives back",
     "Change: SYS takes, file takes",
     "Change: entry only made ordinary",
@@ -152,6 +152,9 @@ const EVENTS: [&str; 33] = [
     "Remove: entry only",
     "SYS grows and takes slices",
     "SYS grows in its slack",
+    "Takes: one stretch behind free slices",
+    "Takes: one stretch, the lowest slices",
+    "Takes: several stretches",
 ];
 
 /// Many more lists than the gate has time for.

@@ -130,6 +130,10 @@ impl<I: AsRef<[u16]> + AsMut<[u16]>> Unit<I> {
 
     /// Create Entry: enters a new file of so many sectors, all zero, with attributes of
     /// [`Attributes::SETTABLE`].
+    ///
+    /// It gets the lowest stretch of as many neighbouring free slices as it needs; if there is none,
+    /// slices one by one, the next one where it is free and else the lowest. So does a file of
+    /// [`set`](Unit::set), and one without slices that gets a length.
     pub fn create(&mut self, name: Name, size: u16, attributes: Attributes) -> Result<()> {
         let name = self.named(name);
         let attributes = attributes.bits();

@@ -21,8 +21,8 @@ returns c =
     let copy = took .before .before .before .before .before in
     first-full (copied copy) (took .take-slices .ensures) (not-true _ (c .if1 .taken))
 
-take-slices-requires-2 : tie.Need-take-slices-requires-2
-take-slices-requires-2 c κs =
+take-for-file-requires : tie.Need-take-for-file-requires
+take-for-file-requires c κs =
     let left = c .before .before .before in
     let took = left .before .before .before in
     let copy = took .before .before .before .before .before in
@@ -35,7 +35,7 @@ returns-2 c =
     let left = then .before .before .before .before in
     let took = left .before .before .before in
     let copy = took .before .before .before .before .before in
-    second-fits (copied copy) (took .take-slices .ensures) (not-false _ (left .if1 .left)) (then .take-slices2 .ensures)
+    second-fits (copied copy) (took .take-slices .ensures) (not-false _ (left .if1 .left)) (then .take-for-file .ensures)
 
 pub fits-spec : {M : Type 1} → statement M
 fits-spec =
@@ -49,5 +49,5 @@ fits-spec =
     returns
     (λ c. search needs)
     (λ c. search needs)
-    take-slices-requires-2
+    take-for-file-requires
     returns-2)

@@ -9,7 +9,7 @@ use Rattle.disc.proofs.DecideLaws.{true≢false, fails}
 use Rattle.slices.specs.declared.Next.the-variants.{At}
 use Rattle.slices.specs.Take.{CanTakeFrom, nextOf}
 use Rattle.slices.proofs.BlockLaws.{block-length}
-use Rattle.slices.proofs.TakeLaws.{can-fewer, next-inside, one-at, one-few, ready, took-one}
+use Rattle.slices.proofs.TakeLaws.{can-fewer, can-fresh, inside, one-at, one-few, ready, took-one}
 use Rattle.slices.proofs.take_one.Statement.{statement}
 use Rattle.slices.proofs.take_one.Tie as tie
 
@@ -23,7 +23,7 @@ returns c = record {
   all = λ held slices can.
       let is = c .before .next-slice .ensures .all held slices (can-fewer can (omega arith)) .next in
       record {
-        fits = fails (λ few. let e = is ∙ one-few {n = 0} can few in miss (1 ∷ 2 ∷ []) 0 tt (rw e at (c .match .keys2)));
+        fits = fails (λ few. let e = is ∙ one-few can few in miss (1 ∷ 2 ∷ []) 0 tt (rw e at (c .match .keys2)));
         marked = λ e. absurd (true≢false (sym e));
         words = λ e. absurd (true≢false (sym e));
       };
@@ -44,16 +44,16 @@ mark-used-requires : tie.Need-mark-used-requires
 mark-used-requires c κs =
     let told = c .before in
     let can = began told .pre .can in
-    let e = one-at {n = 0} can (is-next told can) in
-    let i = next-inside {n = 0} can in
+    let e = one-at can (is-next told can) in
+    let i = inside can (can-fresh can) in
     (omega (arith, e .0, i .0), omega (arith, e .0, i .1, can .own .most), can .long)
 
 append-slice-requires : tie.Need-append-slice-requires
 append-slice-requires c κs =
     let told = c .before .before .before .before .before in
     let can = began told .pre .can in
-    let e = one-at {n = 0} can (is-next told can) in
-    (omega (arith, block-length (can .own)), rw (e .0) (ready {n = 0} can (e .1)))
+    let e = one-at can (is-next told can) in
+    (omega (arith, block-length (can .own)), rw (e .0) (ready can (can-fresh can) (e .1)))
 
 returns-2 : tie.Need-returns-2
 returns-2 c =

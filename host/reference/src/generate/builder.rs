@@ -222,6 +222,7 @@ impl Builder {
         let most = (slices.len() * self.kit.s).saturating_sub(1);
         let length = match random.below(4) {
             _ if slices.len() > 60 => most - random.pick(&[0, 0, 0, 1]),
+            0 if random.chance(60) => 0,
             0 => random.between(0, most),
             1 => most.saturating_sub(random.below(self.kit.s)),
             _ => most,
@@ -265,7 +266,7 @@ impl Builder {
         let h = self.kit.h;
         let full = random.below(h);
         let taken = [SYS, MAP].iter().filter(|n| key(**n, h) == full).count();
-        let missing = random.pick(&[0, 0, 0, 1, 2]);
+        let missing = random.pick(&[0, 0, 0, 0, 1, 2]);
         let mut seen = BTreeSet::from([SYS, MAP]);
         while seen.len() < 16 * self.layers - taken - missing + 2 {
             let name = name(random);

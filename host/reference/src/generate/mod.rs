@@ -1,8 +1,9 @@
 //! Units, calls and damage from a seed.
 //!
 //! * [`fresh`] formats a small unit, [`aged`] writes one with a past straight from the layout
-//!   (surplus slices, files in any order, several layers), [`crowded`] one whose indexes and
-//!   free slices lie in close to 127 stretches; [`with_entries_only`] writes entry-only files into
+//!   (surplus slices, files in any order or close together, several layers), [`crowded`] one whose
+//!   indexes and free slices lie in close to 127 stretches, at times with one long stretch behind
+//!   them; [`with_entries_only`] writes entry-only files into
 //!   a unit, [`open_areas`] opens area processes on it, [`fill_vacant`] fills what is vacant in its
 //!   state, and [`unit()`] does some of all this.
 //! * [`shaped`] writes a unit of a given shape, for measurements; [`add_file`] adds a file with

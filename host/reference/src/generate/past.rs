@@ -21,20 +21,22 @@ pub fn aged(random: &mut Random) -> Unit {
     let layers = (1..=wished).rev().find(fits).unwrap_or(1);
     let spread = random.pick(&SPREADS);
     let mut builder = Builder::new(random, h, s, slices, layers, spread);
-    if layers <= 3 && random.chance(35) {
+    if layers <= 3 && random.chance(65) {
         builder.fill_key(random);
     }
+    // Slices that lie together leave the free ones in few stretches.
+    let spreads = random.pick(&[&SPREADS[..1], &SPREADS]);
     let number = random.between(0, 20 * layers);
     for name in names(random, h, number) {
-        add_small_file(random, &mut builder, name);
+        add_small_file(random, &mut builder, name, spreads);
     }
     let number = random.below(4) as u16;
     builder.finish(number)
 }
 
 /// Adds a file of at most six slices, if there is room: now and then one of none.
-fn add_small_file(random: &mut Random, builder: &mut Builder, name: Name) {
-    let spread = random.pick(&SPREADS);
+fn add_small_file(random: &mut Random, builder: &mut Builder, name: Name, spreads: &[Spread]) {
+    let spread = random.pick(spreads);
     if random.chance(33) {
         builder.file_of_none(random, name);
         return;
@@ -45,29 +47,57 @@ fn add_small_file(random: &mut Random, builder: &mut Builder, name: Name) {
 }
 
 /// A unit whose files, or whose SYS, lie in close to 127 stretches, and whose free slices
-/// lie alone: nothing open, initialized.
+/// lie alone, or all but the last ones: nothing open, initialized.
 pub fn crowded(random: &mut Random) -> Unit {
     let s = random.pick(&[2, 2, 3]);
-    let mut builder = if random.chance(35) {
-        crowded_sys(random, s)
-    } else {
-        let (h, layers) = (random.between(1, 4), random.between(1, 2));
-        let slices = random.between(290, 420);
-        Builder::new(random, h, s, slices, layers, Spread::Apart)
+    let builder = match random.below(20) {
+        0..=4 => crowded_sys(random, s),
+        5..=12 => crowded_files(random, s),
+        _ => striped(random, s),
     };
-    for name in names(random, builder.kit.h, 8) {
-        if builder.free.len() < 310 && random.chance(80) {
-            break;
-        }
-        add_crowded_file(random, &mut builder, name);
-    }
-    builder.entries_only(random, 2);
-    part_free_slices(random, &mut builder);
     let number = random.below(4) as u16;
     builder.finish(number)
 }
 
-/// A unit in the making whose SYS has about 127 slices after one layer more, with a full key.
+/// One whose files have about 127 slices, most of them in as many stretches.
+fn crowded_files(random: &mut Random, s: usize) -> Builder {
+    let (h, layers) = (random.between(1, 4), random.between(1, 2));
+    let slices = random.between(290, 420);
+    let mut builder = Builder::new(random, h, s, slices, layers, Spread::Apart);
+    fill_crowded(random, &mut builder);
+    builder
+}
+
+/// Adds files of about 127 slices while there is room, and parts what is free then.
+fn fill_crowded(random: &mut Random, builder: &mut Builder) {
+    for name in names(random, builder.kit.h, 8) {
+        if builder.free.len() < 310 && random.chance(80) {
+            break;
+        }
+        add_crowded_file(random, builder, name);
+    }
+    builder.entries_only(random, 2);
+    let free = builder.free.iter().copied().collect();
+    part_free_slices(random, builder, free);
+}
+
+/// One whose free slices lie alone, about 127 of them, but for the last ones: these lie in one stretch
+/// of about as many.
+fn striped(random: &mut Random, s: usize) -> Builder {
+    let (h, layers) = (random.between(1, 4), 1);
+    let (alone, together) = (random.between(127, 136), random.between(126, 136));
+    let slices = 2 * alone + together;
+    let mut builder = Builder::new(random, h, s, slices, layers, Spread::Together);
+    for name in names(random, h, 6) {
+        builder.file_of_none(random, name);
+    }
+    let free = builder.free.iter().copied();
+    let low = free.filter(|&slice| slice <= 2 * alone).collect();
+    part_free_slices(random, &mut builder, low);
+    builder
+}
+
+/// One whose SYS has about 127 slices after one layer more, with a full key, and such files.
 fn crowded_sys(random: &mut Random, s: usize) -> Builder {
     let both = (20..=64).flat_map(|h| (1..=8).map(move |layers| (h, layers)));
     let after = |h: usize, layers: usize| (h * (layers + 1)).div_ceil(s);
@@ -78,6 +108,7 @@ fn crowded_sys(random: &mut Random, s: usize) -> Builder {
     let slices = random.between(400, 460);
     let mut builder = Builder::new(random, h, s, slices, layers, Spread::Apart);
     builder.fill_key(random);
+    fill_crowded(random, &mut builder);
     builder
 }
 
@@ -98,10 +129,9 @@ fn add_crowded_file(random: &mut Random, builder: &mut Builder, name: Name) {
     }
 }
 
-/// Gives neighbours of free slices to other files, so that most free ones lie alone; now and
-/// then gives them all free slices.
-fn part_free_slices(random: &mut Random, builder: &mut Builder) {
-    let free: Vec<usize> = builder.free.iter().copied().collect();
+/// Gives neighbours among these free slices to other files, so that most of them lie alone; now and
+/// then gives them all.
+fn part_free_slices(random: &mut Random, builder: &mut Builder, free: Vec<usize>) {
     let neighbours: Vec<usize> = if random.chance(15) {
         free
     } else {

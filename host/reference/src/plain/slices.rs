@@ -1,6 +1,7 @@
-//! Slices: which are free, which one is taken next, how many a file needs.
+//! Slices: which are free, which are taken next, how many a file needs.
 
 use std::collections::BTreeSet;
+use std::ops::Range;
 
 use super::{ask, Plain, Refused};
 
@@ -8,6 +9,22 @@ use super::{ask, Plain, Refused};
 pub(super) fn runs(list: &[usize]) -> usize {
     let breaks = list.windows(2).filter(|pair| pair[1] != pair[0] + 1);
     breaks.count() + usize::from(!list.is_empty())
+}
+
+/// The lowest so many neighbours of a set, if it has them: the set in order, a stretch begun anew at
+/// each number that is no neighbour of the one before it.
+fn lowest_stretch(free: &BTreeSet<usize>, number: usize) -> Option<Range<usize>> {
+    let mut stretch = 0..0;
+    for &slice in free {
+        if slice != stretch.end {
+            stretch.start = slice;
+        }
+        stretch.end = slice + 1;
+        if stretch.len() == number {
+            return Some(stretch);
+        }
+    }
+    None
 }
 
 impl Plain {
@@ -47,7 +64,7 @@ impl Plain {
     }
 
     /// The choice of one slice, out of a set that is not empty.
-    pub(super) fn choose(free: &mut BTreeSet<usize>, list: &mut Vec<usize>) {
+    fn choose(free: &mut BTreeSet<usize>, list: &mut Vec<usize>) {
         let wish = list.last().map(|last| last + 1);
         let chosen = match wish {
             Some(next) if free.contains(&next) => next,
@@ -57,14 +74,25 @@ impl Plain {
         list.push(chosen);
     }
 
-    /// Takes slices until a list has as many as wanted; so many are free.
+    /// Takes slices one by one until a list has as many as wanted; so many are free.
     fn fill(free: &mut BTreeSet<usize>, list: &mut Vec<usize>, wanted: usize) {
         while list.len() < wanted {
             Plain::choose(free, list);
         }
     }
 
-    /// Questions 7 and 8 for SYS and a file; what both have afterwards.
+    /// The same for a file: an empty list takes the lowest stretch of as many as wanted, if there
+    /// is one (02, R-6).
+    pub(super) fn fill_file(free: &mut BTreeSet<usize>, list: &mut Vec<usize>, wanted: usize) {
+        if list.is_empty() {
+            let stretch = lowest_stretch(free, wanted).unwrap_or_default();
+            free.retain(|slice| !stretch.contains(slice));
+            list.extend(stretch);
+        }
+        Plain::fill(free, list, wanted);
+    }
+
+    /// Questions 7 and 8 for SYS and a file; what both have afterwards. SYS takes first.
     pub(super) fn lists_after(
         &self,
         grows: bool,
@@ -80,7 +108,7 @@ impl Plain {
         let mut sys = self.sys.clone();
         Plain::fill(&mut free, &mut sys, sys_wanted);
         let mut list = held.to_vec();
-        Plain::fill(&mut free, &mut list, wanted);
+        Plain::fill_file(&mut free, &mut list, wanted);
         list.truncate(wanted);
         ask(runs(&sys) <= 127 && runs(&list) <= 127, 0x1008)?;
         Ok((sys, list))

@@ -92,10 +92,11 @@ impl Plain {
         let file = &self.files[name];
         ask(file.attributes & 1 != 0, 0x0A00)?;
         let mut list = file.slices.clone();
-        if self.slices_for(file.sectors.len() + 1) > list.len() {
+        let wanted = self.slices_for(file.sectors.len() + 1);
+        if wanted > list.len() {
             let mut free = self.free();
             ask(!free.is_empty(), 0x0900)?;
-            Plain::choose(&mut free, &mut list);
+            Plain::fill_file(&mut free, &mut list, wanted);
             ask(runs(&list) <= 127, 0x0808)?;
         }
         let file = self.files.get_mut(name).expect("it stands");

@@ -12,9 +12,37 @@ pub(super) fn free_slices(image: &[u16], kit: &Kit) -> Vec<bool> {
     free
 }
 
+/// The lowest slice from which so many neighbours are free, if there is one. The pass over the map
+/// keeps how many are free up to the slice that it has come to.
+fn lowest_stretch(free: &[bool], number: usize) -> Option<usize> {
+    let mut together = 0;
+    for (slice, &is_free) in free.iter().enumerate() {
+        together = if is_free { together + 1 } else { 0 };
+        if together == number {
+            return Some(slice + 1 - number);
+        }
+    }
+    None
+}
+
+/// Takes slices until a file has as many as wanted; so many are free. One that has none takes the
+/// lowest stretch of that many (02, R-6), if there is one; all else is taken one by one.
+pub(super) fn take_file(free: &mut [bool], slices: &mut Vec<usize>, wanted: usize) {
+    if slices.is_empty() && wanted > 0 {
+        if let Some(first) = lowest_stretch(free, wanted) {
+            let after = first + wanted;
+            free[first..after].fill(false);
+            slices.extend(first..after);
+        }
+    }
+    while slices.len() < wanted {
+        take(free, slices);
+    }
+}
+
 /// Takes one slice: the next number after the file's last if free, else the lowest free.
 /// At least one is free.
-pub(super) fn take(free: &mut [bool], slices: &mut Vec<usize>) {
+fn take(free: &mut [bool], slices: &mut Vec<usize>) {
     let next = slices.last().map_or(0, |last| last + 1);
     let slice = if next < free.len() && free[next] {
         next
@@ -71,7 +99,8 @@ pub(super) fn demand(
     }
 }
 
-/// The slices that SYS and the file have when it is met; there are enough.
+/// The slices that SYS and the file have when it is met; there are enough. SYS takes first, one by
+/// one, and the file of what is free then.
 pub(super) fn chosen(
     image: &[u16],
     survey: &Survey,
@@ -86,9 +115,7 @@ pub(super) fn chosen(
     }
     let mut file = held.to_vec();
     file.truncate(wanted);
-    while file.len() < wanted {
-        take(&mut free, &mut file);
-    }
+    take_file(&mut free, &mut file, wanted);
     let layers = demand.layers;
     Plan { layers, sys, file }
 }

@@ -3,7 +3,7 @@
 use super::areas::{another_is, move_to};
 use super::image::count_free;
 use super::question::Refusal;
-use super::slices::{free_slices, resize, take};
+use super::slices::{free_slices, resize, take_file};
 use super::{Outcome, Question};
 use crate::layout::*;
 use crate::sound::{Entry, Survey};
@@ -147,12 +147,13 @@ fn append(
     if entry.words[6] & EXTENDABLE == 0 {
         return Err(Question::Extendable);
     }
-    if kit.need(area.length as usize + 1) > slices.len() {
+    let wanted = kit.need(area.length as usize + 1);
+    if wanted > slices.len() {
         let mut free = free_slices(image, kit);
         if !free.contains(&true) {
             return Err(Question::SliceFree);
         }
-        take(&mut free, slices);
+        take_file(&mut free, slices, wanted);
         if stretches(slices).len() > STRETCHES {
             return Err(Question::AppendStretches);
         }

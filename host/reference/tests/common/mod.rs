@@ -1,7 +1,7 @@
 //! What the test programs share: checked calls and the table of what came up.
 #![allow(dead_code)]
 
-use std::collections::BTreeMap;
+use std::collections::{BTreeMap, BTreeSet};
 
 use reference::generate::{Call, Caller, Unit};
 use reference::layout::{name_of, stretches};
@@ -33,6 +33,7 @@ impl Tally {
     fn note(&mut self, message: &Message, before: &Plain, after: &Plain) {
         let mut events = case_events(before, after);
         events.extend(entry_only_event(message, before, after));
+        events.extend(stretch_event(before, after));
         let grows = after.layers > before.layers;
         let takes = after.sys.len() > before.sys.len();
         if grows {
@@ -177,6 +178,27 @@ fn entry_only_event(message: &Message, before: &Plain, after: &Plain) -> Option<
         Message::Change { .. } if new < old => Some("Change: entry only made ordinary"),
         _ => None,
     }
+}
+
+/// Where a file that had no slices has several now: in one stretch, behind free slices or not, or in
+/// several (02, R-6).
+fn stretch_event(before: &Plain, after: &Plain) -> Option<&'static str> {
+    let files = |plain: &Plain| -> BTreeSet<usize> {
+        let files = plain.files.values();
+        files.flat_map(|file| file.slices.clone()).collect()
+    };
+    let held = files(before);
+    let is_new = |file: &&File| file.slices.len() > 1 && !held.contains(&file.slices[0]);
+    let file = after.files.values().find(is_new)?;
+    let is_first = after
+        .free()
+        .first()
+        .is_none_or(|free| *free > file.slices[0]);
+    Some(match (stretches(&file.slices).len(), is_first) {
+        (1, true) => "Takes: one stretch, the lowest slices",
+        (1, false) => "Takes: one stretch behind free slices",
+        _ => "Takes: several stretches",
+    })
 }
 
 /// The state but for the sender's positions.

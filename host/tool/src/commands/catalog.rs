@@ -28,7 +28,8 @@ pub const CREATE: Command = Command {
         SIZE, ATTRIBUTES, EXTENDABLE, PERMANENT, PROTECTED, UNIT, LOW, OFFSET, DRY_RUN,
     ],
     summary: "Enter a new file of zero sectors",
-    about: "Sends Create Entry. Without attributes the file has a fixed length.",
+    about: "Sends Create Entry. Without attributes the file has a fixed length. It lies in one stretch\n\
+            if as many neighbouring slices are free, the lowest that are.",
     run: create,
 };
 

@@ -62,8 +62,13 @@ impl Caller {
         Call { message, lent }
     }
 
-    /// Change Entry.
+    /// Change Entry, at times of a file of length 0 that gets one.
     fn change(&self, random: &mut Random, image: &[u16], state: &State) -> Call {
+        if random.chance(25) {
+            if let Some(call) = self.lengthen_empty(random, image, state) {
+                return call;
+            }
+        }
         let mut lent = entry_lent(random);
         let name = self.standing(random, image, state, true);
         if lent.len() >= 10 {

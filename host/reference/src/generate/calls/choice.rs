@@ -1,9 +1,9 @@
 //! Names, sizes, attributes and lent words of calls.
 
-use super::{names_in, Caller, Mix, Sizes};
+use super::{names_in, open_names, Caller, Mix, Sizes};
 use crate::generate::builder::{attributes, entry_only};
 use crate::generate::names::{in_message, in_two_cases, other_case};
-use crate::layout::{bit_word, Kit, ENTRY_ONLY, KIT, MAP, SECTOR, SYS};
+use crate::layout::{bit_word, Kit, ENTRY_ONLY, KIT, MAP, PERMANENT, SECTOR, SYS};
 use crate::random::Random;
 use crate::sound::{survey, Entry, Survey};
 use crate::types::{Name, State};
@@ -86,6 +86,21 @@ fn entries_only_in(survey: &Survey) -> Vec<Name> {
     let entries = survey.entries.iter();
     let entries_only = entries.filter(|entry| entry.words[6] & ENTRY_ONLY != 0);
     entries_only.map(Entry::name).collect()
+}
+
+/// Those of the files that have no slices and may get some: neither open nor permanent.
+pub(super) fn bare_in<'a>(files: &[&'a Entry], state: &State) -> Vec<&'a Entry> {
+    let open = open_names(state);
+    let is_bare = |file: &&&Entry| {
+        let is_permanent = file.words[6] & PERMANENT != 0;
+        file.slices.is_empty() && !is_permanent && !open.contains(&file.name())
+    };
+    files.iter().filter(is_bare).copied().collect()
+}
+
+/// A size for which several slices of `s` sectors are needed.
+pub(super) fn several(random: &mut Random, s: usize) -> u16 {
+    random.between(s, 5 * s - 1) as u16
 }
 
 /// A size, mostly small, at times around what is free or what an index holds.

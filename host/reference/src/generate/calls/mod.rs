@@ -3,7 +3,8 @@
 mod area;
 mod catalog;
 mod choice;
-mod rename;
+mod full_key;
+mod taking;
 
 use super::names::names_of;
 use crate::layout::{key, stretches, MAP, SYS};
@@ -154,8 +155,20 @@ impl Caller {
             ]);
         }
         let mut kind = self.mix.kind(random);
-        if self.mix == Mix::Fill && random.chance(60) {
-            if let Some(call) = self.rename_into_full_key(random, image, state) {
+        let fills = match self.mix {
+            Mix::Fill => 90,
+            Mix::Enter => 60,
+            Mix::Mixed => 40,
+            _ => 0,
+        };
+        if random.chance(fills) {
+            if let Some(call) = self.fill_full_key(random, image, state) {
+                return call;
+            }
+        }
+        let long = if self.mix == Mix::Areas { 10 } else { 60 };
+        if self.sizes == Sizes::Stretches && random.chance(long) {
+            if let Some(call) = self.long_file(random, image, state) {
                 return call;
             }
         }
