@@ -5,8 +5,9 @@ ghost use Prim.Native.Nat.{_+_, _-_, _*_, _≤_, _<_, min};
 ghost use lib.ListN.{length};
 ghost use Rattle.disc.specs.Pairs.{pairLength, pairStart};
 ghost use Rattle.words.specs.Store.{store, zeroWords};
-ghost use Rattle.index.specs.Block.{pairCount, blockAt, sectorTotal, sliceTotal, lastSlice, jointSector, sliceNumber};
+ghost use Rattle.index.specs.Block.{pairCount, blockAt, sectorTotal, sliceTotal, lastSlice, jointSector};
 ghost use Rattle.index.specs.Block.{joins, stretchesWith, withPair, lengthened, appended, Appendable, cutTo};
+ghost use Rattle.index.specs.Along.{Along, Reaches};
 use types::Block;
 use types::Sector;
 use types::Slice;
@@ -133,20 +134,47 @@ pub fn sector_at(image: &[u16], q: Sector, joined: u32) -> Sector
     Sector(0)
 }
 
+// A joined sector, and the place from which the ones after it are sought: the pair that it lies in, and the sectors of the pairs before.
+pub struct Reached {
+    pub sector: Sector,
+    pub pair: usize,
+    pub before: u32,
+}
+
+// The joined sector `joined` of a block given by its words, as `sector_at` tells it, sought from a place that is not behind it.
+pub fn sector_along(words: &[u16], pair: usize, before: u32, joined: u32) -> Reached
+    requires { ⌜ (before ≤ joined) × Along (now words) pair before ⌝ }
+    ensures { λ r. ⌜ Reaches (now (words .entry)) joined r ⌝ }
+{
+    let n = pair_count(words, Sector(0)) as usize;
+    let mut rest = joined - before;
+    let mut j = pair;
+    while j < n {
+        let length = pair_length(words, Sector(0), j) as u32;
+        if rest < length {
+            let start = pair_start(words, Sector(0), j);
+            let sector = numbers::sector_after(start, rest as u16);
+            return Reached {
+                sector: sector,
+                pair: j,
+                before: joined - rest,
+            };
+        }
+        rest -= length;
+        j += 1;
+    }
+    Reached {
+        sector: Sector(0),
+        pair: j,
+        before: joined - rest,
+    }
+}
+
 // The sector of block b of a file with its index block in sector q, whose blocks begin at the joined sector `from`.
 pub fn block_sector_at(image: &[u16], q: Sector, from: u16, b: Block) -> Sector
     ensures { λ r. ⌜ r .0 ≡ jointSector (now (image .entry)) (q .0) (b .0 + from) ⌝ }
 {
     sector_at(image, q, numbers::joined_of(from, b))
-}
-
-// Slice number j, counted from 0 in file order, of the block in sector q.
-pub fn slice_number_at(image: &[u16], q: Sector, first: Sector, s: u16, j: u16) -> Slice
-    requires { ⌜ 2 ≤ s ⌝ }
-    ensures { λ r. ⌜ r .0 ≡ sliceNumber (first .0) s j (now (image .entry)) (q .0) ⌝ }
-{
-    let sector = sector_at(image, q, s as u32 * j as u32);
-    numbers::slice_from(first, s, sector)
 }
 
 // Whether slice k starts where the last stretch of the block in sector q ends.
@@ -249,14 +277,6 @@ pub fn slice_total(block: IndexBlock, s: u16) -> u16
     ensures { λ r. ⌜ r ≡ sliceTotal s (block .words) 0 ⌝ }
 {
     slice_total_at(&block.words, Sector(0), s)
-}
-
-// Its slice number j, counted from 0 in file order.
-pub fn slice_number(block: IndexBlock, first: Sector, s: u16, j: u16) -> Slice
-    requires { ⌜ 2 ≤ s ⌝ }
-    ensures { λ r. ⌜ r .0 ≡ sliceNumber (first .0) s j (block .words) 0 ⌝ }
-{
-    slice_number_at(&block.words, Sector(0), first, s, j)
 }
 
 // The sector of its file's block b, where the blocks begin at the joined sector `from`.

@@ -187,9 +187,13 @@ pub fn free_slices(
     ensures { λ _. ⌜ Freed (now (image .entry)) (block .words) (first .0) s keep total (now (image .exit)) ⌝ }
 {
     let mut j = keep;
+    let mut pair: usize = 0;
+    let mut before: u32 = 0;
     while j < total {
-        let k = index::slice_number(block, first, s, j);
-        map::mark_free(image, k);
+        let at = index::sector_along(&block.words, pair, before, s as u32 * j as u32);
+        map::mark_free(image, numbers::slice_from(first, s, at.sector));
+        pair = at.pair;
+        before = at.before;
         j += 1;
     }
 }
@@ -225,9 +229,13 @@ pub fn zero_sectors(image: &mut [u16], block: IndexBlock, from: u16, n: u16)
     ensures { λ _. ⌜ Zeroed (now (image .entry)) (block .words) from n (now (image .exit)) ⌝ }
 {
     let mut j: u16 = 0;
+    let mut pair: usize = 0;
+    let mut before: u32 = 0;
     while j < n {
-        let q = index::sector_at(&block.words, Sector(0), from as u32 + j as u32);
-        words::clear_sector(image, q);
+        let at = index::sector_along(&block.words, pair, before, from as u32 + j as u32);
+        words::clear_sector(image, at.sector);
+        pair = at.pair;
+        before = at.before;
         j += 1;
     }
 }
