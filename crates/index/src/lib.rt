@@ -141,7 +141,7 @@ pub struct Reached {
     pub before: u32,
 }
 
-// The joined sector `joined` of a block given by its words, as `sector_at` tells it, sought from a place that is not behind it.
+// The joined sector `joined` of a block given by its words, as `sector_at` tells it, sought from a place that is not past it.
 pub fn sector_along(words: &[u16], pair: usize, before: u32, joined: u32) -> Reached
     requires { ⌜ (before ≤ joined) × Along (now words) pair before ⌝ }
     ensures { λ r. ⌜ Reaches (now (words .entry)) joined r ⌝ }
