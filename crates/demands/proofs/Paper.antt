@@ -23,9 +23,9 @@ use Rattle.plain.specs.Areas.{stepReserve, stepRelease, positioned}
 use Rattle.plain.specs.Transput.{input, append, output, stepTransput}
 use Rattle.plain.specs.Step.{Call, Reply, userStep, operationStep, after, answers}
 use Rattle.plain.specs.Good.{Good}
-use Rattle.plain.specs.Claims.{LentWords, slicesIn}
+use Rattle.plain.specs.Claims.{LentWords}
 use Rattle.examples.specs.Cases.{callsOf, answersIn}
-use Rattle.examples.specs.Paper.{paperUnit, pass, passSlices, lookedUp, sixCalls, sevenCalls, eightCalls, sixth, seventh}
+use Rattle.examples.specs.Paper.{paperUnit, pass, slicesIn, passSlices, lookedUp, sixCalls, sevenCalls, eightCalls, sixth, seventh}
 use Rattle.examples.proofs.Paper.{paper}
 use Rattle.refine.specs.Represents.{Represents}
 use Rattle.refine.proofs.Format.{format-paper}

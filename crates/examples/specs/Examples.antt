@@ -16,9 +16,8 @@ use Rattle.disc.specs.Stretches.{span}
 use Rattle.plain.specs.Table.{Table, tableFind}
 use Rattle.plain.specs.Unit.{Plain, File, AreaUser, freeSectors}
 use Rattle.plain.specs.Step.{after}
-use Rattle.plain.specs.Claims.{slicesIn}
 use Rattle.examples.specs.Cases.{Case, gives, givesAt, givesCounts, callsOf, Shows, wordsAfter}
-use Rattle.examples.specs.Paper.{paperUnit, char, pass, mixedPass, smallPass, sectorOf}
+use Rattle.examples.specs.Paper.{paperUnit, char, pass, mixedPass, smallPass, sectorOf, slicesIn}
 use Rattle.examples.specs.ExampleUnits.{aName, bName, cName, dName, zName, smallA, oneName, bracketName, elsewhere, sysName}
 use Rattle.examples.specs.ExampleUnits.{mapName, smallSys, mixedMap, crowdName, lentEntry, setEntry, keptName, keep, blank}
 use Rattle.examples.specs.ExampleUnits.{userRow, areaRow, smallUnit, nineFiles, oldUnit, fullLayer, twoLayers, heldUnit, keyFull}

@@ -2,6 +2,7 @@
 -- new files in one stretch (R-6), names that differ in small letters (R-8) and a disc of before that holds an entry-only file (R-9).
 use mathlib.Core.Path.{_≡_}
 use mathlib.Core.List.{List, [], _∷_, _++_}
+use mathlib.Core.Option.{Option, none, some}
 use Prim.Native.Nat.{ℕ, zero, suc, _*_, _-_}
 use lib.ListN.{length, getD, take, drop, replicate}
 use Rattle.types.specs.declared.Name.{Name}
@@ -16,7 +17,6 @@ use Rattle.plain.specs.Table.{tableFind, tablePut}
 use Rattle.plain.specs.Unit.{Plain, File, M, held, freeSectors, withFiles}
 use Rattle.plain.specs.Fresh.{freshUnit}
 use Rattle.plain.specs.Step.{after}
-use Rattle.plain.specs.Claims.{slicesIn}
 use Rattle.examples.specs.Cases.{Case, gives, givesAt, givesCounts, callsOf, Shows, wordsAfter}
 
 -- "H = 1, s = 2, N = 20, F = 10", fresh: unit 0 as Format makes it.
@@ -44,6 +44,11 @@ char c = record { 0 = c * 256; 1 = 0; 2 = 0 }
 -- "Sums to": a key before it is taken modulo H, which 65,536 leaves as it is.
 abbrev pub sumOf : ℕ → ℕ
 sumOf n = keyOf 65536 n
+
+-- The slices of a file that there may be.
+abbrev pub slicesIn : Option File → List ℕ
+slicesIn none = []
+slicesIn (some f) = f .slices
 
 -- The slices of 'PASS', the words of its index block, and the first word of the unit's map.
 abbrev pub passSlices : Plain → List ℕ
@@ -391,8 +396,8 @@ pub record Paper : Type 0 where
   pub liveOutput : Takes gaps (byCreate pass 0 0 ++ writing pass 0 1 ++ (gives (Remove (char 0x41)) [] 0 ∷ outputs pass 1 1)) pass
       (3 ∷ 4 ∷ []) (1 ∷ 4 ∷ 14 ∷ []) 0x45C0
   -- 'C' gives slice 7 back and has none: of 3, 4 and 6 to 10 it takes 6, 7 and 8
-  pub cutAndLonger : Takes gaps (gives (Change (char 0x43)) (recordOf 0 0 1 0) 0 ∷ gives (Change (char 0x43)) (recordOf 0 0 1 5) 0 ∷ []) (char 0x43)
-      (6 ∷ 7 ∷ 8 ∷ []) (1 ∷ 6 ∷ 20 ∷ []) 0x30C0
+  pub cutAndLonger : Takes gaps (gives (Change (char 0x43)) (recordOf 0 0 1 0) 0 ∷ gives (Change (char 0x43)) (recordOf 0 0 1 5) 0 ∷ [])
+      (char 0x43) (6 ∷ 7 ∷ 8 ∷ []) (1 ∷ 6 ∷ 20 ∷ []) 0x30C0
   -- a file that has slices takes by 01's choice: 'B' two more than slice 5, the next and the lowest free, though 3 and 4 are neighbours
   pub letterLonger : Takes gaps (gives (Change (char 0x42)) (recordOf 0 0 1 5) 0 ∷ []) (char 0x42)
       (5 ∷ 6 ∷ 3 ∷ []) (2 ∷ 4 ∷ 18 ∷ 2 ∷ 14 ∷ []) 0x11C0

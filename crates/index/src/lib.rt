@@ -134,7 +134,8 @@ pub fn sector_at(image: &[u16], q: Sector, joined: u32) -> Sector
     Sector(0)
 }
 
-// A joined sector, and the place from which the ones after it are sought: the pair that it lies in, and the sectors of the pairs before.
+// A joined sector, and the place from which the ones after it are sought: the pair that it lies in, or the number of pairs where it lies in
+// none, and the sectors of the pairs before.
 pub struct Reached {
     pub sector: Sector,
     pub pair: usize,

@@ -16,5 +16,5 @@ pub mod KeepsCatalog
 pub mod Keeps
 pub mod Collect
 pub mod Refuses
-pub mod NewFiles
+pub mod SlicesTaken
 pub mod PlainClaims

@@ -3,7 +3,7 @@ use Rattle.disc.proofs.OneStretchLaws.{in-one-stretch}
 use Rattle.plain.specs.Step.{after}
 use Rattle.plain.specs.Claims.{PlainClaims}
 use Rattle.plain.proofs.Keeps.{step-keeps, list-keeps, good-adds}
-use Rattle.plain.proofs.NewFiles.{new-files}
+use Rattle.plain.proofs.SlicesTaken.{slices-taken}
 use Rattle.plain.proofs.Refuses.{refuses, never-shrinks, no-more-entry-only, never-unsound, never-unsound-after}
 
 pub plain-claims : PlainClaims
@@ -13,7 +13,7 @@ plain-claims = record {
   refuses = refuses;
   neverShrinks = never-shrinks;
   noMoreEntryOnly = no-more-entry-only;
-  newFiles = new-files;
+  slicesTaken = slices-taken;
   inOneStretch = in-one-stretch;
   neverUnsound = never-unsound;
   neverUnsoundAfter = never-unsound-after;

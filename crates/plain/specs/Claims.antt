@@ -1,27 +1,29 @@
 -- What is claimed of the plain unit alone: `Good` is kept, the sum, what a refused call leaves, that SYS never shrinks, that
--- entry-only files never become more, which slices a new file takes, and which result words never come.
+-- entry-only files never become more, which slices files take, and which result words never come.
 use mathlib.Core.Path.{_≡_}
 use mathlib.Core.List.{List, [], _∷_, _++_}
-use mathlib.Core.Option.{Option, none, some}
+use mathlib.Core.Option.{some}
 use mathlib.Core.Logic.{_≢_}
-use Prim.Native.Nat.{ℕ, _+_, _≤_}
-use lib.ListN.{length}
+use Prim.Native.Nat.{ℕ, suc, _+_, _-_, _≤_}
+use lib.ListN.{length, take}
 use lib.Dec.{T, eqb}
 use Rattle.types.specs.declared.Operation.{Operation}
 use Rattle.types.specs.declared.Operation.the-variants.{Position, Transput}
 use Rattle.types.specs.declared.Message.{Message}
 use Rattle.types.specs.declared.Message.the-variants.{Set, Create, Change, AreaMessage}
 use Rattle.types.specs.declared.Name.{Name}
+use Rattle.disc.specs.Numbers.{need}
 use Rattle.disc.specs.Words.{Words}
 use Rattle.disc.specs.Names.{named}
 use Rattle.disc.specs.Attributes.{entryOnly}
-use Rattle.disc.specs.Slices.{InRangeOnce}
+use Rattle.disc.specs.Slices.{InRangeOnce, taken, lastOf}
 use Rattle.disc.specs.OneStretch.{takenForFile, InOneStretch}
+use Rattle.disc.specs.Catalog.{slicesNeeded}
 use Rattle.plain.specs.Table.{Row, Table, tableFind, total}
-use Rattle.plain.specs.Unit.{Plain, File, AreaUser, M, slicesOf, held, freeSlices}
-use Rattle.plain.specs.Catalog.{newName}
+use Rattle.plain.specs.Unit.{Plain, File, AreaUser, M, slicesOf, held, freeSlices, sysOf}
+use Rattle.plain.specs.Catalog.{sizeIn, newName, keptOr, slicesAfter}
 use Rattle.plain.specs.Areas.{moved}
-use Rattle.plain.specs.Transput.{isRandom, oneIf}
+use Rattle.plain.specs.Transput.{isRandom, oneIf, slicesToTake}
 use Rattle.plain.specs.Step.{Call, Reply, step, after, answers}
 use Rattle.plain.specs.Questions.{Outcome}
 use Rattle.plain.specs.Good.{Good}
@@ -83,25 +85,30 @@ filesWith a p = total (hasAttributes a) (p .files)
 abbrev pub NoMoreEntryOnly : Plain → Plain → Type 0
 NoMoreEntryOnly p q = (a : ℕ) → T (entryOnly a) → filesWith a q ≤ filesWith a p
 
--- The slices of a file that there may be.
-abbrev pub slicesIn : Option File → List ℕ
-slicesIn none = []
-slicesIn (some f) = f .slices
+-- A file that had the slices `old` has `count` slices in q, under the name n: the first of the old ones, and for what these lack the choice
+-- beside the slices that SYS has in q and those of p's files. "SYS still takes first, one by one" (document 02, R-6): those that its layers
+-- in q need, by 01's choice beside all that are held in p.
+pub record TakenIn (p : Plain) (old : List ℕ) (count n : ℕ) (q : Plain) : Type 0 where
+  pub sys : let missing : ℕ = slicesNeeded (p .H) (p .s) (sysOf p) (q .layers) - length (p .sys) in
+      q .sys ≡ p .sys ++ taken (M p) (held p) (lastOf (p .sys)) missing
+  pub file : File
+  pub entered : tableFind n (q .files) ≡ some file
+  pub slices : file .slices ≡ take count old ++ takenForFile (M p) (q .sys ++ slicesOf (p .files)) old (count - length old)
 
--- "Taking slices for a file that has none" (document 02, R-6): those that the name n has in q are the choice for a file that has none, beside
--- the slices that SYS has in q, since "SYS still takes first", and the files of p.
-abbrev pub NewSlices : Plain → ℕ → Plain → Type 0
-NewSlices p n q =
-    let new : List ℕ = slicesIn (tableFind n (q .files)) in
-    new ≡ takenForFile (M p) (q .sys ++ slicesOf (p .files)) [] (length new)
-
--- It is so after every Create and Set, and every Change of a file that has none, that is answered 0.
-pub record NewFiles (p : Plain) (name : Name) (lent : List ℕ) : Type 0 where
+-- Which slices files take, and how many: by every Create and Set, for a file that has none, and every Change that is answered 0; and for a
+-- block that an area message appends, where SYS takes none.
+pub record SlicesTaken (p : Plain) (name : Name) (lent : List ℕ) : Type 0 where
   pub create : (size attributes : ℕ) → let o = step p (Create name size attributes) lent in
-      o .answer .result ≡ 0 → NewSlices p (named name) (o .unit)
-  pub set : let o = step p (Set name) lent in o .answer .result ≡ 0 → NewSlices p (named name) (o .unit)
-  pub change : (f : File) → tableFind (named name) (p .files) ≡ some f → f .slices ≡ [] → let o = step p (Change name) lent in
-      o .answer .result ≡ 0 → NewSlices p (newName (named name) lent) (o .unit)
+      o .answer .result ≡ 0 → TakenIn p [] (need (p .s) size) (named name) (o .unit)
+  pub set : let o = step p (Set name) lent in
+      o .answer .result ≡ 0 → TakenIn p [] (need (p .s) (sizeIn lent)) (named name) (o .unit)
+  pub change : (f : File) → tableFind (named name) (p .files) ≡ some f → let o = step p (Change name) lent in
+      let count : ℕ = slicesAfter (p .s) (keptOr (sizeIn lent) (f .booked)) f in
+      o .answer .result ≡ 0 → TakenIn p (f .slices) count (newName (named name) lent) (o .unit)
+  pub append : (f g : File) (sender : ℕ) (operation : Operation) → tableFind (named name) (p .files) ≡ some f
+      → let q = step p (AreaMessage name sender operation) lent .unit in
+      tableFind (named name) (q .files) ≡ some g → length (g .sectors) ≡ suc (length (f .sectors))
+      → g .slices ≡ f .slices ++ takenForFile (M p) (held p) (f .slices) (slicesToTake (p .s) f)
 
 -- "9000h and 8800h never come": a result word is neither.
 pub record NeverUnsound (word : ℕ) : Type 0 where
@@ -121,7 +128,7 @@ pub record PlainClaims : Type 0 where
       → Refused p message lent (step p message lent)
   pub neverShrinks : (calls : List Call) (p : Plain) → NeverShrinks p (after p calls)
   pub noMoreEntryOnly : (calls : List Call) (p : Plain) → NoMoreEntryOnly p (after p calls)
-  pub newFiles : (p : Plain) (name : Name) (lent : List ℕ) → NewFiles p name lent
+  pub slicesTaken : (p : Plain) (name : Name) (lent : List ℕ) → SlicesTaken p name lent
   pub inOneStretch : (m : ℕ) (held : List ℕ) (n : ℕ) → 1 ≤ n → InOneStretch m held n
   pub neverUnsound : (p : Plain) (message : Message) (lent : List ℕ) → NeverUnsound (step p message lent .answer .result)
   pub neverUnsoundAfter : (calls : List Call) (p : Plain) → EachNeverUnsound (answers p calls)
