@@ -131,13 +131,18 @@ for-file-same m h l [] n e =
     (taken-same m h l 0 n e)
 
 -- the choice without a search
-pub in-one-stretch : (m : ℕ) (held : List ℕ) (n : ℕ) → 1 ≤ n → InOneStretch m held n
-in-one-stretch m held n some = record {
+pub in-one-stretch : (m : ℕ) (held : List ℕ) (n : ℕ) → InOneStretch m held n
+in-one-stretch m held zero = record {
+  lowest = λ k a run low. for-file-none m held [];
+  nowhere = λ none. for-file-none m held [];
+  others = λ x l. for-file-last m held (x ∷ l) 0 (omega arith);
+}
+in-one-stretch m held (suc n) = record {
   lowest = λ k a run low.
       let top = inUnit-out m k (omega (arith, run k (omega arith) (omega arith) .0)) in
-      for-file-span m held n k a (stretch-is m held n k a (top .1) run low);
-  nowhere = λ none. for-file-old m held n (stretch-none m held n none);
-  others = λ x l. for-file-last m held (x ∷ l) n (omega arith);
+      for-file-span m held (suc n) k a (stretch-is m held (suc n) k a (top .1) run low);
+  nowhere = λ none. for-file-old m held (suc n) (stretch-none m held (suc n) none);
+  others = λ x l. for-file-last m held (x ∷ l) (suc n) (omega arith);
 }
 
 -- its first slice is the stretch's, and the others come after it by 01's choice

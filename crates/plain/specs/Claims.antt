@@ -3,6 +3,7 @@
 use mathlib.Core.Path.{_≡_}
 use mathlib.Core.List.{List, [], _∷_, _++_}
 use mathlib.Core.Option.{some}
+use mathlib.Core.Bool.{cond}
 use mathlib.Core.Logic.{_≢_}
 use Prim.Native.Nat.{ℕ, suc, _+_, _-_, _≤_}
 use lib.ListN.{length, take}
@@ -19,8 +20,9 @@ use Rattle.disc.specs.Attributes.{entryOnly}
 use Rattle.disc.specs.Slices.{InRangeOnce, taken, lastOf}
 use Rattle.disc.specs.OneStretch.{takenForFile, InOneStretch}
 use Rattle.disc.specs.Catalog.{slicesNeeded}
-use Rattle.plain.specs.Table.{Row, Table, tableFind, total}
+use Rattle.plain.specs.Table.{Row, Table, tableFind, tableRemove, total}
 use Rattle.plain.specs.Unit.{Plain, File, AreaUser, M, slicesOf, held, freeSlices, sysOf}
+use Rattle.plain.specs.Taking.{layersFor}
 use Rattle.plain.specs.Catalog.{sizeIn, newName, keptOr, slicesAfter}
 use Rattle.plain.specs.Areas.{moved}
 use Rattle.plain.specs.Transput.{isRandom, oneIf, slicesToTake}
@@ -86,29 +88,49 @@ abbrev pub NoMoreEntryOnly : Plain → Plain → Type 0
 NoMoreEntryOnly p q = (a : ℕ) → T (entryOnly a) → filesWith a q ≤ filesWith a p
 
 -- A file that had the slices `old` has `count` slices in q, under the name n: the first of the old ones, and for what these lack the choice
--- beside the slices that SYS has in q and those of p's files. "SYS still takes first, one by one" (document 02, R-6): those that its layers
--- in q need, by 01's choice beside all that are held in p.
-pub record TakenIn (p : Plain) (old : List ℕ) (count n : ℕ) (q : Plain) : Type 0 where
-  pub sys : let missing : ℕ = slicesNeeded (p .H) (p .s) (sysOf p) (q .layers) - length (p .sys) in
-      q .sys ≡ p .sys ++ taken (M p) (held p) (lastOf (p .sys)) missing
+-- beside the slices that SYS has in q and those of p's files. "SYS still takes first, one by one" (document 02, R-6): those that it lacks
+-- for so many layers, by 01's choice beside all that are held in p.
+pub record TakenIn (p : Plain) (layers : ℕ) (old : List ℕ) (count n : ℕ) (q : Plain) : Type 0 where
+  pub grown : q .layers ≡ layers
+  pub sys : let lacks : ℕ = slicesNeeded (p .H) (p .s) (sysOf p) layers - length (p .sys) in
+      q .sys ≡ p .sys ++ taken (M p) (held p) (lastOf (p .sys)) lacks
   pub file : File
   pub entered : tableFind n (q .files) ≡ some file
   pub slices : file .slices ≡ take count old ++ takenForFile (M p) (q .sys ++ slicesOf (p .files)) old (count - length old)
 
--- Which slices files take, and how many: by every Create and Set, for a file that has none, and every Change that is answered 0; and for a
--- block that an area message appends, where SYS takes none.
+-- The slices of a file f and of what it is afterwards: the same where it has as many blocks; with one block more, those and the choice for
+-- what that block lacks.
+pub data Appended (p : Plain) (f : File) : File → Type 0 where
+  asLong : {g : File} → length (g .sectors) ≡ length (f .sectors) → g .slices ≡ f .slices → Appended p f g
+  longer : {g : File} → length (g .sectors) ≡ suc (length (f .sectors))
+      → g .slices ≡ f .slices ++ takenForFile (M p) (held p) (f .slices) (slicesToTake (p .s) f) → Appended p f g
+
+-- An area message leaves SYS's slices, and of its file that.
+pub record AppendedIn (p : Plain) (f : File) (n : ℕ) (q : Plain) : Type 0 where
+  pub sys : q .sys ≡ p .sys
+  pub file : File
+  pub entered : tableFind n (q .files) ≡ some file
+  pub slices : Appended p f file
+
+-- The layers of SYS for a file of name n that gets the name m: a kept name needs no other place.
+abbrev pub layersAfter : Plain → ℕ → ℕ → ℕ
+layersAfter p n m = cond (eqb m n) (p .layers) (layersFor (p .H) (sysOf p) m (tableRemove n (p .files)))
+
+-- Which slices the file of a message takes, and how many: by a Create or Set, for a file that has none, and by a Change, where these are
+-- answered 0; and by an area message, refused or not.
 pub record SlicesTaken (p : Plain) (name : Name) (lent : List ℕ) : Type 0 where
   pub create : (size attributes : ℕ) → let o = step p (Create name size attributes) lent in
-      o .answer .result ≡ 0 → TakenIn p [] (need (p .s) size) (named name) (o .unit)
+      let layers : ℕ = layersFor (p .H) (sysOf p) (named name) (p .files) in
+      o .answer .result ≡ 0 → TakenIn p layers [] (need (p .s) size) (named name) (o .unit)
   pub set : let o = step p (Set name) lent in
-      o .answer .result ≡ 0 → TakenIn p [] (need (p .s) (sizeIn lent)) (named name) (o .unit)
+      let layers : ℕ = layersFor (p .H) (sysOf p) (named name) (p .files) in
+      o .answer .result ≡ 0 → TakenIn p layers [] (need (p .s) (sizeIn lent)) (named name) (o .unit)
   pub change : (f : File) → tableFind (named name) (p .files) ≡ some f → let o = step p (Change name) lent in
+      let new : ℕ = newName (named name) lent in
       let count : ℕ = slicesAfter (p .s) (keptOr (sizeIn lent) (f .booked)) f in
-      o .answer .result ≡ 0 → TakenIn p (f .slices) count (newName (named name) lent) (o .unit)
-  pub append : (f g : File) (sender : ℕ) (operation : Operation) → tableFind (named name) (p .files) ≡ some f
-      → let q = step p (AreaMessage name sender operation) lent .unit in
-      tableFind (named name) (q .files) ≡ some g → length (g .sectors) ≡ suc (length (f .sectors))
-      → g .slices ≡ f .slices ++ takenForFile (M p) (held p) (f .slices) (slicesToTake (p .s) f)
+      o .answer .result ≡ 0 → TakenIn p (layersAfter p (named name) new) (f .slices) count new (o .unit)
+  pub area : (f : File) (sender : ℕ) (operation : Operation) → tableFind (named name) (p .files) ≡ some f
+      → AppendedIn p f (named name) (step p (AreaMessage name sender operation) lent .unit)
 
 -- "9000h and 8800h never come": a result word is neither.
 pub record NeverUnsound (word : ℕ) : Type 0 where
@@ -129,6 +151,6 @@ pub record PlainClaims : Type 0 where
   pub neverShrinks : (calls : List Call) (p : Plain) → NeverShrinks p (after p calls)
   pub noMoreEntryOnly : (calls : List Call) (p : Plain) → NoMoreEntryOnly p (after p calls)
   pub slicesTaken : (p : Plain) (name : Name) (lent : List ℕ) → SlicesTaken p name lent
-  pub inOneStretch : (m : ℕ) (held : List ℕ) (n : ℕ) → 1 ≤ n → InOneStretch m held n
+  pub inOneStretch : (m : ℕ) (held : List ℕ) (n : ℕ) → InOneStretch m held n
   pub neverUnsound : (p : Plain) (message : Message) (lent : List ℕ) → NeverUnsound (step p message lent .answer .result)
   pub neverUnsoundAfter : (calls : List Call) (p : Plain) → EachNeverUnsound (answers p calls)
