@@ -1,5 +1,7 @@
 // The messages to an area process, from 'open?' on: Reserve, Release, Position, Sense and transput.
 
+#![tactic(auto)]
+
 ghost use Rattle.std.specs.Prelude.{◌≡◌};
 ghost use Rattle.disc.specs.Names.{unit_in};
 ghost use Rattle.plain.specs.Step.{is_known};

@@ -1,5 +1,7 @@
 // Reserve, Release and Position on the state by value: what each answers, and the state after it.
 
+#![tactic(auto)]
+
 ghost use Rattle.std.specs.Prelude.{◌≡◌, ◌+◌, ◌<◌};
 ghost use Rattle.area_users.specs.AreaUsers.{area_reply, at_position, position_word, position_reached};
 ghost use Rattle.area_users.specs.AreaUsers.{reserved_reply, released_reply, position_reply};
@@ -7,7 +9,7 @@ ghost use Rattle.area_users.specs.AreaUsers.{reserved_reply, released_reply, pos
 use types::{Answer, Block, State};
 
 // The answer to a message to an area process, and the state after it.
-#[derive(Drop)]
+#[derive(Clone, Copy)]
 pub struct AreaReply {
     pub answer: Answer,
     pub state: State,

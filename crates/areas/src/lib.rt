@@ -1,5 +1,7 @@
 // Area create and remove, from the question whether the name is entered, or none of SYS and MAP, on.
 
+#![tactic(auto)]
+
 ghost use Rattle.disc.specs.Names.{unit_in};
 ghost use Rattle.lookup.specs.Unit.{Meant};
 ghost use Rattle.areas.specs.Areas.{CanBook, Booked, CreatesArea, RemovesArea};
@@ -8,7 +10,7 @@ use catalog::{Found, Place, Unit};
 use types::{Name, Sector, State};
 
 // The result word, and the state after the message.
-#[derive(Drop)]
+#[derive(Clone, Copy)]
 pub struct AreaDone {
     pub result: u16,
     pub state: State,

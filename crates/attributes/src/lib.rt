@@ -1,5 +1,7 @@
 // The attributes of a file: which a file may have, and what becomes of bit 13, entry only.
 
+#![tactic(auto)]
+
 ghost use Rattle.std.specs.Prelude.{◌≡◌};
 ghost use Rattle.disc.specs.Attributes.{legal_attributes, legal_with, entry_only, gives_entry_only};
 

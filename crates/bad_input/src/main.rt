@@ -11,6 +11,8 @@
 //   the image are lent; 4: the unit is formatted anew with this H and has no files; 5: every word of the image; 6: all
 //   descriptors are as the first; 7: the unit is formatted anew with this F, H = 1, and has no files.
 
+#![tactic(auto)]
+
 mod cases;
 mod report;
 mod setup;

@@ -4,7 +4,7 @@ use crate::unit::{Disc, fill, fresh, put};
 use types::{Area, Block, Name, Role, Sector, State, User};
 
 // The state, the unit that Init is asked for, and the number of words that are lent.
-#[derive(Drop)]
+#[derive(Clone, Copy)]
 pub struct Setup {
     pub state: State,
     pub unit: u16,

@@ -1,6 +1,8 @@
 // A file's attributes, and its data blocks: `read` gives the words of a block and `replace` stores others. Transput reads and writes
 // blocks through these two alone.
 
+#![tactic(auto)]
+
 ghost use Rattle.std.specs.Prelude.{◌≤◌, length};
 ghost use Rattle.disc.specs.Names.{packed};
 ghost use Rattle.lookup.specs.Unit.{Searchable};

@@ -1,6 +1,8 @@
 // A catalog and a unit as values; the words of an entry; the places of a catalog: found by name, found unused, read, written and cleared.
 // The catalog is a parameter; SYS is one.
 
+#![tactic(auto)]
+
 ghost use Rattle.std.specs.Prelude.{◌≡◌, ◌++◌, ◌+◌, ◌*◌, ◌≤◌, ◌<◌, length, take, drop};
 ghost use Rattle.disc.specs.Names.{packed};
 ghost use Rattle.disc.specs.Entries.{entry_from, system_entry};
@@ -11,7 +13,7 @@ ghost use Rattle.catalog.specs.Catalog.{slot_named, slot_unused, first_slot, Nam
 use types::{Name, Sector};
 
 // A catalog: the sector of its index block, the joined sector at which its blocks begin, its number of keys and of layers.
-#[derive(Drop)]
+#[derive(Clone, Copy)]
 pub struct Catalog {
     pub index: Sector,
     pub from: u16,
@@ -20,7 +22,7 @@ pub struct Catalog {
 }
 
 // The numbers of a unit that its messages work with: s, F and M of document 01, and its catalog with H and L.
-#[derive(Drop)]
+#[derive(Clone, Copy)]
 pub struct Unit {
     pub slice: u16,
     pub first: Sector,
@@ -29,14 +31,14 @@ pub struct Unit {
 }
 
 // A place: one of the 16 slots of a sector.
-#[derive(Drop)]
+#[derive(Clone, Copy)]
 pub struct Place {
     pub sector: Sector,
     pub slot: u16,
 }
 
 // Where a search found what it looked for.
-#[derive(Drop)]
+#[derive(Clone, Copy)]
 pub enum Found {
     At(Place),
     Nothing,

@@ -1,5 +1,7 @@
 // Change, from question 3 on: the name, attributes, length, optional and tail of a file.
 
+#![tactic(auto)]
+
 mod resize;
 mod rewrite;
 

@@ -6,7 +6,7 @@ use catalog::Unit;
 use index::IndexBlock;
 
 // The sectors and the slices of a file.
-#[derive(Drop)]
+#[derive(Clone, Copy)]
 pub struct Extent {
     pub size: u16,
     pub slices: u16,

@@ -13,7 +13,7 @@ use index::IndexBlock;
 use types::{Block, Name, Sector};
 
 // A file as it stands: the place of its entry, its attributes, length and number of slices, its index block.
-#[derive(Drop)]
+#[derive(Clone, Copy)]
 pub struct Standing {
     pub place: Place,
     pub attributes: u16,
@@ -23,7 +23,7 @@ pub struct Standing {
 }
 
 // The file as it is to be: its name, whether that is another one, its attributes, length and number of slices.
-#[derive(Drop)]
+#[derive(Clone, Copy)]
 pub struct Wanted {
     pub name: Name,
     pub moves: bool,
@@ -33,7 +33,7 @@ pub struct Wanted {
 }
 
 // The 16 words of an entry.
-#[derive(Drop)]
+#[derive(Clone, Copy)]
 struct Entry {
     words: [u16; 16],
 }

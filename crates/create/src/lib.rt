@@ -1,5 +1,7 @@
 // Create and Set, from question 4 on: a new file, for which SYS grows first where its key has no unused place.
 
+#![tactic(auto)]
+
 ghost use Rattle.std.specs.Prelude.{◌≡◌, ◌+◌, ◌≤◌, length};
 ghost use Rattle.disc.specs.Names.{packed, unit_in};
 ghost use Rattle.disc.specs.Entries.{entry_from};

@@ -136,6 +136,7 @@ module _ (image : List ℕ) (F s q : ℕ) where
 
     -- the index words of a slice list have legal pairs
     described_legal : {rs : List Stretch} {j : ℕ} → Longest rs → Described image F s q j rs → (i : ℕ) → i < length rs → LegalPair image F s q (j + i)
+    described_legal k (none {j = j}) i h = absurd (omega arith)
     described_legal k (more {j = j} {r = r} x y d) zero h =
         let c : 1 ≤ r.count = longest_head k in
         let e : F + (r.first - 1) * s - F ≡ (r.first - 1) * s = omega arith in
@@ -151,6 +152,7 @@ module _ (image : List ℕ) (F s q : ℕ) where
 
     described_apart : {rs : List Stretch} {j : ℕ} → Longest rs → Firsts rs → Described image F s q j rs → (i : ℕ) → suc i < length rs
         → pair_start image q (j + i) + pair_length image q (j + i) ≢ pair_start image q (suc (j + i))
+    described_apart {j = j} end a d i h = absurd (omega arith)
     described_apart (last c) a (more x y none) i h = absurd (omega arith)
     described_apart (next {r = r} {t = t} c n k) (unique.next p (unique.next o a)) (more {j = j} x y (more u v d)) zero h =
         rw add-zero (λ e. n (ends_before F s r.first r.count t.first pos p o (omega (arith, x, y, v))))

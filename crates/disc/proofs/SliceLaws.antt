@@ -1,5 +1,5 @@
 -- Laws of counting slices, the sum of free and held slices, and the taking of slices.
-use mathlib.Core.Path.{◌≡◌, refl, sym, ap}
+use mathlib.Core.Path.{◌≡◌, refl, sym, ap, subst}
 use mathlib.Core.List.{List, [], ◌∷◌, ◌++◌}
 use mathlib.Core.Logic.{◌≢◌}
 use Prim.Native.Nat.{ℕ, zero, suc, ◌+◌, ◌-◌, ◌≤◌, ◌<◌, compare, Ordering}
@@ -158,7 +158,7 @@ choose_law m last h p = go (in_unit m (suc last)) refl (occurrences (suc last) h
     go (suc r) e (suc t) f = low
 
 pub once_cons : (m k : ℕ) (h : List ℕ) → InRangeOnce m h → occurrences k h ≡ 0 → in_unit m k ≡ 1 → InRangeOnce m (k ∷ h)
-once_cons m k h ok z r j = same_or j k (λ e. rw e (omega (arith, occurrences_self k h))) (λ d. omega (arith, ok j, occurrences_other j k h d))
+once_cons m k h ok z r j = same_or j k (λ e. subst (λ (i : ℕ). occurrences i (k ∷ h) ≤ in_unit m i) (sym e) (omega (arith, occurrences_self k h))) (λ d. omega (arith, ok j, occurrences_other j k h d))
 
 pub length_taken : (m : ℕ) (h : List ℕ) (last n : ℕ) → length (taken m h last n) ≡ n
 length_taken m h last zero = refl

@@ -1,5 +1,5 @@
 -- Neighbouring slices from one on: each stands once, and they are one stretch.
-use mathlib.Core.Path.{◌≡◌, sym, ap, ◌∙◌}
+use mathlib.Core.Path.{◌≡◌, sym, ap, ◌∙◌, subst}
 use mathlib.Core.List.{List, [], ◌∷◌, append-nil}
 use Prim.Native.Nat.{ℕ, zero, suc, ◌+◌, ◌*◌, ◌≤◌, ◌<◌}
 use native.Mathlib.Omega.{arith}
@@ -23,13 +23,13 @@ span_past (suc n) x k h = occurrences_other k x (span (suc x) n) (omega arith) �
 pub span_in : (n x k : ℕ) → x ≤ k → k < x + n → occurrences k (span x n) ≡ 1
 span_in zero x k a b = absurd (omega arith)
 span_in (suc n) x k a b = same_or k x
-    (λ e. rw e (omega (arith, occurrences_self x (span (suc x) n), span_below n (suc x) x (omega arith))))
+    (λ e. subst (λ (i : ℕ). occurrences i (span x (suc n)) ≡ 1) (sym e) (omega (arith, occurrences_self x (span (suc x) n), span_below n (suc x) x (omega arith))))
     (λ d. occurrences_other k x (span (suc x) n) d ∙ span_in n (suc x) k (omega arith) (omega arith))
 
 span_in_unit : (m n x k : ℕ) → 1 ≤ x → x + n ≤ suc m → occurrences k (span x n) ≤ in_unit m k
 span_in_unit m zero x k p h = omega arith
 span_in_unit m (suc n) x k p h = same_or k x
-    (λ e. rw e (omega (arith, occurrences_self x (span (suc x) n), span_below n (suc x) x (omega arith), in_unit_in m x p (omega arith))))
+    (λ e. subst (λ (i : ℕ). occurrences i (span x (suc n)) ≤ in_unit m i) (sym e) (omega (arith, occurrences_self x (span (suc x) n), span_below n (suc x) x (omega arith), in_unit_in m x p (omega arith))))
     (λ d. omega (arith, occurrences_other k x (span (suc x) n) d, span_in_unit m n (suc x) k (omega arith) (omega arith)))
 
 -- the first n slices of a unit

@@ -1,1 +1,3 @@
 // The formulas of the disc's layout. They are definitions only, in specs/; the crates above compute them.
+
+#![tactic(auto)]

@@ -1,5 +1,7 @@
 // The calls for C and Rust programs: over a mirror of the state in which every field is a word, and a message of twelve words.
 
+#![tactic(auto)]
+
 ghost use Rattle.std.specs.Prelude.{◌≡◌};
 ghost use Rattle.disc.specs.Decide.{Decides};
 ghost use Rattle.sound.specs.Sound.{SoundUnit};
@@ -11,7 +13,7 @@ use types::{Answer, Area, Block, Message, Name, Operation, Role, Sector, State, 
 
 // A user's entry; its role is a number.
 #[repr(C)]
-#[derive(Drop)]
+#[derive(Clone, Copy)]
 pub struct UserState {
     pub id: u16,
     pub role: u16,
@@ -21,7 +23,7 @@ pub struct UserState {
 
 // An area descriptor; open if `live` is not 0.
 #[repr(C)]
-#[derive(Drop)]
+#[derive(Clone, Copy)]
 pub struct AreaState {
     pub live: u16,
     pub name: [u16; 3],
@@ -32,7 +34,7 @@ pub struct AreaState {
 
 // The state; initialized if that word is not 0.
 #[repr(C)]
-#[derive(Drop)]
+#[derive(Clone, Copy)]
 pub struct UnitState {
     pub unit: u16,
     pub initialized: u16,
@@ -41,7 +43,7 @@ pub struct UnitState {
 
 // A call by its number, with the words of every call; each call reads its own.
 #[repr(C)]
-#[derive(Drop)]
+#[derive(Clone, Copy)]
 pub struct UnitMessage {
     pub call: u16,
     pub name: [u16; 3],
@@ -56,7 +58,7 @@ pub struct UnitMessage {
 }
 
 #[repr(C)]
-#[derive(Drop)]
+#[derive(Clone, Copy)]
 pub struct UnitAnswer {
     pub result: u16,
     pub bytes: u16,
@@ -68,20 +70,20 @@ pub struct UnitAnswer {
 const NO_SUCH_CALL: u16 = 0xFFFF;
 
 // What a message asks for: one of the eleven calls, or none of them.
-#[derive(Drop)]
+#[derive(Clone, Copy)]
 enum Asked {
     Call(Message),
     NoSuchCall,
 }
 
 // What comes of a call beside image and lent words.
-#[derive(Drop)]
+#[derive(Clone, Copy)]
 struct UnitOutcome {
     pub answer: UnitAnswer,
     pub state: UnitState,
 }
 
-#[derive(Drop)]
+#[derive(Clone, Copy)]
 struct FormatOutcome {
     pub result: u16,
     pub state: UnitState,

@@ -1,5 +1,7 @@
 // Each message's class and the unit that it names; the first question of every call, and the words of the first two.
 
+#![tactic(auto)]
+
 ghost use Rattle.std.specs.Prelude.{◌≡◌};
 ghost use Rattle.types.specs.State.{UnitKnown};
 ghost use Rattle.disc.specs.Decide.{Decides};
@@ -9,7 +11,7 @@ ghost use Rattle.first_question.specs.Known.{unknown_to, unsound_to, unknown_wor
 use types::{Message, Name, State};
 
 // The classes of messages: what the first two questions are, and their words, is one thing for each.
-#[derive(Drop)]
+#[derive(Clone, Copy)]
 pub enum Class {
     Init,
     Catalog,
@@ -18,7 +20,7 @@ pub enum Class {
 }
 
 // A message's class, and the number of the unit that it names.
-#[derive(Drop)]
+#[derive(Clone, Copy)]
 pub struct Classified {
     pub class: Class,
     pub unit: u16,

@@ -1,5 +1,7 @@
 // Format: its questions, and the image of a fresh unit written sector after sector.
 
+#![tactic(auto)]
+
 ghost use Rattle.std.specs.Prelude.{◌≡◌, length};
 ghost use Prim.Native.Nat.{◌+◌, ◌*◌, ◌≤◌, ◌<◌, compare};
 ghost use Rattle.disc.specs.Decide.{Decides};
@@ -17,7 +19,7 @@ ghost use Rattle.format.specs.Format.{Formattable, LentLimits, lent_sectors, sys
 use types::{Message, Name, Sector, Slice, State};
 
 // The result word, and the state after the call.
-#[derive(Drop)]
+#[derive(Clone, Copy)]
 pub struct Formatted {
     pub result: u16,
     pub state: State,

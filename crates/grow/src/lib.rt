@@ -1,5 +1,7 @@
 // Questions 7 and 8, asked for a catalog and a file together before anything is written; and SYS's growth by a layer.
 
+#![tactic(auto)]
+
 ghost use Rattle.std.specs.Prelude.{◌≡◌, ◌+◌, ◌-◌, ◌*◌, ◌≤◌, ◌<◌, length};
 ghost use Rattle.disc.specs.Names.{SYS};
 ghost use Rattle.disc.specs.Entries.{system_entry};

@@ -1,5 +1,7 @@
 // Index blocks: read in place or as a value, lengthened in their words, cut as a value, and stored whole.
 
+#![tactic(auto)]
+
 ghost use Rattle.std.specs.Prelude.{◌≡◌, ◌+◌, ◌-◌, ◌*◌, ◌≤◌, ◌<◌, min, length};
 ghost use Rattle.disc.specs.Pairs.{pair_length, pair_start};
 ghost use Rattle.words.specs.Store.{store, zero_words};
@@ -10,7 +12,7 @@ ghost use Rattle.index.specs.Along.{Along, Reaches};
 use types::{Block, Sector, Slice};
 
 // The 256 words of an index block, held while a message changes it.
-#[derive(Drop)]
+#[derive(Clone, Copy)]
 pub struct IndexBlock {
     pub words: [u16; 256],
 }
@@ -134,7 +136,7 @@ pub fn sector_at(image: &[u16], q: Sector, joined: u32) -> Sector
 
 // A joined sector, and the place from which the ones after it are sought: the pair that it lies in, or the number of pairs where it lies in
 // none, and the sectors of the pairs before.
-#[derive(Drop)]
+#[derive(Clone, Copy)]
 pub struct Reached {
     pub sector: Sector,
     pub pair: usize,

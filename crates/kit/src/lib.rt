@@ -1,5 +1,7 @@
 // The kit, sector 8 of the image: the unit's numbers, their limits, and those rules of a sound unit that read no file.
 
+#![tactic(auto)]
+
 ghost use Rattle.std.specs.Prelude.{◌≡◌, [], ◌∷◌, ◌≤◌, length};
 ghost use Rattle.disc.specs.Decide.{Decides};
 ghost use Rattle.disc.specs.Numbers.{slice_count};
@@ -10,7 +12,7 @@ ghost use Rattle.kit.specs.Geometry.{GeometryOf, SoundByKit};
 use types::Sector;
 
 // The unit's numbers: H, s, F, N and M of document 01.
-#[derive(Drop)]
+#[derive(Clone, Copy)]
 pub struct Geometry {
     pub keys: u16,
     pub slice: u16,

@@ -1,6 +1,8 @@
 // What every catalog message begins with: a name's place in SYS, an unused place, a file's index block, whether a name is open; and
 // Look-up.
 
+#![tactic(auto)]
+
 ghost use Rattle.std.specs.Prelude.{◌≡◌, ◌<◌};
 ghost use Rattle.disc.specs.Names.{packed, unit_in};
 ghost use Rattle.catalog.specs.Catalog.{place_unused};

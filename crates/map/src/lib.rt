@@ -1,5 +1,7 @@
 // The map of free slices, sector 9 of the image: its bits, their count, and the choice of a slice, or of a stretch, to take.
 
+#![tactic(auto)]
+
 ghost use Rattle.std.specs.Prelude.{◌≡◌, ◌+◌, ◌*◌, ◌≤◌, ◌<◌, min, eqb, length};
 ghost use Rattle.disc.specs.Map.{map_bit, ones_in_map};
 ghost use Rattle.map.specs.Marks.{marked, marked_used, marked_free};
@@ -14,7 +16,7 @@ const MAP: usize = 9 * 256;
 const MAP_WORDS: usize = 256;
 
 // The slice to take, if one is free.
-#[derive(Drop)]
+#[derive(Clone, Copy)]
 pub enum Choice {
     Free(Slice),
     None,

@@ -1,5 +1,7 @@
 // The marks of the slices that files have, one for each slice of a unit: set from index blocks, and compared with the map.
 
+#![tactic(auto)]
+
 ghost use Rattle.std.specs.Prelude.{◌≡◌, List, [], ℕ, ◌+◌, ◌-◌, ◌*◌, ◌/◌, ◌≤◌, ◌<◌, length, get_or};
 ghost use Rattle.disc.specs.Decide.{Decides};
 ghost use Rattle.disc.specs.Numbers.{slice_count};
@@ -216,7 +218,7 @@ fn mark_pair(sectors: u16, start: Sector, g: Geometry, marks: &mut [u8; 4096]) -
 
 // What is known of a file's index block: whether it is legal with no slice marked before, and then the number of its slices and
 // the first sector of the first one.
-#[derive(Drop)]
+#[derive(Clone, Copy)]
 pub struct Indexed {
     pub good: bool,
     pub slices: u16,

@@ -1,5 +1,7 @@
 // Names: their number, the five characters and the unit character, legal names, SYS and MAP. Names are compared here.
 
+#![tactic(auto)]
+
 ghost use Rattle.std.specs.Prelude.{◌≡◌, ◌||◌, ◌≤◌, ◌<◌, length, eqb};
 ghost use Rattle.disc.specs.Names.{packed, letter, digit, legal_name, named, unit_in, SYS, MAP, is_system};
 ghost use Rattle.names.specs.NameIs.{NameIs};

@@ -1,5 +1,7 @@
 // The bits of a word and the formulas of the disc's layout: slices, sectors, the slices a file needs, the key of a name.
 
+#![tactic(auto)]
+
 ghost use Rattle.std.specs.Prelude.{◌≡◌, ℕ, ◌+◌, ◌-◌, ◌*◌, ◌/◌, ◌%◌, ◌<◌, ◌≤◌, ◌==◌};
 ghost use Rattle.disc.specs.Decide.{Decides};
 ghost use Rattle.disc.specs.Numbers.{bit_word, bit, negative, ceil_div, need, slice_start};

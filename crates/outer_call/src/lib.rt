@@ -1,5 +1,7 @@
 // The one call over a state that is lent: image, state and lent words are the caller's, and the call leaves its changes in them.
 
+#![tactic(auto)]
+
 ghost use Rattle.perform.specs.Perform.{performed, Performs};
 
 use perform::Outcome;

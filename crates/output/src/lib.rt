@@ -1,6 +1,8 @@
 // Output at a position: its questions come first and, at the live length, the slice that one block more needs; then the one block is
 // replaced. The booked entry stays.
 
+#![tactic(auto)]
+
 ghost use Rattle.std.specs.Prelude.{◌≡◌, ◌+◌, ◌≤◌, ◌<◌, ltb, length};
 ghost use Rattle.disc.specs.Numbers.{need};
 ghost use Rattle.index.specs.Block.{slice_total};

@@ -24,6 +24,8 @@
 //   e WORD ..                       an entry is lent
 //   k WORD ..                       an entry is written into SYS's third place
 
+#![tactic(auto)]
+
 mod lines;
 mod step;
 

@@ -1,5 +1,7 @@
 // The one call: the first two questions of every message, then the message's own step.
 
+#![tactic(auto)]
+
 ghost use Rattle.std.specs.Prelude.{◌≡◌};
 ghost use Rattle.plain.specs.Questions.{answer};
 ghost use Rattle.perform.specs.Perform.{performed, CanObey, Obeys, Performs};
@@ -11,7 +13,7 @@ use soundness::Judged;
 use types::{Answer, Block, Message, State};
 
 // What comes of a call beside image and lent words: the answer and the state.
-#[derive(Drop)]
+#[derive(Clone, Copy)]
 pub struct Outcome {
     pub answer: Answer,
     pub state: State,

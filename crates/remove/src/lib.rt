@@ -1,5 +1,7 @@
 // Remove, from question 3 on: a name and its file are dropped.
 
+#![tactic(auto)]
+
 ghost use Rattle.disc.specs.Names.{unit_in};
 ghost use Rattle.lookup.specs.Unit.{Meant};
 ghost use Rattle.lookup.specs.Files.{SomeClosedFile};

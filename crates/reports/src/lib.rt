@@ -1,5 +1,7 @@
 // Get Unit Description and the listing, after the questions that they have in common with the catalog messages.
 
+#![tactic(auto)]
+
 ghost use Rattle.std.specs.Prelude.{◌≡◌, ◌+◌, ◌*◌, ◌≤◌, ◌<◌, length};
 ghost use Rattle.words.specs.Store.{store};
 ghost use Rattle.plain.specs.Questions.{answer};

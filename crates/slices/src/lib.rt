@@ -1,6 +1,8 @@
 // The slices of files: which one is taken next, slices taken, for a new file in one stretch where there is one, and given back, with the
 // index block stored whole; whether there is room for all that are wanted; sectors zeroed, and the free slices counted.
 
+#![tactic(auto)]
+
 ghost use Rattle.std.specs.Prelude.{◌≡◌, ◌+◌, ◌*◌, ◌≤◌, ◌<◌, length};
 ghost use Rattle.disc.specs.Map.{ones_in_map};
 ghost use Rattle.refine.specs.Writes.{counted_free};
@@ -14,7 +16,7 @@ use map::Choice;
 use types::{Block, Sector, Slice};
 
 // The slice that a file takes next; none where no slice is free, or where its index block has no room for one more stretch.
-#[derive(Drop)]
+#[derive(Clone, Copy)]
 pub enum Next {
     At(Slice),
     NoneFree,
@@ -22,7 +24,7 @@ pub enum Next {
 }
 
 // The index block of a file, and how many slices it is to take.
-#[derive(Drop)]
+#[derive(Clone, Copy)]
 pub struct Growth {
     pub block: IndexBlock,
     pub more: u16,

@@ -1,1 +1,3 @@
 // The rules of a sound unit. They are definitions in specs/.
+
+#![tactic(auto)]

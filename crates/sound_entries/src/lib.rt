@@ -1,5 +1,7 @@
 // The names in SYS, as a sound unit has them: every used place has a legal name, in a sector of its key, and SYS and MAP are entered.
 
+#![tactic(auto)]
+
 ghost use Rattle.std.specs.Prelude.{◌≡◌, ◌+◌, ◌*◌, ◌/◌, ◌%◌, ◌<◌, ◌≤◌, min, length};
 ghost use Rattle.disc.specs.Decide.{Decides};
 ghost use Rattle.disc.specs.Names.{key_of, packed};
@@ -21,7 +23,7 @@ const SCALE: u32 = 0x8000_0000;
 
 // What is expected of the places of SYS: the catalog that they are of, the inverse of its number of keys, and the length and the reserved
 // sectors that SYS's entry must say.
-#[derive(Drop)]
+#[derive(Clone, Copy)]
 pub struct Expected {
     pub catalog: Catalog,
     pub inverse: u32,

@@ -1,6 +1,8 @@
 // The ordinary files, as a sound unit has them: their attributes, lengths and slices, closed or open. SYS is walked by its
 // stretches, and the slices that the files have are marked.
 
+#![tactic(auto)]
+
 ghost use Rattle.std.specs.Prelude.{◌≡◌, false, [], ◌+◌, ◌*◌, ◌/◌, ◌≤◌, ◌<◌, length};
 ghost use Rattle.disc.specs.Decide.{Decides};
 ghost use Rattle.disc.specs.Entries.{place_count, name_by};
@@ -21,7 +23,7 @@ use marks::Indexed;
 use types::{Area, Name, Sector, State};
 
 // What is known of a file's area process: whether it is open, and then its index sector and length.
-#[derive(Drop)]
+#[derive(Clone, Copy)]
 pub struct Live {
     pub opened: bool,
     pub index: Sector,
@@ -29,7 +31,7 @@ pub struct Live {
 }
 
 // The words of an entry that say what its file is.
-#[derive(Drop)]
+#[derive(Clone, Copy)]
 pub struct Entry {
     pub attributes: u16,
     pub size: u16,

@@ -1,6 +1,8 @@
 // Whether the names in SYS are those of a sound unit: legal, in sectors of their keys, and alone. SYS is walked once, by its stretches
 // and sectors. A filter says of most names that they are new; only the others are searched for.
 
+#![tactic(auto)]
+
 ghost use Rattle.std.specs.Prelude.{◌≡◌, ℕ, ◌+◌, ◌*◌, ◌%◌, ◌<◌, length};
 ghost use Rattle.disc.specs.Decide.{Decides};
 ghost use Rattle.disc.specs.Names.{packed};

@@ -1,5 +1,7 @@
 // The rules of a sound unit that speak of the state alone: the names of open descriptors, and the users of each.
 
+#![tactic(auto)]
+
 ghost use Rattle.std.specs.Prelude.{◌≡◌};
 ghost use Rattle.disc.specs.Decide.{Decides};
 ghost use Rattle.disc.specs.Names.{packed};

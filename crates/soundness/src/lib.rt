@@ -1,5 +1,7 @@
 // Whether a unit is sound: the rules of document 01's section 'A sound unit', decided.
 
+#![tactic(auto)]
+
 ghost use Rattle.std.specs.Prelude.{◌≡◌, [], ◌*◌};
 ghost use Rattle.disc.specs.Decide.{Decides};
 ghost use Rattle.disc.specs.Names.{packed};
@@ -20,7 +22,7 @@ use kit::Geometry;
 use types::{Name, Sector, State};
 
 // Whether a unit is sound, and the numbers of one that is.
-#[derive(Drop)]
+#[derive(Clone, Copy)]
 pub enum Judged {
     Sound(Unit),
     Unsound,

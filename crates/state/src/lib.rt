@@ -1,5 +1,7 @@
 // The state by value: initialized or not; area descriptors found, opened and closed; users found, reserved, released and moved.
 
+#![tactic(auto)]
+
 ghost use Rattle.std.specs.Prelude.{◌≡◌, ◌<◌};
 ghost use Rattle.types.specs.State.{area_at, user_at, is_open, NoneOpen};
 ghost use Rattle.disc.specs.Names.{packed};
@@ -12,14 +14,14 @@ ghost use Rattle.state.specs.Areas.{placed, shut_out, reserved, released_user, r
 use types::{Area, Block, Name, Role, Sector, State, User};
 
 // Where a search found what it looked for.
-#[derive(Drop)]
+#[derive(Clone, Copy)]
 pub enum Found {
     At(usize),
     Absent,
 }
 
 // The kinds of user that a question asks about.
-#[derive(Drop)]
+#[derive(Clone, Copy)]
 pub enum Kind {
     AnyUser,
     Writer,
@@ -27,7 +29,7 @@ pub enum Kind {
 }
 
 // The answer of Reserve: the result word, and the area after it.
-#[derive(Drop)]
+#[derive(Clone, Copy)]
 pub struct Reserved {
     pub word: u16,
     pub area: Area,

@@ -1,5 +1,7 @@
 // Transput by a user of an open area: its questions, Position first for 5 and 7, then input or output.
 
+#![tactic(auto)]
+
 ghost use Rattle.std.specs.Prelude.{◌≡◌, ◌≤◌, length};
 ghost use Rattle.plain.specs.Transput.{is_output, is_random, end_word};
 ghost use Rattle.lookup.specs.Unit.{Searchable};

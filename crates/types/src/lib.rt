@@ -1,24 +1,26 @@
 // The types that the code, the state and the reference model share.
 
+#![tactic(auto)]
+
 ghost use Rattle.std.specs.Prelude.{◌≡◌};
 ghost use Rattle.types.specs.State.{vacant_user, vacant_area, fresh_state};
 
 // Numbers that name different things: a sector of the disc, a slice of the unit, a block of a file.
-#[derive(Drop)]
+#[derive(Clone, Copy)]
 pub struct Sector(pub u16);
 
-#[derive(Drop)]
+#[derive(Clone, Copy)]
 pub struct Slice(pub u16);
 
-#[derive(Drop)]
+#[derive(Clone, Copy)]
 pub struct Block(pub u16);
 
 // Three words: five characters, high half first, and the sixth character.
-#[derive(Drop)]
+#[derive(Clone, Copy)]
 pub struct Name(pub u16, pub u16, pub u16);
 
 // What a user may do on an area; a role only rises, in this order.
-#[derive(Drop)]
+#[derive(Clone, Copy)]
 pub enum Role {
     Sharing,
     ExclusiveWriter,
@@ -26,7 +28,7 @@ pub enum Role {
 }
 
 // A user's entry in an area descriptor; vacant if the identification is 0.
-#[derive(Drop)]
+#[derive(Clone, Copy)]
 pub struct User {
     pub id: u16,
     pub role: Role,
@@ -35,7 +37,7 @@ pub struct User {
 }
 
 // An area descriptor: the index sector and the live length are the process's own.
-#[derive(Drop)]
+#[derive(Clone, Copy)]
 pub struct Area {
     pub live: bool,
     pub name: Name,
@@ -45,7 +47,7 @@ pub struct Area {
 }
 
 // The unit's state: its number, whether it is initialized, and its eight area descriptors.
-#[derive(Drop)]
+#[derive(Clone, Copy)]
 pub struct State {
     pub unit: u16,
     pub initialized: bool,
@@ -53,7 +55,7 @@ pub struct State {
 }
 
 // What a message to an area process asks for (source document, chapter 5).
-#[derive(Drop)]
+#[derive(Clone, Copy)]
 pub enum Operation {
     Reserve(u16),
     Position(u16),
@@ -67,7 +69,7 @@ pub enum Operation {
 }
 
 // A call, with its numbers; the words lent to it come beside it.
-#[derive(Drop)]
+#[derive(Clone, Copy)]
 pub enum Message {
     Init {
         unit: u16,
@@ -110,7 +112,7 @@ pub enum Message {
 }
 
 // The answer to a call: the result word, and what the call hands back beside it.
-#[derive(Drop)]
+#[derive(Clone, Copy)]
 pub struct Answer {
     pub result: u16,
     pub bytes: u16,

@@ -1,5 +1,7 @@
 // The image's words by sector: read, stored, cleared and copied out.
 
+#![tactic(auto)]
+
 ghost use Rattle.std.specs.Prelude.{◌≡◌, [], ◌∷◌, ◌++◌, ◌+◌, ◌*◌, ◌≤◌, ◌<◌, length, take, drop};
 ghost use Rattle.disc.specs.Words.{word};
 ghost use Rattle.words.specs.Store.{store, sector_words, zero_words};

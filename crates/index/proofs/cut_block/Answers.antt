@@ -1,0 +1,54 @@
+-- `index::cut_block` meets its contract: in turn j the cut block has the first j pairs. Assumes nothing.
+use mathlib.Core.Path.{◌≡◌, ap, ◌∙◌}
+use mathlib.Core.List.{[], ◌∷◌}
+use mathlib.Core.Logic.{⊎_elim}
+use Prim.Native.Nat.{ℕ, ◌-◌, ◌*◌, ◌/◌, ◌≤◌, ◌<◌}
+use native.Mathlib.Nat.{mul-le-mul_left, sub-zero}
+use native.Mathlib.Omega.{arith}
+use lib.ListN.{length}
+use Rattle.disc.specs.Pairs.{pair_length}
+use Rattle.index.specs.Block.{cut_pairs, cut_to, whole}
+use Rattle.index.proofs.BlockLaws.{whole_none}
+use Rattle.index.proofs.WalkLaws.{cut_none, cut_end, cut_more, Filling, fill_start, fill_more, fill_count}
+use borrow.Author.Rules.{rules}
+use Rattle.index.proofs.cut_block.Goals as goal
+
+-- nothing is left: all pairs are passed, or all sectors
+finished : (c : goal.Left-loop-j invariant-loop decreases-loop) → let a = c.args in
+    Filling 0 (cut_pairs a.t1.words c.pair_count-count.result 0 (a.s * a.n)) c.loop-j.words c.loop-j.j []
+finished c =
+    let a = c.args in
+    let w = a.t1.words in
+    let n = c.pair_count-count.result in
+    ⊎_elim (λ x. rw (cut_none w n c.loop-j.j c.loop-j.rest x.left) at c.loop-j.invariant.1)
+    (λ x. let f = rw x.1.taken at c.loop-j.invariant.1 in rw (cut_end w n c.loop-j.j) at f) c.loop-j-test.branch
+
+pub overflow_mul-rest : goal.overflow_mul-rest
+overflow_mul-rest c =
+    let a = c.args in
+    let h : a.n ≤ 65535 = omega arith in
+    omega (arith, mul-le-mul_left a.s h)
+
+pub loop-j-init : goal.loop-j-init
+loop-j-init c =
+    let a = c.args in
+    let h : a.n ≤ 65535 = omega arith in
+    (omega (arith, mul-le-mul_left a.s h), rw sub-zero (fill_start 0 _ _ (c.empty_block-none.ensures ∙ whole_none)))
+
+pub loop-j-preserved : goal.loop-j-preserved
+loop-j-preserved c =
+    let a = c.args in
+    let w = a.t1.words in
+    let n = c.pair_count-count.result in
+    let j = c.loop-j.j in
+    let rest = c.loop-j.rest in
+    let less : rest - c.kept_sectors-kept.result ≡ rest - pair_length w 0 j = omega (arith, c.kept_sectors-kept.ensures) in
+    let f = rw (cut_more w n j rest c.loop-j-test.true (omega (arith, c.if-rest-eq0.false))) at c.loop-j.invariant.1 in
+    (omega (arith, c.loop-j.invariant.0), rw (less, c.set_pair.ensures, c.kept_sectors-kept.ensures, c.pair_start-start.ensures) (fill_more 0 _ c.loop-j.words j _ _ _ (omega arith) f))
+
+pub returns : goal.returns
+unfolding cut_to
+returns c =
+    let a = c.args in
+    fill_count 0 _ _ _ (finished c)
+    ∙ ap (λ (n : ℕ). let pairs = cut_pairs a.t1.words n 0 (a.s * a.n) in whole (length pairs / 2 ∷ pairs)) c.pair_count-count.ensures

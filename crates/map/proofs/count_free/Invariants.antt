@@ -1,0 +1,14 @@
+use mathlib.Core.Path.{◌≡◌, ◌∙◌}
+use Prim.Native.Nat.{◌+◌, ◌-◌, ◌*◌, ◌≤◌}
+use native.Mathlib.Omega.{arith}
+use borrow.Author.Rules.{rules}
+use lib.Count.{ones-le}
+use Rattle.disc.specs.Map.{ones_below}
+use Rattle.map.proofs.CountLaws.{ones_all, ones_more}
+use Rattle.map.proofs.count_free.Given as goal
+
+abbrev pub invariant-loop-w : goal.invariant-loop-w
+invariant-loop-w l = (l.w ≤ 256) × (l.free ≡ ones_below l.image l.w) × (l.free ≤ 16 * l.w)
+
+abbrev pub decreases-loop-w : goal.decreases-loop-w
+decreases-loop-w l = 256 - l.w

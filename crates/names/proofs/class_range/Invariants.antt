@@ -1,0 +1,13 @@
+use mathlib.Core.Path.{◌≡◌, ◌∙◌}
+use Prim.Native.Nat.{suc, ◌-◌, ◌≤◌}
+use native.Mathlib.Omega.{arith}
+use lib.ListN.{length, length-set}
+use borrow.Author.Rules.{rules}
+use Rattle.names.proofs.RangeLaws.{Upto, upto_none, upto_more, upto_all}
+use Rattle.names.proofs.class_range.Given as goal
+
+abbrev pub invariant-loop-c : goal.invariant-loop-c
+invariant-loop-c l = (l.first ≤ l.c) × (l.c ≤ suc l.last) × (length l.table ≡ 256) × Upto l.initial.table l.first l.c l.table
+
+abbrev pub decreases-loop-c : goal.decreases-loop-c
+decreases-loop-c l = 256 - l.c
