@@ -1,5 +1,5 @@
 -- The units with 127 and 128 free stretches are good; the rest is computed.
-use mathlib.Core.Path.{◌≡◌, refl, ◌∙◌}
+use mathlib.Core.Path.{◌≡◌, refl, ◌∙◌, subst, sym}
 use mathlib.Core.Bool.{Bool, true, ◌&&◌}
 use mathlib.Core.List.{List, [], ◌∷◌}
 use Prim.Native.Nat.{ℕ, ◌≤◌}
@@ -13,13 +13,14 @@ use Rattle.disc.specs.OneStretch.{lowest_stretch, taken_for_file}
 use Rattle.disc.specs.FreeStretches.{ones_from}
 use Rattle.disc.proofs.Compare.{same_or}
 use Rattle.disc.proofs.SliceLaws.{same_le, in_unit_in, occurrences_self, occurrences_other}
+use Rattle.plain.specs.Table.{table_put}
 use Rattle.plain.specs.Unit.{File, M, held, sys_of, entry}
 use Rattle.plain.specs.Taking.{zero_sectors}
 use Rattle.plain.specs.Questions.{asks}
 use Rattle.plain.specs.Catalog.{new_file}
 use Rattle.plain.specs.Good.{Good, GoodFile}
 use Rattle.plain.proofs.QuestionLaws.{and_left, and_right}
-use Rattle.plain.proofs.TableLaws.{every_put}
+use Rattle.plain.proofs.TableLaws.{every_put, some≢none}
 use Rattle.plain.proofs.WordLaws.{words_of_zeros, zero_sectors_words}
 use Rattle.plain.proofs.CreateUnit.{booked_good}
 use Rattle.examples.specs.Paper.{file_with}
@@ -42,7 +43,7 @@ rising_once m x (y ∷ l) t k =
     let tail = rising_once m y l (and_right (leb y m) (rising m y l) rest) in (
       λ h. occurrences_other k y l (λ e. omega arith) ∙ (tail k).0 (omega arith),
       same_or k y
-          (λ e. rw e (omega (arith, occurrences_self y l, (tail y).0 (omega arith), in_unit_in m y (omega arith) low)))
+          (λ e. subst (λ (i : ℕ). occurrences i (y ∷ l) ≤ in_unit m i) (sym e) (omega (arith, occurrences_self y l, (tail y).0 (omega arith), in_unit_in m y (omega arith) low)))
           (λ d. omega (arith, occurrences_other k y l d, (tail k).1)),
     )
 
@@ -78,15 +79,15 @@ module _ (slices : List ℕ) where
         layered = omega arith;
         count = refl;
         few = leb→le _ _ tt;
-        names = (leb→le _ _ tt, leb→le _ _ tt, tt);
-        chains = λ k. omega (arith, same_le _, same_le _, same_le _, same_le _);
-        files = every_put P (named b_name) _ _ (every_put P (named a_name) _ [] (λ n f e. absurd (omega arith)) a_good) b_good;
+        names = (leb→le _ _ tt, (leb→le _ _ tt, tt));
+        chains = λ k. omega (arith, same_le);
+        files = every_put P (named b_name) _ (table_put (named a_name) (file_with 1 (alternate 3 127) (zero_sectors 253)) []) (every_put P (named a_name) _ [] (λ n f e. absurd (some≢none (sym e))) a_good) b_good;
       };
       sys_first = refl;
       once = once;
       area_names = tt;
       eight = omega arith;
-      areas = λ n users e. absurd (omega arith);
+      areas = λ n users e. absurd (some≢none (sym e));
     }
 
 -- ---- the cases
@@ -94,7 +95,7 @@ module _ (slices : List ℕ) where
 refused : Tried free128 128 128 cases128
 unfolding ones_from lowest_one lowest_stretch taken_for_file entry asks new_file
 refused = record {
-  good = alternating_good _ (leb→le _ _ tt) (leb→le _ _ tt) (λ k. (rising_once 258 0 (held free128) tt k).1);
+  good = alternating_good (256 ∷ 258 ∷ []) (leb→le _ _ tt) (leb→le _ _ tt) (λ k. (rising_once 258 0 (held free128) tt k).1);
   slices = refl;
   counted = refl;
   no_layer = refl;
@@ -104,7 +105,7 @@ refused = record {
 accepted : Tried free127 127 127 cases127
 unfolding ones_from lowest_one lowest_stretch taken_for_file entry asks new_file
 accepted = record {
-  good = alternating_good _ (leb→le _ _ tt) (leb→le _ _ tt) (λ k. (rising_once 258 0 (held free127) tt k).1);
+  good = alternating_good (256 ∷ 257 ∷ 258 ∷ []) (leb→le _ _ tt) (leb→le _ _ tt) (λ k. (rising_once 258 0 (held free127) tt k).1);
   slices = refl;
   counted = refl;
   no_layer = refl;

@@ -10,10 +10,10 @@ use Rattle.examples.specs.Cases.{Case, gives, Shows}
 use Rattle.examples.specs.ExampleUnits.{c_name, crowd_name, set_entry, free127, free128, crowded}
 
 -- A good unit with so many free slices in so many stretches, on which a file 'C' adds no layer to SYS and the calls are answered so.
-pub record Tried (p : Plain) (slices stretches : ℕ) (cases : List Case) : Type 0 where
+pub record Tried (p : Plain) (n m : ℕ) (cases : List Case) : Type 0 where
   pub good : Good p
-  pub slices : free_slices p ≡ slices
-  pub counted : free_stretches p ≡ stretches
+  pub slices : free_slices p ≡ n
+  pub counted : free_stretches p ≡ m
   pub no_layer : AddsNoLayer p (named c_name)
   pub answered : Shows p cases
 

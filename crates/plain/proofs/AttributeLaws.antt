@@ -37,6 +37,7 @@ pub given_legal : (a slices : ℕ) → T (legal_attributes a) → T (not (gives_
 given_legal a slices t u = go (entry_only a) (given_ordinary a t u)
   where
     go : (b : Bool) → T (not b) → T (not (b && ltb 0 slices))
+    go true v = elim v [ ]
     go false v = tt
 
 -- they are not those of an entry-only file, a

@@ -155,13 +155,13 @@ module _ (p : Plain) (g : Good p) where
 
     create_crowded : (name : Name) (attributes : ℕ) (words lent : List ℕ) → AddsNoLayer p (named name) → (step p (Create name 0 attributes) words).answer.result ≡ 0
         → (step p (Create name (length_of_all p) attributes) lent).answer.result ≡ 0x1008
+    unfolding asks
     create_crowded name attributes words lent stays = go (known p (unit_in name))
       where
         new : ℕ → List ℕ → Outcome
         new size l = new_file p (named name) size attributes (replicate 3 0) (replicate 6 0) l
 
         go : (b : Bool) → (asks b (replies p 0x1200 words) (new 0 words)).answer.result ≡ 0 → (asks b (replies p 0x1200 lent) (new (length_of_all p) lent)).answer.result ≡ 0x1008
-        unfolding asks
         go true e = ap (λ (o : Outcome). o.answer.result) (new_crowded (named name) attributes _ _ lent stays (asked p (named name) attributes _ _ words e))
         go false e = absurd (omega (arith, e))
 

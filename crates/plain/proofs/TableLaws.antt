@@ -1,5 +1,5 @@
 -- Laws of tables: what is found after a put or a removal, order, sums, and equality by what is found.
-use mathlib.Core.Path.{◌≡◌, refl, sym, ap, ◌∙◌}
+use mathlib.Core.Path.{◌≡◌, refl, sym, ap, ◌∙◌, subst}
 use mathlib.Core.List.{[], ◌∷◌}
 use mathlib.Core.Option.{Option, none, some}
 use mathlib.Core.Logic.{◌≢◌}
@@ -92,7 +92,7 @@ module _ {A : Type 0} where
   find_ext b (r ∷ t) (s ∷ u) p q e = compare_cases r.key s.key (λ _. ◌≡◌ {A = Table A} (r ∷ t) (s ∷ u))
       (λ h. absurd (some≢none (sym (find_same r.key r.val t) ∙ e r.key ∙ find_less r.key s u h)))
       (λ k.
-      let v : some r.val ≡ some s.val = sym (find_same r.key r.val t) ∙ e r.key ∙ rw k (find_same s.key s.val u) in
+      let v : some r.val ≡ some s.val = sym (find_same r.key r.val t) ∙ e r.key ∙ subst (λ (n : ℕ). table_find n (s ∷ u) ≡ some s.val) (sym k) (find_same s.key s.val u) in
       let w : r.val ≡ s.val = cc in
       let row : r ≡ s = λ i. record { key = k i; val = w i } in
       let l : t ≡ u = find_ext r.key t u p.1 (rw k q.1) (rest k) in

@@ -12,16 +12,7 @@ use Rattle.index.proofs.BlockLaws.{whole_none}
 use Rattle.index.proofs.WalkLaws.{cut_none, cut_end, cut_more, Filling, fill_start, fill_more, fill_count}
 use borrow.Author.Rules.{rules}
 use Rattle.index.proofs.cut_block.Goals as goal
-
--- nothing is left: all pairs are passed, or all sectors
-finished : (c : goal.Left-loop-j invariant-loop decreases-loop) → let a = c.args in
-    Filling 0 (cut_pairs a.t1.words c.pair_count-count.result 0 (a.s * a.n)) c.loop-j.words c.loop-j.j []
-finished c =
-    let a = c.args in
-    let w = a.t1.words in
-    let n = c.pair_count-count.result in
-    ⊎_elim (λ x. rw (cut_none w n c.loop-j.j c.loop-j.rest x.left) at c.loop-j.invariant.1)
-    (λ x. let f = rw x.1.taken at c.loop-j.invariant.1 in rw (cut_end w n c.loop-j.j) at f) c.loop-j-test.branch
+use Rattle.index.proofs.cut_block.Goals.{else-loop-j-test, then-loop-j-test+then-rest-eq0}
 
 pub overflow_mul-rest : goal.overflow_mul-rest
 overflow_mul-rest c =
@@ -38,7 +29,7 @@ loop-j-init c =
 pub loop-j-preserved : goal.loop-j-preserved
 loop-j-preserved c =
     let a = c.args in
-    let w = a.t1.words in
+    let w = a.block.words in
     let n = c.pair_count-count.result in
     let j = c.loop-j.j in
     let rest = c.loop-j.rest in
@@ -46,9 +37,16 @@ loop-j-preserved c =
     let f = rw (cut_more w n j rest c.loop-j-test.true (omega (arith, c.if-rest-eq0.false))) at c.loop-j.invariant.1 in
     (omega (arith, c.loop-j.invariant.0), rw (less, c.set_pair.ensures, c.kept_sectors-kept.ensures, c.pair_start-start.ensures) (fill_more 0 _ c.loop-j.words j _ _ _ (omega arith) f))
 
+-- nothing is left: all pairs are passed, or all sectors
 pub returns : goal.returns
 unfolding cut_to
 returns c =
     let a = c.args in
-    fill_count 0 _ _ _ (finished c)
-    ∙ ap (λ (n : ℕ). let pairs = cut_pairs a.t1.words n 0 (a.s * a.n) in whole (length pairs / 2 ∷ pairs)) c.pair_count-count.ensures
+    let w = a.block.words in
+    let n = c.pair_count-count.result in
+    let left : Filling 0 (cut_pairs w n 0 (a.s * a.n)) c.loop-j.words c.loop-j.j [] = elim c.loop-j-test.branch [
+      else-loop-j-test x ↦ rw (cut_none w n c.loop-j.j c.loop-j.rest x.loop-j-test.false) at c.loop-j.invariant.1
+      | then-loop-j-test+then-rest-eq0 x ↦ let f = rw x.if-rest-eq0.true at c.loop-j.invariant.1 in rw (cut_end w n c.loop-j.j) at f
+      ] in
+    fill_count 0 _ _ _ left
+    ∙ ap (λ (n : ℕ). let pairs = cut_pairs w n 0 (a.s * a.n) in whole (length pairs / 2 ∷ pairs)) c.pair_count-count.ensures

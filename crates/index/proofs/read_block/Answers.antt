@@ -31,4 +31,4 @@ returns c =
     let a = c.args in
     let n = c.pair_count-n.result in
     let f = rw (pairs_none a.image.now a.q.0 n c.loop-j.j c.loop-j-test.false) at c.loop-j.invariant in
-    fill_all n _ _ _ f ∙ ap (λ (c.before : ℕ). whole (c.before ∷ pairs_from a.image.now a.q.0 c.before 0)) c.pair_count-n.ensures
+    fill_all n _ _ _ f ∙ ap (λ (k : ℕ). whole (k ∷ pairs_from a.image.now a.q.0 k 0)) c.pair_count-n.ensures

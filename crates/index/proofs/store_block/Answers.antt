@@ -10,4 +10,4 @@ use Rattle.index.proofs.store_block.Goals as goal
 pub returns : goal.returns
 returns c =
     let a = c.args in
-    c.store_sector.ensures ∙ ap (store a.image.now (a.q.0 * 256)) (take_all 256 a.t3.words (omega arith))
+    c.store_sector.ensures ∙ ap (store a.image.now (a.q.0 * 256)) (take_all 256 a.block.words (omega arith))
