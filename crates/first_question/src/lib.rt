@@ -37,7 +37,7 @@ fn by_unit(class: Class, unit: u16) -> Classified
 }
 
 // A message that names its unit in a name.
-fn by_name_lem(class: Class, name: Name) -> Classified
+fn by_name(class: Class, name: Name) -> Classified
     ensures { result ≡ by_name class name }
 {
     by_unit(class, names::unit_of(name))
@@ -49,22 +49,22 @@ pub fn classify(message: Message) -> Classified
 {
     match message {
         Message::Init { unit } => by_unit(Class::Init, unit),
-        Message::Set { name } => by_name_lem(Class::Catalog, name),
+        Message::Set { name } => by_name(Class::Catalog, name),
         Message::Create {
             name,
             size: _,
             attributes: _,
-        } => by_name_lem(Class::Catalog, name),
-        Message::LookUp { name } => by_name_lem(Class::Catalog, name),
-        Message::Change { name } => by_name_lem(Class::Catalog, name),
-        Message::Remove { name } => by_name_lem(Class::Catalog, name),
-        Message::CreateArea { name } => by_name_lem(Class::Area, name),
-        Message::RemoveArea { name } => by_name_lem(Class::Area, name),
+        } => by_name(Class::Catalog, name),
+        Message::LookUp { name } => by_name(Class::Catalog, name),
+        Message::Change { name } => by_name(Class::Catalog, name),
+        Message::Remove { name } => by_name(Class::Catalog, name),
+        Message::CreateArea { name } => by_name(Class::Area, name),
+        Message::RemoveArea { name } => by_name(Class::Area, name),
         Message::AreaMessage {
             name,
             sender: _,
             operation: _,
-        } => by_name_lem(Class::Area, name),
+        } => by_name(Class::Area, name),
         Message::UnitDescription { unit, bytes: _ } => by_unit(Class::Report, unit),
         Message::Listing { unit } => by_unit(Class::Report, unit),
     }

@@ -47,7 +47,7 @@ pub fn file_block(image: &[u16], index: Sector) -> IndexBlock
 }
 
 // Whether a name, as it is stored, has an area process.
-pub fn is_open_lem(state: State, name: Name) -> bool
+pub fn is_open(state: State, name: Name) -> bool
     ensures { result ≡ name_open (packed name) state }
 {
     match state::find_area(state, name) {

@@ -28,7 +28,7 @@ fn more_slices(unit: Unit, block: IndexBlock, length: u16) -> u16
 }
 
 // Whether the file whose index block is given can take `more` slices, one or none: 0, or the word of the first no.
-fn room_word_lem(image: &[u16], unit: Unit, block: IndexBlock, more: u16) -> u16
+fn room_word(image: &[u16], unit: Unit, block: IndexBlock, more: u16) -> u16
     requires { CanTake image.now block.words unit.first.0 unit.slice unit.slices 0 }
     ensures { RoomFor image.now unit block.words more result }
 {
@@ -68,7 +68,7 @@ fn prepare(image: &mut [u16], unit: Unit, state: State, j: usize, u: usize, k: B
     }
     let block = lookup::file_block(image, area.index);
     let more = more_slices(unit, block, length);
-    let word = room_word_lem(image, unit, block, more);
+    let word = room_word(image, unit, block, more);
     if word != 0 {
         return area_users::refused_at(state, j, u, word, k);
     }

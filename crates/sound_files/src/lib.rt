@@ -128,7 +128,7 @@ pub fn live_of(
 }
 
 // The index sector that counts.
-fn live_index_lem(live: Live, booked: Sector) -> Sector
+fn live_index(live: Live, booked: Sector) -> Sector
     ensures { result.0 ≡ index_by live booked.0 }
 {
     if live.opened {
@@ -166,7 +166,7 @@ fn booked_legal(entry: Entry, live: Live, slices: u16, s: u16) -> bool
     ensures { Decides result (Booked s entry.size entry.index.0 entry.reserved live.length live.index.0 slices) }
 {
     let index = entry.index;
-    let live_at_lem = live.index;
+    let live_at = live.index;
     let own = entry.reserved / s;
     if own * s != entry.reserved {
         return false;
@@ -183,7 +183,7 @@ fn booked_legal(entry: Entry, live: Live, slices: u16, s: u16) -> bool
     if own == 0 {
         return index.0 == 0;
     }
-    index.0 == live_at_lem.0
+    index.0 == live_at.0
 }
 
 // Whether the numbers of a file with so many slices are legal.
@@ -257,7 +257,7 @@ fn file_sound(image: &[u16], at: usize, live: Live, g: Geometry, marks: &mut [u8
         marks.old marks.new result }
 {
     let entry = entry_at(image, at);
-    let found = own_index(image, live_index_lem(live, entry.index), g, marks);
+    let found = own_index(image, live_index(live, entry.index), g, marks);
     if !found.good {
         return false;
     }

@@ -76,7 +76,7 @@ pub fn with_user(area: Area, u: usize, user: User) -> Area
 }
 
 // Is an area process open in the descriptor?
-pub fn is_open_lem(area: Area) -> bool
+pub fn is_open(area: Area) -> bool
     ensures { result ≡ is_open area }
 {
     area.live
@@ -87,7 +87,7 @@ fn is_named(area: Area, name: Name) -> bool
     ensures { result ≡ is_named (packed name) area }
 {
     let own = area.name;
-    is_open_lem(area) && names::same_name(own, name)
+    is_open(area) && names::same_name(own, name)
 }
 
 // The first open descriptor of the name.
@@ -127,7 +127,7 @@ pub fn none_open(state: State) -> bool
     let mut j: usize = 0;
     while j < 8 {
         let area = state.areas[j];
-        if is_open_lem(area) {
+        if is_open(area) {
             return false;
         }
         j += 1;

@@ -1,0 +1,6 @@
+-- `state::close_area` meets its contract. Assumes nothing.
+use borrow.Author.Rules.{rules}
+use Rattle.state.proofs.close_area.Goals as goal
+
+pub returns : goal.returns
+returns c = rw (c.with_area.ensures, c.vacant_area-area.ensures)

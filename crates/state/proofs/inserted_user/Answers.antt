@@ -1,0 +1,6 @@
+-- `state::inserted_user` meets its contract. Assumes nothing.
+use borrow.Author.Rules.{rules}
+use Rattle.state.proofs.inserted_user.Goals as goal
+
+pub returns : goal.returns
+returns c = rw c.raised_role-role.ensures.is

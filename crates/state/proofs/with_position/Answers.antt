@@ -1,0 +1,6 @@
+-- `state::with_position` meets its contract. Assumes nothing.
+use borrow.Author.Rules.{rules}
+use Rattle.state.proofs.with_position.Goals as goal
+
+pub returns : goal.returns
+returns c = rw (c.with_user.ensures, c.user_at-user.ensures)
