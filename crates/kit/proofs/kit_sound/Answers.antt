@@ -12,8 +12,9 @@ use Rattle.kit.specs.Geometry.{UnitOf}
 use Rattle.kit.proofs.KitLaws.{sound_unit, sound_kit, kit_top, kit_free, unit_long}
 use borrow.Author.Rules.{rules}
 use Rattle.kit.proofs.kit_sound.Goals as goal
+use Rattle.kit.proofs.kit_sound.Goals.{Else-image-g}
 
-unit : (c : goal.Else-image-g) → UnitOf c.args.image.now c.geometry_of-g.result
+unit : (c : Else-image-g) → UnitOf c.args.image.now c.geometry_of-g.result
 unit c =
     record {
       size = c.if-image-g.false ∙ mul_comm c.geometry_of-g.result.sectors 256;

@@ -1,4 +1,3 @@
--- `first_question::known` meets its contract: the unit that the message names, and what its class asks of it. Assumes nothing.
 use mathlib.Core.Path.{◌≡◌, sym, subst, ◌∙◌}
 use mathlib.Core.Bool.{Bool, false}
 use borrow.Author.Rules.{rules}
@@ -9,9 +8,9 @@ use Rattle.disc.specs.Decide.{Decides}
 use Rattle.disc.proofs.DecideLaws.{true≢false}
 use Rattle.first_question.specs.declared.Classified.{Classified}
 use Rattle.first_question.specs.Known.{classified, Ready, Known}
-use Rattle.first_question.proofs.known.Statement.{statement}
-use Rattle.first_question.proofs.known.Tie as tie
+use Rattle.first_question.proofs.known.Goals as goal
 
+-- `first_question::known` meets its contract: the unit that the message names, and what its class asks of it. Assumes nothing.
 -- the two parts of the question, of a message as it is classified
 module _ {state : State} {message : Message} {asked : Classified} (is : asked ≡ classified message) {b : Bool} where
   not_known : b ≡ false → Decides b (UnitKnown state asked.unit) → Decides b (Known state message)
@@ -26,16 +25,10 @@ module _ {state : State} {message : Message} {asked : Classified} (is : asked �
     not = λ e k. d.not e (subst (λ (a : Classified). Ready state a.class) (sym is) k.ready);
   }
 
-returns : tie.Need-returns
-returns c =
-    let first = c.before.before in
-    is_known first.before.classify.ensures (first.unit-known.ensures.yes c.before.if1.true) c.ready.ensures
+pub returns-then-unit_known : goal.returns-then-unit_known
+returns-then-unit_known c =
+    is_known c.classify-asked.ensures (c.unit_known.ensures.yes c.if-unit_known.true) c.ready.ensures
 
-returns-2 : tie.Need-returns-2
-returns-2 c =
-    let classify = c.before.before in
-    not_known classify.classify.ensures c.if1.false c.before.unit-known.ensures
-
-pub known_spec : {M : Type 1} → statement M
-known_spec =
-    tie.close (tie.spec (λ c κs. search rules) (λ c κs. search rules) (λ c κs. search rules) returns returns-2)
+pub returns-else-unit_known : goal.returns-else-unit_known
+returns-else-unit_known c =
+    not_known c.classify-asked.ensures c.if-unit_known.false c.unit_known.ensures
