@@ -2,7 +2,7 @@
 -- distinct names, numbers of open areas, and the state of a unit that represents a plain unit.
 use mathlib.Core.Path.{◌≡◌, refl, sym, ap, ◌∙◌}
 use mathlib.Core.List.{List, [], ◌∷◌}
-use mathlib.Core.Bool.{true, false, cond, not_not}
+use mathlib.Core.Bool.{true, false, cond, not-not}
 use mathlib.Core.Logic.{◌≢◌, ◌↔◌}
 use mathlib.Core.Option.{Option, none, some}
 use Prim.Native.Nat.{ℕ, ◌<◌}
@@ -143,10 +143,10 @@ module _ {B : Type 0} (state : State) (b : ℕ) (t : Table B) (s : Shaped state)
 
   -- fewer than eight exactly if a descriptor is vacant
   pub areas_room : (j : ℕ) → vacant_area_of state ≡ At j → length t < 8
-  areas_room j e = omega (arith, areas_count, count_room is_open is_vacant (λ a. sym (not_not a.live)) 0 state.areas j e, s.eight)
+  areas_room j e = omega (arith, areas_count, count_room is_open is_vacant (λ a. sym (not-not a.live)) 0 state.areas j e, s.eight)
 
   pub areas_full : vacant_area_of state ≡ Absent → length t ≡ 8
-  areas_full e = omega (arith, areas_count, count_full is_open is_vacant (λ a. sym (not_not a.live)) 0 state.areas e, s.eight)
+  areas_full e = omega (arith, areas_count, count_full is_open is_vacant (λ a. sym (not-not a.live)) 0 state.areas e, s.eight)
 
   -- none exactly if no descriptor is open
   pub areas_none : NoneOpen state ↔ (length t ≡ 0)
