@@ -1,6 +1,6 @@
 -- Every state that the code holds has eight descriptors with three user entries each.
 use mathlib.Core.Path.{◌≡◌}
-use mathlib.Core.List.{List, [], ◌∷◌, map}
+use mathlib.Core.List.{List, [], ◌∷◌}
 use Prim.Native.Nat.{ℕ, zero, suc, ◌<◌}
 use native.Mathlib.Omega.{arith}
 use lib.ListN.{length, get_or}
@@ -8,7 +8,6 @@ use mir.Val.{Val}
 use denote.Shadow.{shadow}
 use denote.Array.{each}
 use denote.Laws.{Is}
-use denote.Struct.Declared.{field}
 use denote.Struct.Laws as LL
 use Rattle.types.specs.declared.Area.{Area}
 use Rattle.types.specs.declared.State.{State}
@@ -21,7 +20,7 @@ use Rattle.state.proofs.ShapeLaws.{areas-length, users-length}
 
 -- what owning an array of descriptors tells of each
 each_three : (l : List Area) (us : List Val)
-    → shadow (each (field A.the_type).row.Denot (field A.the_type).row.own_val (map (field A.the_type).into l) us)
+    → shadow (each A.the_row.Denot A.the_row.own_val l us)
     → (j : ℕ) → j < length l → length (get_or l j past_area).users ≡ 3
 each_three [] us s j h = absurd (omega arith)
 each_three (a ∷ l) [] s j h = absurd s

@@ -1,6 +1,5 @@
 -- `sound_users::area_legal` meets its contract. Assumes nothing.
-use borrow.Author.Rules.{rules}
-use Rattle.disc.proofs.DecideLaws.{fails, refutes, grants}
+use Rattle.disc.proofs.DecideLaws.{fails}
 use Rattle.sound_users.proofs.area_legal.Goals as goal
 
 pub returns-then-not-is_first : goal.returns-then-not-is_first

@@ -1,6 +1,5 @@
 -- `sound_users::pair_legal` meets its contract: a vacant entry has no rule. Assumes nothing.
 use mathlib.Core.Path.{sym, ◌∙◌}
-use borrow.Author.Rules.{rules}
 use Rattle.disc.proofs.DecideLaws.{true≢false, holds, fails}
 use Rattle.sound_users.proofs.pair_legal.Goals as goal
 

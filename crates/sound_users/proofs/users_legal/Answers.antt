@@ -1,8 +1,7 @@
 -- `sound_users::users_legal` meets its contract: the rules of each entry and of each pair are those of the area. Assumes nothing.
-use borrow.Author.Rules.{rules}
 use native.Mathlib.Omega.{arith}
 use Rattle.types.specs.State.{user_at}
-use Rattle.disc.proofs.DecideLaws.{fails, refutes, grants}
+use Rattle.disc.proofs.DecideLaws.{fails}
 use Rattle.sound_users.specs.Rules.{LegalUser, LegalPair}
 use Rattle.sound_users.proofs.UserLaws.{three_each, three_pairs, all_legal, one_legal, two_legal}
 use Rattle.sound_users.proofs.users_legal.Goals as goal

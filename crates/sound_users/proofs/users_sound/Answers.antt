@@ -1,15 +1,14 @@
 -- `sound_users::users_sound` meets its contract. The invariant: each open descriptor before j is legal. Assumes nothing.
-use Prim.Native.Nat.{ℕ, ◌≤◌, ◌<◌, ◌-◌}
 use mathlib.Core.Path.{sym, ◌∙◌}
-use mathlib.Core.Logic.{⊎_elim}
 use native.Mathlib.Omega.{arith}
 use borrow.Author.Count.{below_more}
 use Rattle.types.specs.State.{area_at, IsOpen}
-use Rattle.disc.proofs.DecideLaws.{holds, fails, refutes, grants, true≢false}
+use Rattle.disc.proofs.DecideLaws.{holds, fails, true≢false}
 use Rattle.sound_users.specs.Rules.{LegalArea}
 use Rattle.sound_users.proofs.ShapeLaws.{shaped}
 use Rattle.sound_users.proofs.AreaLaws.{each_area, all_areas}
 use Rattle.sound_users.proofs.users_sound.Goals as goal
+use Rattle.sound_users.proofs.users_sound.Goals.{else-is_open-via-then-is_open+else-not-area_legal, else-is_open-via-else-is_open}
 
 pub loop-j-init : goal.loop-j-init
 loop-j-init c = (omega arith, λ k h. absurd (omega arith))
@@ -38,15 +37,19 @@ pub loop-j-smaller : goal.loop-j-smaller
 loop-j-smaller c = omega arith
 
 pub loop-j-preserved : goal.loop-j-preserved
-loop-j-preserved c =
-    (
-      omega arith,
-      below_more
-          (λ k. IsOpen c.args.state k → LegalArea c.args.state (area_at c.args.state k) k)
-          c.loop-j.j
-          c.loop-j.invariant.1
-          (⊎_elim (λ w o. grants _ w.1.ensures w.2.left) (λ w o. absurd (true≢false (sym o ∙ sym c.is_open.ensures ∙ w.left))) c.else-is_open.branch),
-    )
+loop-j-preserved c = (
+  omega arith,
+  below_more
+      (λ k. IsOpen c.args.state k → LegalArea c.args.state (area_at c.args.state k) k)
+      c.loop-j.j
+      c.loop-j.invariant.1
+      (
+      λ o. elim c.else-is_open.branch [
+        | else-is_open-via-then-is_open+else-not-area_legal w ↦ w.area_legal.ensures.yes w.if-not-area_legal.false
+        | else-is_open-via-else-is_open w ↦ absurd (true≢false (sym o ∙ sym c.is_open.ensures ∙ w.if-is_open.false))
+      ]
+      ),
+)
 
 pub returns : goal.returns
 returns c =

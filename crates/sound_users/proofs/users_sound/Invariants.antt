@@ -1,13 +1,6 @@
 use Prim.Native.Nat.{ℕ, ◌≤◌, ◌<◌, ◌-◌}
-use mathlib.Core.Path.{sym, ◌∙◌}
-use mathlib.Core.Logic.{⊎_elim}
-use native.Mathlib.Omega.{arith}
-use borrow.Author.Count.{below_more}
 use Rattle.types.specs.State.{area_at, IsOpen}
-use Rattle.disc.proofs.DecideLaws.{holds, fails, refutes, grants, true≢false}
 use Rattle.sound_users.specs.Rules.{LegalArea}
-use Rattle.sound_users.proofs.ShapeLaws.{shaped}
-use Rattle.sound_users.proofs.AreaLaws.{each_area, all_areas}
 use Rattle.sound_users.proofs.users_sound.Given as goal
 
 abbrev pub invariant-loop-j : goal.invariant-loop-j

@@ -1,0 +1,6 @@
+-- `area_users::transferred` meets its contract. Assumes nothing.
+use borrow.Author.Rules.{rules}
+use Rattle.area_users.proofs.transferred.Goals as goal
+
+pub returns : goal.returns
+returns c = simp (c.reply.ensures, c.at_position-after.ensures)
