@@ -1,26 +1,23 @@
 -- `slices::fits` meets its contract: the copy's map is the image's, and after the catalog's turn that of the slices held with its new ones.
 use borrow.Author.Rules.{rules}
 use native.Mathlib.Omega.{arith}
-use borrow.Author.Tests.{not-true, not-false}
-use Rattle.slices.proofs.FitLaws.{Copied, map_copied, can_first, first_full, can_second, second_fits}
+use Rattle.slices.proofs.FitLaws.{map_copied, can_first, first_full, can_second, second_fits}
 use Rattle.slices.proofs.fits.Goals as goal
-use Rattle.slices.proofs.fits.Goals.{After-copy_words}
-
-copied : (c : After-copy_words) → Copied c.args.image.now c.copy_words.new.1.1.0
-copied c = map_copied c.args.image.now _ c.requires.can.first.long (omega arith) c.copy_words.ensures
 
 pub take_slices-requires : goal.take_slices-requires
 take_slices-requires c =
-    can_first (copied c.before.before.before.before) c.requires
+    can_first (map_copied c.args.image.now _ c.requires.can.first.long (omega arith) c.copy_words.ensures) c.requires
 
 pub returns-then-not-take_slices : goal.returns-then-not-take_slices
 returns-then-not-take_slices c =
-    first_full (copied c.before.before.before.before.before.before.before.before) c.take_slices.ensures (c.if-not-take_slices.true)
+    first_full (map_copied c.args.image.now _ c.requires.can.first.long (omega arith) c.copy_words.ensures) c.take_slices.ensures c.if-not-take_slices.true
 
 pub take_for_file-requires : goal.take_for_file-requires
 take_for_file-requires c =
-    can_second (copied c.before.before.before.before.before.before.before.before.before.before.before) c.take_slices.ensures (c.if-not-take_slices.false) c.requires
+    can_second (map_copied c.args.image.now _ c.requires.can.first.long (omega arith) c.copy_words.ensures) c.take_slices.ensures c.if-not-take_slices.false
+    c.requires
 
 pub returns : goal.returns
 returns c =
-    second_fits (copied c.before.before.before.before.before.before.before.before.before.before.before.before.before.before) c.take_slices.ensures (c.if-not-take_slices.false) c.take_for_file.ensures
+    second_fits (map_copied c.args.image.now _ c.requires.can.first.long (omega arith) c.copy_words.ensures) c.take_slices.ensures c.if-not-take_slices.false
+    c.take_for_file.ensures
