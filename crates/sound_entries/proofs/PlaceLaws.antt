@@ -1,8 +1,7 @@
 -- Laws of one place: what its first word, its name and its key say of it.
 use Rattle.std.proofs.Common.{◌≡◌, ℕ, ◌/◌, ◌<◌, Bool, true, false, ◌||◌, T, eqb, List, sym, refl, ap, ◌∙◌, subst, arith, lit<, eqb-true}
 use mathlib.Core.Path.{subst⁻¹}
-use mathlib.Core.Bool as B
-use borrow.Author.Tests.{not-true, not-false, eqb-false}
+use borrow.Author.Tests.{eqb-false}
 use Rattle.types.specs.declared.Name.{Name}
 use Rattle.disc.specs.Decide.{Decides}
 use Rattle.disc.specs.Names.{legal_name, key_of, SYS, MAP, packed}
@@ -93,19 +92,19 @@ module _ {P : ℕ → ℕ → ℕ} {t : ℕ} where
 
     -- a used place: its name, its key, and the rest
     module _ {name : Name} (n : NameIn P t name) (used : Used P t) where
-      pub judged_name : {r : Bool} → r ≡ legal_name (packed name) → B.not r ≡ true → PlaceLegal P H k sys t → ⊥
-      judged_name e f p = T_not (ap legal_name (sym (name_packed n)) ∙ sym e ∙ not-true _ f) (p.name used)
+      pub judged_name : {r : Bool} → r ≡ legal_name (packed name) → r ≡ false → PlaceLegal P H k sys t → ⊥
+      judged_name e f p = T_not (ap legal_name (sym (name_packed n)) ∙ sym e ∙ f) (p.name used)
 
       pub judged_key : (k ≡ key_of H (packed name) → ⊥) → PlaceLegal P H k sys t → ⊥
       judged_key d p = d (p.key used ∙ ap (key_of H) (sym (name_packed n)))
 
-      pub judged_rest : {l r : Bool} → l ≡ legal_name (packed name) → B.not l ≡ false
+      pub judged_rest : {l r : Bool} → l ≡ legal_name (packed name) → l ≡ true
           → k ≡ key_of H (packed name) → Decides r (SystemLegal P sys t) → Decides r (PlaceLegal P H k sys t)
       judged_rest e f g d =
           record {
             yes = λ y.
                 record {
-                  name = λ _. T_of (ap legal_name (sym (name_packed n)) ∙ sym e ∙ not-false _ f);
+                  name = λ _. T_of (ap legal_name (sym (name_packed n)) ∙ sym e ∙ f);
                   key = λ _. g ∙ ap (key_of H) (name_packed n);
                   system = d.yes y;
                 };

@@ -1,14 +1,12 @@
 -- Laws of the scan: one place more, by what its judgement, the filter and the search say of it.
 use mathlib.Core.Path.{◌≡◌, refl, sym, ap, ◌∙◌, subst}
 use mathlib.Core.Bool.{Bool, true, false}
-use mathlib.Core.Bool as B
 use mathlib.Core.List.{List}
 use Prim.Native.Nat.{ℕ, ◌+◌, ◌*◌, ◌/◌, ◌%◌, ◌≤◌, ◌<◌}
 use native.Mathlib.Omega.{arith}
 use native.Mathlib.Nat.{mul_comm}
 use lib.ListN.{length}
 use borrow.Author.Count.{below_more}
-use borrow.Author.Tests.{not-true, not-false}
 use Rattle.types.specs.declared.Name.{Name}
 use Rattle.disc.specs.Decide.{Decides}
 use Rattle.disc.specs.Names.{key_of, packed}
@@ -16,7 +14,7 @@ use Rattle.disc.specs.Stretches.{sector_in, sys_from}
 use Rattle.disc.specs.Entries.{name_at}
 use Rattle.disc.proofs.Compare.{below_or}
 use Rattle.disc.proofs.Geometry.{quot, within}
-use Rattle.disc.proofs.DecideLaws.{true≢false, refutes}
+use Rattle.disc.proofs.DecideLaws.{true≢false}
 use Rattle.sound.specs.Places.{Used}
 use Rattle.catalog.specs.declared.Catalog.{Catalog}
 use Rattle.catalog.specs.declared.Place.{Place}
@@ -105,15 +103,15 @@ module _ {P : ℕ → ℕ → ℕ} {H : ℕ} {sys : List ℕ} where
   passed_at {filter} e p = subst (Passed P H sys filter) e p
 
   -- a place that is not legal
-  pub not_legal : {r : Bool} {f : List ℕ} {t : ℕ} → Decides r (PlaceLegal P H (t / 16 % H) sys t) → B.not r ≡ true → Scanned false P H sys f (t + 1)
-  not_legal {r} {t = t} d e = record { yes = λ z. absurd (true≢false (sym z)); not = λ _ l a. refutes r d e (l.each t (omega arith)) }
+  pub not_legal : {r : Bool} {f : List ℕ} {t : ℕ} → Decides r (PlaceLegal P H (t / 16 % H) sys t) → r ≡ false → Scanned false P H sys f (t + 1)
+  not_legal {r} {t = t} d e = record { yes = λ z. absurd (true≢false (sym z)); not = λ _ l a. d.not e (l.each t (omega arith)) }
 
   -- after `if !f(..)`: refused, here and further on, and granted
-  pub refused : {r : Bool} {f h : List ℕ} {t u : ℕ} → Scanned r P H sys f t → B.not r ≡ true → t ≤ u → Scanned false P H sys h u
-  refused {r} s e h = record { yes = λ z. absurd (true≢false (sym z)); not = λ _ l a. s.not (not-true r e) (legal_less h l) (alone_less h a) }
+  pub refused : {r : Bool} {f h : List ℕ} {t u : ℕ} → Scanned r P H sys f t → r ≡ false → t ≤ u → Scanned false P H sys h u
+  refused {r} s e h = record { yes = λ z. absurd (true≢false (sym z)); not = λ _ l a. s.not e (legal_less h l) (alone_less h a) }
 
-  pub granted : {r : Bool} {f : List ℕ} {t : ℕ} → Scanned r P H sys f t → B.not r ≡ false → Passed P H sys f t
-  granted {r} s e = s.yes (not-false r e)
+  pub granted : {r : Bool} {f : List ℕ} {t : ℕ} → Scanned r P H sys f t → r ≡ true → Passed P H sys f t
+  granted {r} s e = s.yes e
 
 -- the sectors are in SYS's slices
 pub in_slices : {image : List ℕ} {g : Geometry} {e : Expected} {n : ℕ} → Judging image g e n → n ≤ g.slice * length (sys_slices image g)
@@ -126,8 +124,8 @@ fewer h l = record { catalog = l.catalog; whole = l.whole; room = omega (arith, 
 -- ---- one place, as the code meets it
 
 -- `if !note(..)`
-pub not_noted : {r : Bool} {f h : List ℕ} {n : ℕ} → B.not r ≡ true → Noted r f h n → Noted false f h n
-not_noted {r} {f} {h} {n} e k = subst (λ (x : Bool). Noted x f h n) (not-true r e) k
+pub not_noted : {r : Bool} {f h : List ℕ} {n : ℕ} → r ≡ false → Noted r f h n → Noted false f h n
+not_noted {r} {f} {h} {n} e k = subst (λ (x : Bool). Noted x f h n) e k
 
 -- a place that is used is in a sector of its key
 pub own_key : {P : ℕ → ℕ → ℕ} {t : ℕ} {name : Name} → NameIn P t name → {H k : ℕ} {sys : List ℕ} → PlaceLegal P H k sys t → (name.0 ≡ 0 → ⊥)

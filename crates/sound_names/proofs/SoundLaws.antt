@@ -1,7 +1,6 @@
 -- The names are sound exactly if they are legal, by SYS's own entry, and alone.
 use mathlib.Core.Path.{◌≡◌, sym, ap, ap₂, ◌∙◌, subst}
 use mathlib.Core.Bool.{Bool, true, false}
-use mathlib.Core.Bool as B
 use mathlib.Core.List.{List}
 use Prim.Native.Nat.{ℕ, ◌*◌}
 use lib.ListN.{length}
@@ -9,7 +8,7 @@ use Rattle.disc.specs.Decide.{Decides}
 use Rattle.disc.specs.Names.{SYS}
 use Rattle.disc.specs.Kit.{sys_index_sector}
 use Rattle.disc.specs.Entries.{system_entry, sys_entry, place_count}
-use Rattle.disc.proofs.DecideLaws.{fails, refutes, grants}
+use Rattle.disc.proofs.DecideLaws.{fails}
 use Rattle.kit.specs.declared.Geometry.{Geometry}
 use Rattle.sound_entries.specs.declared.Expected.{Expected}
 use Rattle.sound_entries.specs.Legal.{own_entry, PlacesLegal}
@@ -32,14 +31,14 @@ module _ (image : List ℕ) (g : Geometry) (L : ℕ) (expected : Expected) (inde
 
   module _ {r : Bool}
       (judged : Decides r (PlacesLegal (places_in image g) g.keys (own_entry expected) (place_count g.keys L) × NamesAlone (places_in image g) (place_count g.keys L))) where
-    pub not_sound : B.not r ≡ true → Decides false (SysNames image g L)
-    not_sound e = fails (λ n. refutes r judged e ((own_legal n).places, record { alone = n.alone }))
+    pub not_sound : r ≡ false → Decides false (SysNames image g L)
+    not_sound e = fails (λ n. judged.not e ((own_legal n).places, record { alone = n.alone }))
 
-    pub judged_entered : {s : Bool} → B.not r ≡ false → Decides s (NamesLegal (places_in image g) g.keys (own_entry expected) (place_count g.keys L))
+    pub judged_entered : {s : Bool} → r ≡ true → Decides s (NamesLegal (places_in image g) g.keys (own_entry expected) (place_count g.keys L))
         → Decides s (SysNames image g L)
     judged_entered e d =
         record {
           yes = λ y.
-              names_sound _ _ _ _ _ (subst (λ (w : List ℕ). NamesLegal (places_in image g) g.keys w (place_count g.keys L)) own (d.yes y)) (grants r judged e).1;
+              names_sound _ _ _ _ _ (subst (λ (w : List ℕ). NamesLegal (places_in image g) g.keys w (place_count g.keys L)) own (d.yes y)) (judged.yes e).1;
           not = λ y n. d.not y (own_legal n);
         }

@@ -38,7 +38,7 @@ returns-then-not-fits c =
     record {
       all = λ p own slices asked lent files.
           let enough = free_enough asked r a.layers m a.more c.count_free-free.ensures (omega (arith, c.if-free-for_catalog.false)) in
-          answer_no asked r a.layers m a.more enough c.fits.ensures lent files c.if-not-fits.true;
+          answer_no asked r a.layers m a.more enough c.fits.ensures lent files (ap not c.if-not-fits.true);
     }
 
 pub returns : goal.returns
@@ -49,5 +49,5 @@ returns c =
     record {
       all = λ p own slices asked lent files.
           let enough = free_enough asked r a.layers m a.more c.count_free-free.ensures (omega (arith, c.if-free-for_catalog.false)) in
-          answer_yes asked r a.layers m a.more enough c.fits.ensures lent files c.if-not-fits.false;
+          answer_yes asked r a.layers m a.more enough c.fits.ensures lent files (ap not c.if-not-fits.false);
     }

@@ -1,0 +1,6 @@
+-- `sound_entries::is_entry` meets its contract. Assumes nothing.
+use Rattle.std.proofs.Common.{rules}
+use Rattle.sound_entries.proofs.is_entry.Goals as goal
+
+pub returns : goal.returns
+returns c = rw c.system_entry-entry.ensures at c.holds_entry.ensures

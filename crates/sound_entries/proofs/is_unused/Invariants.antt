@@ -1,0 +1,11 @@
+use Rattle.std.proofs.Common.{◌≡◌, ℕ, ◌+◌, ◌-◌, ◌<◌, ◌≤◌, get_or, refl, ap₂, arith, rules, below_more, eqb-true}
+use lib.Bits.{bit_or, or_add_and, and_le_l, and_le_r}
+use borrow.Author.Tests.{eqb-false}
+use Rattle.sound_entries.proofs.is_unused.Given as goal
+
+abbrev pub invariant-loop-w : goal.invariant-loop-w
+invariant-loop-w l =
+    (l.w ≤ 16) × (l.bits ≡ 0 → (k : ℕ) → k < l.w → get_or l.image (l.at + (l.from + k)) 0 ≡ 0) × (((k : ℕ) → k < l.w → get_or l.image (l.at + (l.from + k)) 0 ≡ 0) → l.bits ≡ 0)
+
+abbrev pub decreases-loop-w : goal.decreases-loop-w
+decreases-loop-w l = 16 - l.w
