@@ -1,4 +1,6 @@
 -- `grow::room` meets its contract. Assumes nothing.
+use mathlib.Core.Path.{ap}
+use mathlib.Core.Bool.{not}
 use native.Mathlib.Omega.{arith}
 use borrow.Author.Rules.{rules}
 use Rattle.grow.proofs.BlockLaws.{slice_low_lem, had_small}
