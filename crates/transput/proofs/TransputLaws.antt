@@ -214,11 +214,11 @@ module _ {image : List ℕ} {state : State} {o : Unit} {p : Plain} {n j sender u
     abbrev len : ℕ
     len = length f.sectors
 
-    abbrev at_position : Plain → ℕ → Outcome
-    at_position q k = transput_from state p q n j sender u f operation k lent
+    abbrev transput_at : Plain → ℕ → Outcome
+    transput_at q k = transput_from state p q n j sender u f operation k lent
 
     abbrev next : Outcome
-    next = either (is_random operation) (positioned (moved p n sender users pu) block (length f.sectors) (λ q w k. refused_at q w k lent) at_position) (at_position p pu.position)
+    next = either (is_random operation) (positioned (moved p n sender users pu) block (length f.sectors) (λ q w k. refused_at q w k lent) transput_at) (transput_at p pu.position)
 
     -- the questions before the position is moved
     record Asked (refusal : ℕ) (x : Outcome) : Type 0 where
@@ -268,9 +268,9 @@ module _ {image : List ℕ} {state : State} {o : Unit} {p : Plain} {n j sender u
           subst (λ (x : Outcome). TransputLeaves x image state p f j u operation lent reply filled after) (sym is) (h.all p p n sender f (placed_own k own))
 
       module _ (r : is_random operation ≡ true) where
-        first : Positioned (moved p n sender users pu) block len (λ q w k. refused_at q w k lent) at_position (position_word block len) (position_reached block len) step
+        first : Positioned (moved p n sender users pu) block len (λ q w k. refused_at q w k lent) transput_at (position_word block len) (position_reached block len) step
         first =
-            subst (Positioned (moved p n sender users pu) block len (λ q w k. refused_at q w k lent) at_position (position_word block len) (position_reached block len))
+            subst (Positioned (moved p n sender users pu) block len (λ q w k. refused_at q w k lent) transput_at (position_word block len) (position_reached block len))
             (sym ((asked.allows (sym e ∙ yes)).0 ∙ either_yes _ _ _ (true_yes r))) (positioned_by (moved p n sender users pu) block len _ _)
 
         pub refused_first : {reply : AreaReply} {v k : ℕ} → v ≡ position_word block len → k ≡ position_reached block len → v ≢ 0 → reply ≡ area_reply (at_position state j u k) v 0 k

@@ -1,0 +1,9 @@
+-- `create::enter` meets its contract. Assumes nothing.
+use borrow.Author.Rules.{rules}
+use Rattle.catalog.proofs.EntryLaws.{entry_whole}
+use Rattle.create.proofs.enter.Goals as goal
+
+pub returns : goal.returns
+returns c =
+    let a = c.args in
+    rw (c.entry_words-entry.ensures, entry_whole a.words.now c.requires.0 _ a.attributes a.size a.index.0 a.reserved) at c.write_entry.ensures

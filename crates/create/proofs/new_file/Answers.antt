@@ -1,0 +1,61 @@
+-- `create::new_file` meets its contract. Assumes nothing.
+-- the lent words are words
+use mathlib.Core.Path.{ap}
+use mathlib.Core.Bool.{not}
+use borrow.Author.Rules.{rules}
+use native.Mathlib.Omega.{arith}
+use Rattle.disc.specs.Words.{Words}
+use Rattle.lookup.proofs.UnitLaws.{searchable}
+use Rattle.create.proofs.MessageLaws.{refused_legal, refused_name, place_from_lem, grow_for, key_below}
+use Rattle.create.proofs.new_file.Goals as goal
+
+pub returns-then-not-is_legal : goal.returns-then-not-is_legal
+returns-then-not-is_legal c =
+    refused_legal _ _ _ _ _ c.is_legal.ensures c.args.words.now (ap not c.if-not-is_legal.true)
+
+pub returns-in_default : goal.returns-in_default
+returns-in_default c =
+    refused_name _ _ _ _ _ c.is_legal.ensures (ap not c.if-not-is_legal.false) c.find_name.ensures c.args.words.now
+    c.in_default.is
+
+pub find_unused-requires : goal.find_unused-requires
+find_unused-requires c =
+    (searchable c.requires.0, key_below _ c.requires.0 c.key.ensures)
+
+pub create_grown-requires : goal.create_grown-requires
+create_grown-requires c =
+    let lent : let a = c.args in Words a.words.now = record { each = λ k. omega (arith, c.type_inv.words k) } in
+    record {
+      unit = _;
+      can = grow_for _ _ _ _ _ c.is_legal.ensures (ap not c.if-not-is_legal.false) c.find_name.ensures c.in-Nothing.is c.requires.1 lent c.key.ensures
+          c.find_unused.ensures.found c.in_default-find_unused.is c.requires.0.on c.requires.0.numbers;
+    }
+
+pub returns-in_default-find_unused : goal.returns-in_default-find_unused
+returns-in_default-find_unused c =
+    let lent : let a = c.args in Words a.words.now = record { each = λ k. omega (arith, c.type_inv.words k) } in
+    record {
+      all = λ p on num.
+          c.create_grown.ensures.all p
+          (grow_for _ _ _ _ _ c.is_legal.ensures (ap not c.if-not-is_legal.false) c.find_name.ensures c.in-Nothing.is c.requires.1 lent c.key.ensures
+          c.find_unused.ensures.found c.in_default-find_unused.is on num);
+    }
+
+pub create_in-requires : goal.create_in-requires
+create_in-requires c =
+    let lent : let a = c.args in Words a.words.now = record { each = λ k. omega (arith, c.type_inv.words k) } in
+    record {
+      unit = _;
+      can = place_from_lem _ _ _ _ _ c.is_legal.ensures (ap not c.if-not-is_legal.false) c.find_name.ensures c.in-Nothing.is c.requires.1 lent c.key.ensures
+          c.find_unused.ensures.found c.in-At.is c.requires.0.on c.requires.0.numbers;
+    }
+
+pub returns : goal.returns
+returns c =
+    let lent : let a = c.args in Words a.words.now = record { each = λ k. omega (arith, c.type_inv.words k) } in
+    record {
+      all = λ p on num.
+          c.create_in.ensures.all p
+          (place_from_lem _ _ _ _ _ c.is_legal.ensures (ap not c.if-not-is_legal.false) c.find_name.ensures c.in-Nothing.is c.requires.1 lent c.key.ensures
+          c.find_unused.ensures.found c.in-At.is on num);
+    }
