@@ -1,0 +1,20 @@
+-- `change::resize::reslice` meets its contract. Assumes nothing.
+use native.Mathlib.Omega.{arith}
+use Rattle.change.proofs.ResizeLaws.{can_cut, cut_sliced, can_lengthen, longer_sliced}
+use Rattle.change.proofs.resize.reslice.Goals as goal
+
+pub give_back-requires : goal.give_back-requires
+give_back-requires c = let pre = c.requires in can_cut pre.can c.if-has-had.true
+
+pub returns-then-has-had : goal.returns-then-has-had
+returns-then-has-had c =
+    record { all = λ p n f can. cut_sliced can c.if-has-had.true c.give_back.ensures }
+
+pub take_more-requires : goal.take_more-requires
+take_more-requires c =
+    let pre = c.requires in
+    can_lengthen pre.can (omega (arith, c.if-has-had.false))
+
+pub returns : goal.returns
+returns c =
+    record { all = λ p n f can. longer_sliced can (omega (arith, c.if-has-had.false)) c.take_more.ensures }
