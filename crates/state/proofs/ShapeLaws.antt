@@ -7,8 +7,6 @@ use denote.Laws.{Is}
 use denote.Struct.Laws as LL
 use Rattle.types.specs.declared.Area.{Area}
 use Rattle.types.specs.declared.State.{State}
-use Rattle.types.specs.contracts.Name as N
-use Rattle.types.proofs.Name.TheLaws as N'
 use Rattle.types.specs.contracts.Area as A
 use Rattle.types.proofs.Area.TheLaws as A'
 use Rattle.types.specs.contracts.State as S

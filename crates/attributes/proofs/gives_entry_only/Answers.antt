@@ -1,6 +1,5 @@
 -- `attributes::gives_entry_only` meets its contract. Assumes nothing.
 use mathlib.Core.Path.{sym, ◌∙◌}
-use borrow.Author.Rules.{rules}
 use Rattle.attributes.proofs.AttributeLaws.{gives_none, gives_bit}
 use Rattle.attributes.proofs.gives_entry_only.Goals as goal
 

@@ -1,6 +1,5 @@
 -- `attributes::legal` meets its contract. Assumes nothing.
 use Rattle.attributes.proofs.AttributeLaws.{other_bits, own_only}
-use borrow.Author.Rules.{rules}
 use Rattle.attributes.proofs.legal.Goals as goal
 
 pub returns-then-own-a : goal.returns-then-own-a

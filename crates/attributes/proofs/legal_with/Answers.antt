@@ -1,7 +1,6 @@
 -- `attributes::legal_with` meets its contract. Assumes nothing.
 use mathlib.Core.Path.{ap, ◌∙◌}
 use mathlib.Core.Bool as B
-use borrow.Author.Rules.{rules}
 use Rattle.attributes.proofs.AttributeLaws.{with_none, with_some}
 use Rattle.attributes.proofs.legal_with.Goals as goal
 

@@ -1,6 +1,5 @@
 -- `catalog::entry_words` meets its contract. Assumes nothing.
 use native.Mathlib.Omega.{arith}
-use borrow.Author.Rules.{rules}
 use Rattle.catalog.proofs.EntryLaws.{entry_told}
 use Rattle.catalog.proofs.entry_words.Goals as goal
 

@@ -1,10 +1,9 @@
 -- `catalog::find` meets its contract: what is sought is the first place from a layer on. Assumes nothing.
-use mathlib.Core.Path.{◌≡◌, ap}
-use Prim.Native.Nat.{ℕ, ◌-◌}
+use mathlib.Core.Path.{ap}
+use Prim.Native.Nat.{ℕ}
 use native.Mathlib.Nat.{sub-zero}
-use borrow.Author.Rules.{rules}
 use Rattle.disc.specs.Names.{packed}
-use Rattle.catalog.specs.Catalog.{key_sector, slot_named, place_from, place_named}
+use Rattle.catalog.specs.Catalog.{key_sector, slot_named, place_from}
 use Rattle.catalog.proofs.AnswerLaws.{name_place}
 use Rattle.catalog.proofs.WalkLaws.{place_here, place_next, place_none}
 use Rattle.catalog.proofs.find.Goals as goal

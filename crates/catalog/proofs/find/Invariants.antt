@@ -1,11 +1,7 @@
-use mathlib.Core.Path.{◌≡◌, ap}
-use Prim.Native.Nat.{ℕ, ◌-◌}
-use native.Mathlib.Nat.{sub-zero}
-use borrow.Author.Rules.{rules}
+use mathlib.Core.Path.{◌≡◌}
+use Prim.Native.Nat.{◌-◌}
 use Rattle.disc.specs.Names.{packed}
 use Rattle.catalog.specs.Catalog.{key_sector, slot_named, place_from, place_named}
-use Rattle.catalog.proofs.AnswerLaws.{name_place}
-use Rattle.catalog.proofs.WalkLaws.{place_here, place_next, place_none}
 use Rattle.catalog.proofs.find.Given as goal
 
 abbrev pub invariant-loop-layer : goal.invariant-loop-layer

@@ -1,9 +1,7 @@
 -- `catalog::first_unused` meets its contract: what is sought is the first place from a layer on. Assumes nothing.
-use mathlib.Core.Path.{◌≡◌, refl}
-use Prim.Native.Nat.{◌-◌}
+use mathlib.Core.Path.{refl}
 use native.Mathlib.Nat.{sub-zero}
-use borrow.Author.Rules.{rules}
-use Rattle.catalog.specs.Catalog.{key_sector, slot_unused, place_from, place_unused}
+use Rattle.catalog.specs.Catalog.{key_sector, slot_unused}
 use Rattle.catalog.proofs.AnswerLaws.{unused_place}
 use Rattle.catalog.proofs.WalkLaws.{place_here, place_next, place_none}
 use Rattle.catalog.proofs.first_unused.Goals as goal

@@ -1,10 +1,6 @@
-use mathlib.Core.Path.{◌≡◌, refl}
+use mathlib.Core.Path.{◌≡◌}
 use Prim.Native.Nat.{◌-◌}
-use native.Mathlib.Nat.{sub-zero}
-use borrow.Author.Rules.{rules}
 use Rattle.catalog.specs.Catalog.{key_sector, slot_unused, place_from, place_unused}
-use Rattle.catalog.proofs.AnswerLaws.{unused_place}
-use Rattle.catalog.proofs.WalkLaws.{place_here, place_next, place_none}
 use Rattle.catalog.proofs.first_unused.Given as goal
 
 abbrev pub invariant-loop-layer : goal.invariant-loop-layer

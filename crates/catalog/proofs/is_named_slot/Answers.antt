@@ -5,7 +5,6 @@ use native.Mathlib.Omega.{arith}
 use borrow.Author.Tests.{ne_eqb}
 use Rattle.disc.proofs.NameLaws.{pack_injective}
 use Rattle.catalog.specs.Catalog.{slot_word, slot_named}
-use borrow.Author.Rules.{rules}
 use Rattle.catalog.proofs.is_named_slot.Goals as goal
 
 pub returns-then-first-name : goal.returns-then-first-name

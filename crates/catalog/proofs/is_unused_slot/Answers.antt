@@ -1,8 +1,6 @@
 -- `catalog::is_unused_slot` meets its contract: what is asked is whether the words from w on are zero. Assumes nothing.
-use Prim.Native.Nat.{◌-◌, ◌≤◌}
 use native.Mathlib.Omega.{arith}
-use borrow.Author.Rules.{rules}
-use Rattle.catalog.proofs.WalkLaws.{WordsLeft, run_start, run_stop, run_next, run_end}
+use Rattle.catalog.proofs.WalkLaws.{run_start, run_stop, run_next, run_end}
 use Rattle.catalog.proofs.is_unused_slot.Goals as goal
 
 pub loop-w-init : goal.loop-w-init

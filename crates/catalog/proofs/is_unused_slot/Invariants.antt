@@ -1,7 +1,5 @@
 use Prim.Native.Nat.{◌-◌, ◌≤◌}
-use native.Mathlib.Omega.{arith}
-use borrow.Author.Rules.{rules}
-use Rattle.catalog.proofs.WalkLaws.{WordsLeft, run_start, run_stop, run_next, run_end}
+use Rattle.catalog.proofs.WalkLaws.{WordsLeft}
 use Rattle.catalog.proofs.is_unused_slot.Given as goal
 
 abbrev pub invariant-loop-w : goal.invariant-loop-w

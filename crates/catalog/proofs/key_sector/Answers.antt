@@ -2,7 +2,6 @@
 use mathlib.Core.Path.{ap, ◌∙◌}
 use Rattle.index.specs.Block.{joint_sector}
 use Rattle.catalog.specs.Catalog.{key_sector}
-use borrow.Author.Rules.{rules}
 use Rattle.catalog.proofs.key_sector.Goals as goal
 
 pub returns : goal.returns

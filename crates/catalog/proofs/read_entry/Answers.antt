@@ -1,6 +1,5 @@
 -- `catalog::read_entry` meets its contract. Assumes nothing.
 use Rattle.catalog.proofs.WalkLaws.{entry_front}
-use borrow.Author.Rules.{rules}
 use Rattle.catalog.proofs.read_entry.Goals as goal
 
 pub returns : goal.returns

@@ -1,11 +1,10 @@
 -- `catalog::slot_past` meets its contract: what is sought is the first slot from i on. Assumes nothing.
 use mathlib.Core.Path.{refl}
-use Prim.Native.Nat.{◌-◌, ◌≤◌}
 use native.Mathlib.Omega.{arith}
 use borrow.Author.Rules.{rules}
 use Rattle.disc.specs.Names.{packed}
 use Rattle.catalog.specs.Catalog.{slot_named}
-use Rattle.catalog.proofs.WalkLaws.{SlotsLeft, slot_here, slot_next, slot_none}
+use Rattle.catalog.proofs.WalkLaws.{slot_here, slot_next, slot_none}
 use Rattle.catalog.proofs.slot_past.Goals as goal
 
 pub loop-i-init : goal.loop-i-init

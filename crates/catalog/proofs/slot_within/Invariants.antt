@@ -1,10 +1,7 @@
-use mathlib.Core.Path.{refl}
 use Prim.Native.Nat.{◌-◌, ◌≤◌}
-use native.Mathlib.Omega.{arith}
-use borrow.Author.Rules.{rules}
 use Rattle.disc.specs.Names.{packed}
 use Rattle.catalog.specs.Catalog.{slot_named}
-use Rattle.catalog.proofs.WalkLaws.{SlotsLeft, slot_here, slot_next, slot_none}
+use Rattle.catalog.proofs.WalkLaws.{SlotsLeft}
 use Rattle.catalog.proofs.slot_within.Given as goal
 
 abbrev pub invariant-loop-i : goal.invariant-loop-i

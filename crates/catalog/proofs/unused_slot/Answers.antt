@@ -1,10 +1,9 @@
 -- `catalog::unused_slot` meets its contract: what is sought is the first slot from i on. Assumes nothing.
 use mathlib.Core.Path.{refl}
-use Prim.Native.Nat.{◌-◌, ◌≤◌}
 use native.Mathlib.Omega.{arith}
 use borrow.Author.Rules.{rules}
 use Rattle.catalog.specs.Catalog.{slot_unused}
-use Rattle.catalog.proofs.WalkLaws.{SlotsLeft, slot_here, slot_next, slot_none}
+use Rattle.catalog.proofs.WalkLaws.{slot_here, slot_next, slot_none}
 use Rattle.catalog.proofs.unused_slot.Goals as goal
 
 pub loop-i-init : goal.loop-i-init

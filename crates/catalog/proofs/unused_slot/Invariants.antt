@@ -1,9 +1,6 @@
-use mathlib.Core.Path.{refl}
 use Prim.Native.Nat.{◌-◌, ◌≤◌}
-use native.Mathlib.Omega.{arith}
-use borrow.Author.Rules.{rules}
 use Rattle.catalog.specs.Catalog.{slot_unused}
-use Rattle.catalog.proofs.WalkLaws.{SlotsLeft, slot_here, slot_next, slot_none}
+use Rattle.catalog.proofs.WalkLaws.{SlotsLeft}
 use Rattle.catalog.proofs.unused_slot.Given as goal
 
 abbrev pub invariant-loop-i : goal.invariant-loop-i

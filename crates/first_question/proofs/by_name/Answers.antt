@@ -1,5 +1,4 @@
 -- `first_question::by_name` meets its contract. Assumes nothing.
-use borrow.Author.Rules.{rules}
 use Rattle.first_question.proofs.by_name.Goals as goal
 
 pub returns : goal.returns

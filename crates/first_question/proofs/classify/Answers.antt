@@ -1,6 +1,5 @@
 -- `first_question::classify` meets its contract: in each arm the message is known. Assumes nothing.
 use mathlib.Core.Path.{sym, ap, ◌∙◌}
-use borrow.Author.Rules.{rules}
 use Rattle.first_question.specs.Known.{classified}
 use Rattle.first_question.proofs.classify.Goals as goal
 

@@ -2,7 +2,6 @@
 -- a test decides that it is true
 use mathlib.Core.Path.{◌≡◌, sym, ◌∙◌}
 use mathlib.Core.Bool.{Bool, true}
-use borrow.Author.Rules.{rules}
 use Rattle.disc.specs.Decide.{Decides}
 use Rattle.disc.proofs.DecideLaws.{true≢false}
 use Rattle.first_question.proofs.ready.Goals as goal

@@ -5,7 +5,6 @@ use native.Mathlib.Omega.{arith}
 use lib.ListN.{length, length-set}
 use Rattle.index.specs.Block.{pair_count, extended}
 use Rattle.index.proofs.CaseLaws.{joins_pair, with_apart, pair_le, appended_joined, appended_apart}
-use borrow.Author.Rules.{rules}
 use Rattle.index.proofs.append_slice.Goals as goal
 
 pub lengthen-requires : goal.lengthen-requires

@@ -1,7 +1,6 @@
 -- `index::block_sector_at` meets its contract. Assumes nothing.
 use mathlib.Core.Path.{ap, ◌∙◌}
 use Rattle.index.specs.Block.{joint_sector}
-use borrow.Author.Rules.{rules}
 use Rattle.index.proofs.block_sector_at.Goals as goal
 
 pub returns : goal.returns

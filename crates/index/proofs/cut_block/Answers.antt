@@ -1,8 +1,7 @@
 -- `index::cut_block` meets its contract: in turn j the cut block has the first j pairs. Assumes nothing.
 use mathlib.Core.Path.{◌≡◌, ap, ◌∙◌}
 use mathlib.Core.List.{[], ◌∷◌}
-use mathlib.Core.Logic.{⊎_elim}
-use Prim.Native.Nat.{ℕ, ◌-◌, ◌*◌, ◌/◌, ◌≤◌, ◌<◌}
+use Prim.Native.Nat.{ℕ, ◌-◌, ◌*◌, ◌/◌, ◌≤◌}
 use native.Mathlib.Nat.{mul-le-mul_left, sub-zero}
 use native.Mathlib.Omega.{arith}
 use lib.ListN.{length}
@@ -10,7 +9,6 @@ use Rattle.disc.specs.Pairs.{pair_length}
 use Rattle.index.specs.Block.{cut_pairs, cut_to, whole}
 use Rattle.index.proofs.BlockLaws.{whole_none}
 use Rattle.index.proofs.WalkLaws.{cut_none, cut_end, cut_more, Filling, fill_start, fill_more, fill_count}
-use borrow.Author.Rules.{rules}
 use Rattle.index.proofs.cut_block.Goals as goal
 use Rattle.index.proofs.cut_block.Goals.{else-loop-j-test, then-loop-j-test+then-rest-eq0}
 
@@ -45,8 +43,8 @@ returns c =
     let w = a.block.words in
     let n = c.pair_count-count.result in
     let left : Filling 0 (cut_pairs w n 0 (a.s * a.n)) c.loop-j.words c.loop-j.j [] = elim c.loop-j-test.branch [
-      else-loop-j-test x ↦ rw (cut_none w n c.loop-j.j c.loop-j.rest x.loop-j-test.false) at c.loop-j.invariant.1
+      | else-loop-j-test x ↦ rw (cut_none w n c.loop-j.j c.loop-j.rest x.loop-j-test.false) at c.loop-j.invariant.1
       | then-loop-j-test+then-rest-eq0 x ↦ let f = rw x.if-rest-eq0.true at c.loop-j.invariant.1 in rw (cut_end w n c.loop-j.j) at f
-      ] in
+    ] in
     fill_count 0 _ _ _ left
     ∙ ap (λ (n : ℕ). let pairs = cut_pairs w n 0 (a.s * a.n) in whole (length pairs / 2 ∷ pairs)) c.pair_count-count.ensures

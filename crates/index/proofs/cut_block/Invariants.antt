@@ -1,15 +1,6 @@
-use mathlib.Core.Path.{◌≡◌, ap, ◌∙◌}
-use mathlib.Core.List.{[], ◌∷◌}
-use mathlib.Core.Logic.{⊎_elim}
-use Prim.Native.Nat.{ℕ, ◌-◌, ◌*◌, ◌/◌, ◌≤◌, ◌<◌}
-use native.Mathlib.Nat.{mul-le-mul_left, sub-zero}
-use native.Mathlib.Omega.{arith}
-use lib.ListN.{length}
-use Rattle.disc.specs.Pairs.{pair_length}
-use Rattle.index.specs.Block.{cut_pairs, cut_to, whole}
-use Rattle.index.proofs.BlockLaws.{whole_none}
-use Rattle.index.proofs.WalkLaws.{cut_none, cut_end, cut_more, Filling, fill_start, fill_more, fill_count}
-use borrow.Author.Rules.{rules}
+use Prim.Native.Nat.{◌-◌, ◌*◌, ◌<◌}
+use Rattle.index.specs.Block.{cut_pairs}
+use Rattle.index.proofs.WalkLaws.{Filling}
 use Rattle.index.proofs.cut_block.Given as goal
 
 abbrev pub invariant-loop-j : goal.invariant-loop-j

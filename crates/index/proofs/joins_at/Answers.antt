@@ -5,7 +5,6 @@ use native.Mathlib.Omega.{arith}
 use lib.Dec.{eqb}
 use Rattle.disc.specs.Numbers.{slice_start}
 use Rattle.index.proofs.CaseLaws.{joins_none, joins_some}
-use borrow.Author.Rules.{rules}
 use Rattle.index.proofs.joins_at.Goals as goal
 
 pub returns-then-n-eq0 : goal.returns-then-n-eq0

@@ -3,7 +3,6 @@ use mathlib.Core.Path.{ap₂, ◌∙◌}
 use Prim.Native.Nat.{ℕ, ◌+◌, ◌-◌, ◌/◌}
 use native.Mathlib.Omega.{arith}
 use Rattle.index.proofs.CaseLaws.{last_none, last_some}
-use borrow.Author.Rules.{rules}
 use Rattle.index.proofs.last_slice_at.Goals as goal
 
 pub returns-then-n-eq0 : goal.returns-then-n-eq0

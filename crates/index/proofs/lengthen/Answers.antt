@@ -2,7 +2,6 @@
 use mathlib.Core.Path.{ap₂, ◌∙◌}
 use Prim.Native.Nat.{ℕ, ◌+◌, ◌-◌}
 use Rattle.index.specs.Block.{with_pair, lengthened}
-use borrow.Author.Rules.{rules}
 use Rattle.index.proofs.lengthen.Goals as goal
 
 pub returns : goal.returns

@@ -1,14 +1,13 @@
 -- `index::read_block` meets its contract: in turn j the block has the count and the first j pairs. Assumes nothing.
 use mathlib.Core.Path.{ap, ◌∙◌}
 use mathlib.Core.List.{List, [], ◌∷◌}
-use Prim.Native.Nat.{ℕ, ◌-◌}
+use Prim.Native.Nat.{ℕ}
 use native.Mathlib.Nat.{sub-zero}
 use native.Mathlib.Omega.{arith}
 use lib.ListN.{set}
 use Rattle.index.specs.Block.{pairs_from, block_at, whole}
 use Rattle.index.proofs.BlockLaws.{whole_none, whole_count}
-use Rattle.index.proofs.WalkLaws.{pairs_more, pairs_none, Filling, fill_start, fill_more, fill_all}
-use borrow.Author.Rules.{rules}
+use Rattle.index.proofs.WalkLaws.{pairs_more, pairs_none, fill_start, fill_more, fill_all}
 use Rattle.index.proofs.read_block.Goals as goal
 
 pub loop-j-init : goal.loop-j-init

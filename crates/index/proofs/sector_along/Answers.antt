@@ -1,10 +1,8 @@
 -- `index::sector_along` meets its contract: the walk goes on from pair j, behind `joined` by `rest` sectors.
 use mathlib.Core.Path.{◌≡◌, sym, ap, ◌∙◌}
-use Prim.Native.Nat.{ℕ, ◌+◌, ◌-◌, ◌%◌, ◌≤◌}
+use Prim.Native.Nat.{ℕ, ◌+◌, ◌-◌, ◌%◌}
 use native.Mathlib.Omega.{arith}
-use borrow.Author.Rules.{rules}
 use Rattle.index.specs.Block.{pair_count, joint_sector}
-use Rattle.index.specs.Along.{Along}
 use Rattle.index.proofs.WalkLaws.{sector_none, sector_here}
 use Rattle.index.proofs.AlongLaws.{along_next}
 use Rattle.index.proofs.sector_along.Goals as goal

@@ -1,11 +1,7 @@
-use mathlib.Core.Path.{◌≡◌, sym, ap, ◌∙◌}
-use Prim.Native.Nat.{ℕ, ◌+◌, ◌-◌, ◌%◌, ◌≤◌}
-use native.Mathlib.Omega.{arith}
-use borrow.Author.Rules.{rules}
-use Rattle.index.specs.Block.{pair_count, joint_sector}
+use mathlib.Core.Path.{◌≡◌}
+use Prim.Native.Nat.{◌-◌, ◌≤◌}
+use Rattle.index.specs.Block.{pair_count}
 use Rattle.index.specs.Along.{Along}
-use Rattle.index.proofs.WalkLaws.{sector_none, sector_here}
-use Rattle.index.proofs.AlongLaws.{along_next}
 use Rattle.index.proofs.sector_along.Given as goal
 
 abbrev pub invariant-loop-j : goal.invariant-loop-j

@@ -1,9 +1,9 @@
 -- `index::sector_at` meets its contract: what is sought is the sector `rest` of the stretches from pair j on. Assumes nothing.
-use mathlib.Core.Path.{◌≡◌, sym, ap, ◌∙◌}
-use Prim.Native.Nat.{ℕ, ◌+◌, ◌-◌, ◌%◌, ◌<◌}
+use mathlib.Core.Path.{sym, ap, ◌∙◌}
+use Prim.Native.Nat.{ℕ, ◌+◌, ◌%◌}
 use native.Mathlib.Nat.{sub-zero}
 use native.Mathlib.Omega.{arith}
-use Rattle.index.specs.Block.{sector_from, joint_sector}
+use Rattle.index.specs.Block.{sector_from}
 use Rattle.index.proofs.WalkLaws.{sector_none, sector_here, sector_next}
 use borrow.Author.Rules.{rules}
 use Rattle.index.proofs.sector_at.Goals as goal

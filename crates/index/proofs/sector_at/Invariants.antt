@@ -1,10 +1,6 @@
-use mathlib.Core.Path.{◌≡◌, sym, ap, ◌∙◌}
-use Prim.Native.Nat.{ℕ, ◌+◌, ◌-◌, ◌%◌, ◌<◌}
-use native.Mathlib.Nat.{sub-zero}
-use native.Mathlib.Omega.{arith}
+use mathlib.Core.Path.{◌≡◌}
+use Prim.Native.Nat.{◌-◌, ◌<◌}
 use Rattle.index.specs.Block.{sector_from, joint_sector}
-use Rattle.index.proofs.WalkLaws.{sector_none, sector_here, sector_next}
-use borrow.Author.Rules.{rules}
 use Rattle.index.proofs.sector_at.Given as goal
 
 abbrev pub invariant-loop-j : goal.invariant-loop-j

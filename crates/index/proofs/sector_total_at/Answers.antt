@@ -1,11 +1,10 @@
 -- `index::sector_total_at` meets its contract: the total and the sectors of the pairs to come are all sectors. Assumes nothing.
-use mathlib.Core.Path.{◌≡◌, ap}
-use Prim.Native.Nat.{ℕ, ◌+◌, ◌-◌, ◌*◌, ◌≤◌}
+use mathlib.Core.Path.{ap}
+use Prim.Native.Nat.{ℕ}
 use native.Mathlib.Nat.{zero-add, sub-zero}
 use native.Mathlib.Omega.{arith}
-use Rattle.index.specs.Block.{sectors_from, sector_total}
+use Rattle.index.specs.Block.{sectors_from}
 use Rattle.index.proofs.WalkLaws.{sectors_none, sectors_more}
-use borrow.Author.Rules.{rules}
 use Rattle.index.proofs.sector_total_at.Goals as goal
 
 pub loop-j-init : goal.loop-j-init

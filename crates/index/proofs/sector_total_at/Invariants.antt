@@ -1,10 +1,6 @@
-use mathlib.Core.Path.{◌≡◌, ap}
-use Prim.Native.Nat.{ℕ, ◌+◌, ◌-◌, ◌*◌, ◌≤◌}
-use native.Mathlib.Nat.{zero-add, sub-zero}
-use native.Mathlib.Omega.{arith}
+use mathlib.Core.Path.{◌≡◌}
+use Prim.Native.Nat.{◌+◌, ◌-◌, ◌*◌, ◌≤◌}
 use Rattle.index.specs.Block.{sectors_from, sector_total}
-use Rattle.index.proofs.WalkLaws.{sectors_none, sectors_more}
-use borrow.Author.Rules.{rules}
 use Rattle.index.proofs.sector_total_at.Given as goal
 
 abbrev pub invariant-loop-j : goal.invariant-loop-j

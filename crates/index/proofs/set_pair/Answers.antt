@@ -1,7 +1,6 @@
 -- `index::set_pair` meets its contract: two words are stored. Assumes nothing.
 use native.Mathlib.Omega.{arith}
 use lib.ListN.{length-set}
-use borrow.Author.Rules.{rules}
 use Rattle.index.proofs.set_pair.Goals as goal
 
 pub bounds-words-j-2 : goal.bounds-words-j-2

@@ -4,7 +4,6 @@ use Prim.Native.Nat.{◌*◌}
 use native.Mathlib.Omega.{arith}
 use lib.Seq.{take_all}
 use Rattle.words.specs.Store.{store}
-use borrow.Author.Rules.{rules}
 use Rattle.index.proofs.store_block.Goals as goal
 
 pub returns : goal.returns

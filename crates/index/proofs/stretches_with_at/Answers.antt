@@ -1,6 +1,5 @@
 -- `index::stretches_with_at` meets its contract. Assumes nothing.
 use Rattle.index.proofs.CaseLaws.{with_joined, with_apart}
-use borrow.Author.Rules.{rules}
 use Rattle.index.proofs.stretches_with_at.Goals as goal
 
 pub returns-then-joins_at : goal.returns-then-joins_at

@@ -1,6 +1,6 @@
 -- `map::beginnings` meets its contract. The loop's invariant: `found` has the bits at which `have` ones begin. Assumes nothing.
 use mathlib.Core.Path.{◌≡◌, subst}
-use Prim.Native.Nat.{ℕ, ◌-◌, ◌≤◌}
+use Prim.Native.Nat.{ℕ}
 use native.Mathlib.Omega.{arith}
 use borrow.Author.Rules.{rules}
 use Rattle.map.specs.Stretch.{Beginnings}

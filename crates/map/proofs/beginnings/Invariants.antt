@@ -1,9 +1,5 @@
-use mathlib.Core.Path.{◌≡◌, subst}
-use Prim.Native.Nat.{ℕ, ◌-◌, ◌≤◌}
-use native.Mathlib.Omega.{arith}
-use borrow.Author.Rules.{rules}
+use Prim.Native.Nat.{◌-◌, ◌≤◌}
 use Rattle.map.specs.Stretch.{Beginnings}
-use Rattle.map.proofs.BeginningLaws.{begins_self, begins_join}
 use Rattle.map.proofs.beginnings.Given as goal
 
 abbrev pub invariant-loop-have : goal.invariant-loop-have

@@ -1,7 +1,5 @@
 -- `map::choose_slice` meets its contract. Assumes nothing.
 use mathlib.Core.Path.{sym, ◌∙◌}
-use mathlib.Core.Logic.{⊎_elim}
-use borrow.Author.Rules.{rules}
 use Rattle.map.proofs.MarkLaws.{free_test, used_test}
 use Rattle.map.proofs.ChoiceLaws.{answer_next, answer_used, answer_end}
 use Rattle.map.proofs.AnswerLaws.{chosen_answers}
@@ -18,6 +16,6 @@ returns c =
     chosen_answers c.args.image.now c.args.slices c.args.last.0 c.requires.0
     (c.lowest_free.ensures.slice
     ∙ elim c.if-last-slices.branch [
-      then-last-slices+else-is_free w ↦ answer_used _ _ _ (used_test _ _ (sym w.is_free.ensures ∙ w.if-is_free.false))
+      | then-last-slices+else-is_free w ↦ answer_used _ _ _ (used_test _ _ (sym w.is_free.ensures ∙ w.if-is_free.false))
       | else-last-slices w ↦ answer_end _ _ _ w.if-last-slices.false
-      ])
+    ])

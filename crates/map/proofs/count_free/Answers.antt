@@ -1,10 +1,8 @@
 -- `map::count_free` meets its contract. The loop's invariant: the ones of the words before w are summed. Assumes nothing.
-use mathlib.Core.Path.{◌≡◌, ◌∙◌}
-use Prim.Native.Nat.{◌+◌, ◌-◌, ◌*◌, ◌≤◌}
+use mathlib.Core.Path.{◌∙◌}
+use Prim.Native.Nat.{◌+◌}
 use native.Mathlib.Omega.{arith}
-use borrow.Author.Rules.{rules}
 use lib.Count.{ones-le}
-use Rattle.disc.specs.Map.{ones_below}
 use Rattle.map.proofs.CountLaws.{ones_all, ones_more}
 use Rattle.map.proofs.count_free.Goals as goal
 

@@ -1,10 +1,6 @@
-use mathlib.Core.Path.{◌≡◌, ◌∙◌}
-use Prim.Native.Nat.{◌+◌, ◌-◌, ◌*◌, ◌≤◌}
-use native.Mathlib.Omega.{arith}
-use borrow.Author.Rules.{rules}
-use lib.Count.{ones-le}
+use mathlib.Core.Path.{◌≡◌}
+use Prim.Native.Nat.{◌-◌, ◌*◌, ◌≤◌}
 use Rattle.disc.specs.Map.{ones_below}
-use Rattle.map.proofs.CountLaws.{ones_all, ones_more}
 use Rattle.map.proofs.count_free.Given as goal
 
 abbrev pub invariant-loop-w : goal.invariant-loop-w

@@ -1,5 +1,4 @@
 -- `map::is_free` meets its contract. Assumes nothing.
-use borrow.Author.Rules.{rules}
 use lib.Pow.{pow_pos}
 use Rattle.disc.specs.Map.{map_bit}
 use Rattle.map.proofs.is_free.Goals as goal

@@ -1,15 +1,14 @@
 -- `map::lowest_free` meets its contract. Both loops' invariant: no bit that the scan has passed is one. Assumes nothing.
 use mathlib.Core.Path.{ap, ◌∙◌}
-use Prim.Native.Nat.{ℕ, ◌+◌, ◌-◌, ◌*◌, ◌≤◌}
+use Prim.Native.Nat.{ℕ, ◌+◌, ◌*◌}
 use native.Mathlib.Omega.{arith}
 use borrow.Author.Rules.{rules}
 use lib.Count.{leading_le}
 use lib.ListN.{get_or}
 use lib.Pow.{pow_pos}
-use Rattle.disc.specs.Map.{map_bit}
 use Rattle.map.specs.declared.Choice.TheVariants.{Free}
 use Rattle.map.proofs.MarkLaws.{map_bit_le}
-use Rattle.map.proofs.ChoiceLaws.{NoneBelow, scan_none, scan_found}
+use Rattle.map.proofs.ChoiceLaws.{scan_none, scan_found}
 use Rattle.map.proofs.AnswerLaws.{lowest_answers}
 use Rattle.map.proofs.ScanLaws.{scan_bit, none_first, none_next, none_leading}
 use Rattle.map.proofs.lowest_free.Goals as goal
@@ -23,11 +22,10 @@ overflow_cast-first c =
     omega arith
 
 pub loop-b-init : goal.loop-b-init
-loop-b-init c =
-    (
-      leading_le 16 _,
-      none_leading _ c.scan.w (c.shared_slice_known-in-scan-1.given _).fits c.scan.invariant.1,
-    )
+loop-b-init c = (
+  leading_le 16 _,
+  none_leading _ c.scan.w (c.shared_slice_known-in-scan-1.given _).fits c.scan.invariant.1,
+)
 
 pub nonzero_div-word : goal.nonzero_div-word
 nonzero_div-word c = rw c.bit_word.ensures (pow_pos _)

@@ -1,10 +1,9 @@
 -- `map::lowest_stretch` meets its contract. The loop's invariant: the words before w are passed, and n free slices after `start` are not
 -- among them. Assumes nothing.
 use mathlib.Core.Path.{◌≡◌, ◌∙◌}
-use Prim.Native.Nat.{ℕ, ◌+◌, ◌-◌, ◌*◌, ◌≤◌, ◌<◌}
+use Prim.Native.Nat.{ℕ, ◌+◌, ◌*◌}
 use native.Mathlib.Omega.{arith}
 use borrow.Author.Rules.{rules}
-use Rattle.map.specs.Stretch.{Passed}
 use Rattle.map.proofs.StretchLaws.{passed_first, passed_on, stretch_found, stretch_none}
 use Rattle.map.proofs.lowest_stretch.Goals as goal
 

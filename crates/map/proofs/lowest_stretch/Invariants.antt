@@ -1,9 +1,5 @@
-use mathlib.Core.Path.{◌≡◌, ◌∙◌}
-use Prim.Native.Nat.{ℕ, ◌+◌, ◌-◌, ◌*◌, ◌≤◌, ◌<◌}
-use native.Mathlib.Omega.{arith}
-use borrow.Author.Rules.{rules}
+use Prim.Native.Nat.{◌+◌, ◌-◌, ◌*◌, ◌≤◌, ◌<◌}
 use Rattle.map.specs.Stretch.{Passed}
-use Rattle.map.proofs.StretchLaws.{passed_first, passed_on, stretch_found, stretch_none}
 use Rattle.map.proofs.lowest_stretch.Given as goal
 
 abbrev pub invariant-loop-w : goal.invariant-loop-w

@@ -1,8 +1,6 @@
 -- `map::start_past` meets its contract: a law for each way a word is passed. Assumes nothing.
-use mathlib.Core.Logic.{⊎_elim}
 use native.Mathlib.Nat.{lt_of_le_of_lt, le_trans, le_refl, add-le-add}
 use native.Mathlib.Omega.{arith}
-use borrow.Author.Rules.{rules}
 use lib.Count.{leading_le, trailing_le}
 use Rattle.map.proofs.BeginningLaws.{none_begins}
 use Rattle.map.proofs.StretchLaws.{past_ones, past_zeros, past_enough, past_begin, past_last}
@@ -45,6 +43,6 @@ pub returns : goal.returns
 returns c =
     past_last _ _ _ (c.type_inv.image _).fits _ c.requires.3 c.requires.4
     c.if-word.false (omega arith) (λ l b o. elim c.if-n-lt15.branch [
-      then-n-lt15+else-b-lt16 g ↦ none_begins _ _ _ b (omega (arith, g.beginnings.type_inv)) (omega arith) g.beginnings.ensures (omega (arith, g.if-b-lt16.false, o.high)) o
+      | then-n-lt15+else-b-lt16 g ↦ none_begins _ _ _ b (omega (arith, g.beginnings.type_inv)) (omega arith) g.beginnings.ensures (omega (arith, g.if-b-lt16.false, o.high)) o
       | else-n-lt15 g ↦ absurd (omega (arith, g.if-n-lt15.false))
-      ])
+    ])

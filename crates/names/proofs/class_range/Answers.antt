@@ -1,10 +1,8 @@
 -- `names::class_range` meets its contract: the characters before c have been put into class 1. Assumes nothing.
-use mathlib.Core.Path.{◌≡◌, ◌∙◌}
-use Prim.Native.Nat.{suc, ◌-◌, ◌≤◌}
+use mathlib.Core.Path.{◌∙◌}
 use native.Mathlib.Omega.{arith}
-use lib.ListN.{length, length-set}
-use borrow.Author.Rules.{rules}
-use Rattle.names.proofs.RangeLaws.{Upto, upto_none, upto_more, upto_all}
+use lib.ListN.{length-set}
+use Rattle.names.proofs.RangeLaws.{upto_none, upto_more, upto_all}
 use Rattle.names.proofs.class_range.Goals as goal
 
 pub loop-c-init : goal.loop-c-init

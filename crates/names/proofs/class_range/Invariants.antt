@@ -1,9 +1,7 @@
-use mathlib.Core.Path.{◌≡◌, ◌∙◌}
+use mathlib.Core.Path.{◌≡◌}
 use Prim.Native.Nat.{suc, ◌-◌, ◌≤◌}
-use native.Mathlib.Omega.{arith}
-use lib.ListN.{length, length-set}
-use borrow.Author.Rules.{rules}
-use Rattle.names.proofs.RangeLaws.{Upto, upto_none, upto_more, upto_all}
+use lib.ListN.{length}
+use Rattle.names.proofs.RangeLaws.{Upto}
 use Rattle.names.proofs.class_range.Given as goal
 
 abbrev pub invariant-loop-c : goal.invariant-loop-c

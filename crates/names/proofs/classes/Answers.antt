@@ -1,6 +1,5 @@
 -- `names::classes` meets its contract: each range is put into class 1 after the one before it. Assumes nothing.
 use native.Mathlib.Omega.{arith}
-use borrow.Author.Rules.{rules}
 use Rattle.names.proofs.RangeLaws.{classed}
 use Rattle.names.proofs.classes.Goals as goal
 

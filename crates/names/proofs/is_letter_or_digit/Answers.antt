@@ -1,6 +1,5 @@
 -- `names::is_letter_or_digit` meets its contract. Assumes nothing.
 use mathlib.Core.Path.{sym, ◌∙◌}
-use borrow.Author.Rules.{rules}
 use borrow.Author.Tests.{le-leb, lt-leb}
 use Rattle.names.proofs.is_letter_or_digit.Goals as goal
 

@@ -1,5 +1,4 @@
 -- `names::same_name` meets its contract. Assumes nothing.
-use borrow.Author.Rules.{rules}
 use Rattle.names.proofs.same_name.Goals as goal
 
 pub returns : goal.returns

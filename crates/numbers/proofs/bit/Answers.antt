@@ -1,5 +1,5 @@
 -- `numbers::bit` meets its contract. Assumes nothing.
-use Rattle.std.proofs.Common.{pow_pos, rules}
+use Rattle.std.proofs.Common.{pow_pos}
 use Rattle.numbers.proofs.bit.Goals as goal
 
 pub nonzero_div-result : goal.nonzero_div-result

@@ -1,5 +1,5 @@
 -- `numbers::ceil_div` meets its contract. Assumes nothing.
-use Rattle.std.proofs.Common.{ℕ, ◌-◌, sym, ap, ◌∙◌, div-le_self, arith, rules}
+use Rattle.std.proofs.Common.{ℕ, ◌-◌, sym, ap, ◌∙◌, div-le_self, arith}
 use Rattle.disc.specs.Numbers.{ceil_div}
 use Rattle.disc.proofs.NumberLaws.{ceil_div_none, ceil_div_some}
 use Rattle.numbers.proofs.ceil_div.Goals as goal

@@ -1,5 +1,5 @@
 -- `numbers::covered` meets its contract: the room for the sectors and the index block is compared. Assumes nothing.
-use Rattle.std.proofs.Common.{◌+◌, ◌*◌, ◌≤◌, mul-le-mul, arith, rules}
+use Rattle.std.proofs.Common.{◌+◌, ◌*◌, ◌≤◌, mul-le-mul, arith}
 use Rattle.disc.proofs.DecideLaws.{holds, decides_le}
 use Rattle.disc.proofs.NumberLaws.{need_le}
 use Rattle.numbers.proofs.covered.Goals as goal

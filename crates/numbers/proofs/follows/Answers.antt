@@ -1,5 +1,5 @@
 -- `numbers::follows` meets its contract: the sums and the product of words fit 64 bits. Assumes nothing.
-use Rattle.std.proofs.Common.{◌-◌, ◌≤◌, mul-le-mul_left, arith, rules}
+use Rattle.std.proofs.Common.{◌-◌, ◌≤◌, mul-le-mul_left, arith}
 use Rattle.numbers.proofs.follows.Goals as goal
 
 pub overflow_mul-result : goal.overflow_mul-result

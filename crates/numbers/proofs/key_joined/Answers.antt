@@ -1,5 +1,5 @@
 -- `numbers::key_joined` meets its contract: product and sum of words fit 32 bits. Assumes nothing.
-use Rattle.std.proofs.Common.{◌*◌, ◌≤◌, mul-le-mul_left, arith, rules}
+use Rattle.std.proofs.Common.{◌*◌, ◌≤◌, mul-le-mul_left, arith}
 use Rattle.numbers.proofs.key_joined.Goals as goal
 
 product : (c : goal.Start) → c.args.h * c.args.layer ≤ 4294836225

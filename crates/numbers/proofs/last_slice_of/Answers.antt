@@ -1,5 +1,5 @@
 -- `numbers::last_slice_of` meets its contract. Assumes nothing.
-use Rattle.std.proofs.Common.{◌≡◌, ◌-◌, ◌/◌, arith, rules}
+use Rattle.std.proofs.Common.{◌≡◌, ◌-◌, ◌/◌, arith}
 use native.Mathlib.Nat.{div-eq_of_lt}
 use Rattle.disc.proofs.NumberLaws.{quotient_lt}
 use Rattle.numbers.proofs.last_slice_of.Goals as goal

@@ -1,5 +1,5 @@
 -- `numbers::need` meets its contract. Assumes nothing.
-use Rattle.std.proofs.Common.{sym, arith, rules}
+use Rattle.std.proofs.Common.{sym, arith}
 use Rattle.disc.proofs.NumberLaws.{need_some, quotient_lt}
 use Rattle.numbers.proofs.need.Goals as goal
 

@@ -1,5 +1,5 @@
 -- `numbers::reciprocal` meets its contract. Assumes nothing.
-use Rattle.std.proofs.Common.{refl, arith, rules}
+use Rattle.std.proofs.Common.{refl, arith}
 use Rattle.disc.proofs.NumberLaws.{quotient_lt}
 use Rattle.numbers.proofs.reciprocal.Goals as goal
 

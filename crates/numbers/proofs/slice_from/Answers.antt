@@ -1,5 +1,5 @@
 -- `numbers::slice_from` meets its contract. Assumes nothing.
-use Rattle.std.proofs.Common.{◌≡◌, ◌-◌, ◌/◌, arith, rules}
+use Rattle.std.proofs.Common.{◌≡◌, ◌-◌, ◌/◌, arith}
 use native.Mathlib.Nat.{div-eq_of_lt}
 use Rattle.numbers.proofs.slice_from.Goals as goal
 

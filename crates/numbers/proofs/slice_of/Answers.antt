@@ -1,5 +1,5 @@
 -- `numbers::slice_of` meets its contract. Assumes nothing.
-use Rattle.std.proofs.Common.{◌-◌, arith, rules}
+use Rattle.std.proofs.Common.{◌-◌, arith}
 use Rattle.disc.proofs.NumberLaws.{quotient_lt}
 use Rattle.numbers.proofs.slice_of.Goals as goal
 

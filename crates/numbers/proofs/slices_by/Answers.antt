@@ -11,6 +11,6 @@ overflow_cast-result-2 c = omega (arith, product_high c.args.n c.args.reciprocal
 
 pub returns : goal.returns
 returns c = record {
-    exactly = (refl, omega (arith, product_high c.args.n c.args.reciprocal (omega arith) c.requires));
-    whole = λ s k low is whole. ap₂ (λ (m r : ℕ). m * r / 65536) whole is ∙ by_reciprocal s k low (omega arith);
-  }
+  exactly = (refl, omega (arith, product_high c.args.n c.args.reciprocal (omega arith) c.requires));
+  whole = λ s k low is whole. ap₂ (λ (m r : ℕ). m * r / 65536) whole is ∙ by_reciprocal s k low (omega arith);
+}

@@ -1,5 +1,5 @@
 -- `numbers::starts_at` meets its contract. Assumes nothing.
-use Rattle.std.proofs.Common.{◌-◌, ◌*◌, ◌≤◌, mul-le-mul, arith, rules, eqb-true}
+use Rattle.std.proofs.Common.{◌-◌, ◌*◌, ◌≤◌, mul-le-mul, arith, eqb-true}
 use borrow.Author.Tests.{eqb-false}
 use Rattle.numbers.proofs.starts_at.Goals as goal
 

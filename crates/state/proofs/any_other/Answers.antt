@@ -1,11 +1,9 @@
 -- `state::any_other` meets its contract. The invariant: the question over all users is the question over those from entry u on.
 -- Assumes nothing.
-use Prim.Native.Nat.{◌≤◌, ◌-◌}
-use mathlib.Core.Path.{◌≡◌, refl, sym, ◌∙◌}
+use mathlib.Core.Path.{refl, sym, ◌∙◌}
 use native.Mathlib.Omega.{arith}
-use lib.ListN.{drop}
 use Rattle.types.specs.State.{vacant_user}
-use Rattle.state.specs.Areas.{is_other, any_other, any_of}
+use Rattle.state.specs.Areas.{is_other}
 use Rattle.state.proofs.SearchLaws.{any_hit, any_miss, any_end}
 use Rattle.state.proofs.ShapeLaws.{users-length}
 use Rattle.state.proofs.any_other.Goals as goal

@@ -1,11 +1,7 @@
 use Prim.Native.Nat.{◌≤◌, ◌-◌}
-use mathlib.Core.Path.{◌≡◌, refl, sym, ◌∙◌}
-use native.Mathlib.Omega.{arith}
+use mathlib.Core.Path.{◌≡◌}
 use lib.ListN.{drop}
-use Rattle.types.specs.State.{vacant_user}
 use Rattle.state.specs.Areas.{is_other, any_other, any_of}
-use Rattle.state.proofs.SearchLaws.{any_hit, any_miss, any_end}
-use Rattle.state.proofs.ShapeLaws.{users-length}
 use Rattle.state.proofs.any_other.Given as goal
 
 abbrev pub invariant-loop-u : goal.invariant-loop-u

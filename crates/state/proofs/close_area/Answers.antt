@@ -1,5 +1,4 @@
 -- `state::close_area` meets its contract. Assumes nothing.
-use borrow.Author.Rules.{rules}
 use Rattle.state.proofs.close_area.Goals as goal
 
 pub returns : goal.returns

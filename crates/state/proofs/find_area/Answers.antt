@@ -1,12 +1,10 @@
 -- `state::find_area` meets its contract. The invariant: the search from the start is the search from descriptor j on.
 -- Assumes nothing.
-use Prim.Native.Nat.{◌≤◌, ◌-◌}
-use mathlib.Core.Path.{◌≡◌, refl, sym, ◌∙◌}
+use mathlib.Core.Path.{refl, sym, ◌∙◌}
 use native.Mathlib.Omega.{arith}
-use lib.ListN.{drop}
 use Rattle.types.specs.State.{past_area}
 use Rattle.disc.specs.Names.{packed}
-use Rattle.state.specs.Areas.{is_named, area_named, first_from}
+use Rattle.state.specs.Areas.{is_named}
 use Rattle.state.proofs.AnswerLaws.{area_found}
 use Rattle.state.proofs.SearchLaws.{first_hit, first_miss, first_end}
 use Rattle.state.proofs.ShapeLaws.{areas-length}

@@ -1,12 +1,10 @@
 -- `state::find_user` meets its contract. The invariant: the search from the start is the search from entry u on.
 -- Assumes nothing.
-use Prim.Native.Nat.{◌≤◌, ◌-◌}
-use mathlib.Core.Path.{◌≡◌, refl, sym, ◌∙◌}
+use mathlib.Core.Path.{refl, sym, ◌∙◌}
 use native.Mathlib.Omega.{arith}
-use lib.ListN.{drop}
 use borrow.Author.Tests.{eq-eqb, ne_eqb}
 use Rattle.types.specs.State.{vacant_user}
-use Rattle.state.specs.Areas.{has_id, entry_of, first_from}
+use Rattle.state.specs.Areas.{has_id}
 use Rattle.state.proofs.AnswerLaws.{user_found}
 use Rattle.state.proofs.SearchLaws.{first_hit, first_miss, first_end}
 use Rattle.state.proofs.ShapeLaws.{users-length}

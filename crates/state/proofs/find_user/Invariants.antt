@@ -1,13 +1,7 @@
 use Prim.Native.Nat.{◌≤◌, ◌-◌}
-use mathlib.Core.Path.{◌≡◌, refl, sym, ◌∙◌}
-use native.Mathlib.Omega.{arith}
+use mathlib.Core.Path.{◌≡◌}
 use lib.ListN.{drop}
-use borrow.Author.Tests.{eq-eqb, ne_eqb}
-use Rattle.types.specs.State.{vacant_user}
 use Rattle.state.specs.Areas.{has_id, entry_of, first_from}
-use Rattle.state.proofs.AnswerLaws.{user_found}
-use Rattle.state.proofs.SearchLaws.{first_hit, first_miss, first_end}
-use Rattle.state.proofs.ShapeLaws.{users-length}
 use Rattle.state.proofs.find_user.Given as goal
 
 abbrev pub invariant-loop-u : goal.invariant-loop-u

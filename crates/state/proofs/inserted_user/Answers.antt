@@ -1,5 +1,4 @@
 -- `state::inserted_user` meets its contract. Assumes nothing.
-use borrow.Author.Rules.{rules}
 use Rattle.state.proofs.inserted_user.Goals as goal
 
 pub returns : goal.returns

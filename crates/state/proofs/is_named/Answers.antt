@@ -1,6 +1,5 @@
 -- `state::is_named` meets its contract. Assumes nothing.
 use mathlib.Core.Path.{sym, ◌∙◌}
-use borrow.Author.Rules.{rules}
 use Rattle.state.proofs.is_named.Goals as goal
 
 pub returns-then-is_open : goal.returns-then-is_open

@@ -1,5 +1,4 @@
 -- `state::is_other` meets its contract: each way through the tests rewrites with them. Assumes nothing.
-use borrow.Author.Rules.{rules}
 use borrow.Author.Tests.{eq-eqb, ne_eqb}
 use Rattle.state.proofs.is_other.Goals as goal
 

@@ -1,9 +1,5 @@
 use Prim.Native.Nat.{ℕ, ◌≤◌, ◌<◌, ◌-◌}
-use mathlib.Core.Path.{sym, ◌∙◌}
-use native.Mathlib.Omega.{arith}
-use borrow.Author.Count.{below_more}
 use Rattle.types.specs.State.{IsOpen}
-use Rattle.disc.proofs.DecideLaws.{true≢false, holds, fails}
 use Rattle.state.proofs.none_open.Given as goal
 
 abbrev pub invariant-loop-j : goal.invariant-loop-j

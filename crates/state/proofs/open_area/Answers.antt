@@ -1,5 +1,4 @@
 -- `state::open_area` meets its contract. Assumes nothing.
-use borrow.Author.Rules.{rules}
 use Rattle.state.proofs.open_area.Goals as goal
 
 pub returns : goal.returns

@@ -1,5 +1,4 @@
 -- `state::opened_again` meets its contract. Assumes nothing.
-use borrow.Author.Rules.{rules}
 use Rattle.state.proofs.opened_again.Goals as goal
 
 pub returns : goal.returns

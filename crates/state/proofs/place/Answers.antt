@@ -1,9 +1,6 @@
 -- `state::place` meets its contract: by where the sender's entry and a vacant one stand. Assumes nothing.
-use borrow.Author.Rules.{rules}
-use mathlib.Core.Path.{◌≡◌, sym, ◌∙◌}
+use mathlib.Core.Path.{sym, ◌∙◌}
 use borrow.Author.Tests.{lt-ltb, le-ltb}
-use Rattle.state.specs.declared.Found.TheVariants.{At}
-use Rattle.state.specs.Areas.{entry_of}
 use Rattle.state.proofs.place.Goals as goal
 
 pub returns-in_default : goal.returns-in_default

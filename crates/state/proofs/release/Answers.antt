@@ -1,5 +1,4 @@
 -- `state::release` meets its contract. Assumes nothing.
-use borrow.Author.Rules.{rules}
 use Rattle.state.proofs.release.Goals as goal
 
 pub returns : goal.returns

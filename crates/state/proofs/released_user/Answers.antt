@@ -1,5 +1,4 @@
 -- `state::released_user` meets its contract. Assumes nothing.
-use borrow.Author.Rules.{rules}
 use borrow.Author.Tests.{le-leb, lt-leb}
 use Rattle.state.proofs.released_user.Goals as goal
 

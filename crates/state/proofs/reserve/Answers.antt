@@ -1,5 +1,4 @@
 -- `state::reserve` meets its contract. Assumes nothing.
-use borrow.Author.Rules.{rules}
 use mathlib.Core.Path.{sym, ◌∙◌}
 use Rattle.state.proofs.reserve.Goals as goal
 

@@ -1,5 +1,4 @@
 -- `state::shut_out` meets its contract. Assumes nothing.
-use borrow.Author.Rules.{rules}
 use borrow.Author.Tests.{eq-eqb, ne_eqb}
 use Rattle.state.proofs.shut_out.Goals as goal
 

@@ -1,5 +1,4 @@
 -- `state::user_at` meets its contract: past the third entry it is vacant. Assumes nothing.
-use borrow.Author.Rules.{rules}
 use mathlib.Core.Path.{sym, ◌∙◌}
 use native.Mathlib.Omega.{arith}
 use lib.ListN.{get_or-eq_default}

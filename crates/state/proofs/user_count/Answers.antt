@@ -1,14 +1,11 @@
 -- `state::user_count` meets its contract. The invariant: the users counted and those from entry u on are all users.
 -- Assumes nothing.
-use Prim.Native.Nat.{◌+◌, ◌≤◌, ◌-◌}
-use mathlib.Core.Path.{◌≡◌, ap}
+use mathlib.Core.Path.{ap}
 use mathlib.Core.Bool.{not}
-use mathlib.Core.Logic.{⊎_elim}
 use native.Mathlib.Omega.{arith}
-use lib.ListN.{drop}
 use borrow.Author.Tests.{eq-eqb, ne_eqb}
 use Rattle.types.specs.State.{vacant_user}
-use Rattle.state.specs.Areas.{is_taken, user_count, count_of}
+use Rattle.state.specs.Areas.{is_taken}
 use Rattle.state.proofs.SearchLaws.{count_hit, count_miss, count_end}
 use Rattle.state.proofs.ShapeLaws.{users-length}
 use Rattle.state.proofs.user_count.Goals as goal

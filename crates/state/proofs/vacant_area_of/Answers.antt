@@ -1,11 +1,9 @@
 -- `state::vacant_area_of` meets its contract. The invariant: the search from the start is the search from descriptor j on.
 -- Assumes nothing.
-use Prim.Native.Nat.{◌≤◌, ◌-◌}
-use mathlib.Core.Path.{◌≡◌, refl, sym, ◌∙◌}
+use mathlib.Core.Path.{refl, sym, ◌∙◌}
 use native.Mathlib.Omega.{arith}
-use lib.ListN.{drop}
 use Rattle.types.specs.State.{past_area}
-use Rattle.state.specs.Areas.{is_vacant, vacant_area_of, first_from}
+use Rattle.state.specs.Areas.{is_vacant}
 use Rattle.state.proofs.AnswerLaws.{vacant_found}
 use Rattle.state.proofs.SearchLaws.{first_hit, first_miss, first_end}
 use Rattle.state.proofs.ShapeLaws.{areas-length}

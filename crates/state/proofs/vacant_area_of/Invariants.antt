@@ -1,12 +1,7 @@
 use Prim.Native.Nat.{◌≤◌, ◌-◌}
-use mathlib.Core.Path.{◌≡◌, refl, sym, ◌∙◌}
-use native.Mathlib.Omega.{arith}
+use mathlib.Core.Path.{◌≡◌}
 use lib.ListN.{drop}
-use Rattle.types.specs.State.{past_area}
 use Rattle.state.specs.Areas.{is_vacant, vacant_area_of, first_from}
-use Rattle.state.proofs.AnswerLaws.{vacant_found}
-use Rattle.state.proofs.SearchLaws.{first_hit, first_miss, first_end}
-use Rattle.state.proofs.ShapeLaws.{areas-length}
 use Rattle.state.proofs.vacant_area_of.Given as goal
 
 abbrev pub invariant-loop-j : goal.invariant-loop-j

@@ -1,7 +1,6 @@
 -- `state::with_area` meets its contract: past the eighth descriptor nothing is set. Assumes nothing.
 use native.Mathlib.Omega.{arith}
 use lib.Seq.{set_out}
-use borrow.Author.Rules.{rules}
 use Rattle.state.proofs.ShapeLaws.{areas-length}
 use Rattle.state.proofs.with_area.Goals as goal
 

@@ -1,5 +1,4 @@
 -- `state::with_position` meets its contract. Assumes nothing.
-use borrow.Author.Rules.{rules}
 use Rattle.state.proofs.with_position.Goals as goal
 
 pub returns : goal.returns

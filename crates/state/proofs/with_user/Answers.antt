@@ -1,5 +1,4 @@
 -- `state::with_user` meets its contract: past the third entry nothing is set. Assumes nothing.
-use borrow.Author.Rules.{rules}
 use native.Mathlib.Omega.{arith}
 use lib.Seq.{set_out}
 use Rattle.state.proofs.ShapeLaws.{users-length}

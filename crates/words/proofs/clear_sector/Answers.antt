@@ -1,6 +1,5 @@
 -- `words::clear_sector` meets its contract. Assumes nothing.
 use mathlib.Core.Path.{◌∙◌}
-use borrow.Author.Rules.{rules}
 use Rattle.words.specs.Store.{zero_words}
 use Rattle.words.proofs.StoreLaws.{store_start}
 use Rattle.words.proofs.clear_sector.Goals as goal

@@ -1,10 +1,9 @@
 -- `words::clear_words` meets its contract: after i turns i zero words are stored. Assumes nothing.
 use mathlib.Core.Path.{◌≡◌, refl, sym}
-use Prim.Native.Nat.{◌+◌, ◌-◌, ◌≤◌}
+use Prim.Native.Nat.{◌+◌}
 use native.Mathlib.Omega.{arith}
-use lib.ListN.{length}
 use borrow.Author.Rules.{rules}
-use Rattle.words.specs.Store.{store, zero_words}
+use Rattle.words.specs.Store.{zero_words}
 use Rattle.words.proofs.StoreLaws.{store_none, store_more, length-zero_words, zero_words_snoc}
 use Rattle.words.proofs.clear_words.Goals as goal
 

@@ -1,5 +1,4 @@
 -- `words::copy_sector` meets its contract. Assumes nothing.
-use borrow.Author.Rules.{rules}
 use Rattle.words.proofs.StoreLaws.{sector_words_front}
 use Rattle.words.proofs.copy_sector.Goals as goal
 

@@ -1,10 +1,7 @@
 -- `words::copy_words` meets its contract: after i turns i words are stored. Assumes nothing.
 use mathlib.Core.Path.{◌≡◌, refl, sym}
-use Prim.Native.Nat.{◌-◌, ◌≤◌}
 use native.Mathlib.Omega.{arith}
-use lib.ListN.{length, take, drop}
 use borrow.Author.Rules.{rules}
-use Rattle.words.specs.Store.{store}
 use Rattle.words.proofs.StoreLaws.{store_none, store_more, length_part, part_snoc}
 use Rattle.words.proofs.copy_words.Goals as goal
 

@@ -1,6 +1,5 @@
 -- `words::set_word` meets its contract. Assumes nothing.
 use mathlib.Core.Path.{sym}
-use borrow.Author.Rules.{rules}
 use Rattle.words.proofs.StoreLaws.{store_one}
 use Rattle.words.proofs.set_word.Goals as goal
 

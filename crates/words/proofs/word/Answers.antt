@@ -1,7 +1,6 @@
 -- `words::word` meets its contract: past the image's end the word is 0. Assumes nothing.
 use mathlib.Core.Path.{sym}
 use native.Mathlib.Omega.{arith}
-use borrow.Author.Rules.{rules}
 use Rattle.words.proofs.StoreLaws.{word_past}
 use Rattle.words.proofs.word.Goals as goal
 
