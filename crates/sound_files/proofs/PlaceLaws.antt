@@ -12,7 +12,7 @@ use Rattle.marks.proofs.MarkLaws.{marks}
 use Rattle.sound.specs.Sound.{held_by}
 use Rattle.sound_entries.proofs.PlaceLaws.{T_of, T_not}
 use Rattle.sound_files.specs.declared.Live.{Live}
-use Rattle.sound_files.specs.Rules.{entry_of, FileMarking}
+use Rattle.sound_files.specs.Rules.{entry_of, file_slices, FileMarking}
 use Rattle.sound_files.specs.Walk.{place_slices, PlaceRules, PlaceMarking}
 use Rattle.sound_files.proofs.SequenceLaws.{marking-map}
 
@@ -35,7 +35,7 @@ module _ {image : List ℕ} {g : Geometry} {lives : ℕ → Live} {w : ℕ → �
 
   pub place_unused_lem : {before : List ℕ} (name : ℕ) → name ≡ name_by w → name ≡ 0 → PlaceMarking image g lives w before before true
   unfolding place_slices
-  place_unused_lem name e z = none_held (record { file = λ d. absurd (d (sym e ∙ z)) }) (held_zero _ (name_by w) _ (sym e ∙ z))
+  place_unused_lem name e z = none_held (record { file = λ d. absurd (d (sym e ∙ z)) }) (held_zero (SYS ∷ MAP ∷ []) (name_by w) (file_slices image g.first.0 g.slice (entry_of w) (lives (name_by w))) (sym e ∙ z))
 
   pub place_system : {before : List ℕ} {r : Bool} (name : ℕ) → name ≡ name_by w → r ≡ is_system name → r ≡ true → PlaceMarking image g lives w before before true
   unfolding place_slices

@@ -1,0 +1,32 @@
+-- `sound_files::files_sound` meets its contract. Assumes nothing.
+use Rattle.state.proofs.ShapeLaws.{areas-length}
+use Rattle.sound_files.proofs.SoundLaws.{ordinary_known, files_marked}
+use borrow.Author.Tests.{not-true, not-false}
+use Rattle.disc.proofs.DecideLaws.{true≢false}
+use Rattle.marks.proofs.MarkLaws.{marks, refuses}
+use borrow.Author.Rules.{rules}
+use Rattle.sound_files.proofs.files_sound.Goals as goal
+
+pub stretches_sound-requires : goal.stretches_sound-requires
+stretches_sound-requires c =
+    let pre = c.requires in
+    (pre.0, c.open_upto-upto.ensures.eight, c.fill_cells.ensures, ordinary_known pre.1)
+
+pub returns-then-not-stretches_sound : goal.returns-then-not-stretches_sound
+returns-then-not-stretches_sound c =
+    let a = c.args in
+    let judged = files_marked a.image.now a.state a.g _ _ _ (areas-length a.state _ c.well_formed.1.0) c.flatten.ensures c.open_upto-upto.ensures a.sys.layers c.requires.1 c.stretches_sound.ensures c.requires.0.known.marked in
+    record {
+      refused = λ _. c.unmark_all.ensures;
+      marking = refuses (judged.not (c.if-not-stretches_sound.true));
+    }
+
+pub returns : goal.returns
+returns c =
+    let a = c.args in
+    let judged = files_marked a.image.now a.state a.g _ _ _ (areas-length a.state _ c.well_formed.1.0) c.flatten.ensures c.open_upto-upto.ensures a.sys.layers c.requires.1 c.stretches_sound.ensures c.requires.0.known.marked in
+    let y = judged.yes (c.if-not-stretches_sound.false) in
+    record {
+      refused = λ e. absurd (true≢false e);
+      marking = marks y.0 (record { is = y.2; once = y.1 });
+    }

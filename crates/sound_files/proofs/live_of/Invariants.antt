@@ -1,0 +1,16 @@
+use lib.ListN.{get_or}
+use mathlib.Core.Path.{◌≡◌, sym, ◌∙◌}
+use Prim.Native.Nat.{◌-◌, ◌≤◌}
+use borrow.Author.Tests.{eqb-true, eqb-false}
+use native.Mathlib.Omega.{arith}
+use Rattle.sound_files.specs.Live.{live_in, live_from}
+use Rattle.sound_files.proofs.LiveLaws.{live_start, live_hit, live_miss, live_end}
+use borrow.Author.Rules.{rules}
+use Rattle.sound_files.proofs.live_of.Given as goal
+
+abbrev pub invariant-loop-j : goal.invariant-loop-j
+invariant-loop-j l =
+    (l.j ≤ l.upto) × (live_in l.names l.indexes l.lengths l.upto l.name ≡ live_from l.names l.indexes l.lengths l.name l.j (l.upto - l.j))
+
+abbrev pub decreases-loop-j : goal.decreases-loop-j
+decreases-loop-j l = l.upto - l.j

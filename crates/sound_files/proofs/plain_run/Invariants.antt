@@ -1,0 +1,14 @@
+use mathlib.Core.Path.{refl}
+use Prim.Native.Nat.{◌-◌, ◌≤◌}
+use native.Mathlib.Omega.{arith}
+use borrow.Author.Rules.{rules}
+use borrow.Author.Tests.{not-true, not-false}
+use Rattle.sound_files.specs.Walk.{places_from}
+use Rattle.sound_files.proofs.PlainLaws.{ClosedPassed, closed_none, closed_some, closed_more, closed_end}
+use Rattle.sound_files.proofs.plain_run.Given as goal
+
+abbrev pub invariant-loop-i : goal.invariant-loop-i
+invariant-loop-i l = (l.i ≤ l.count) × ClosedPassed l.image l.g (places_from l.image l.at) l.upto l.cells l.initial.marks l.marks l.i
+
+abbrev pub decreases-loop-i : goal.decreases-loop-i
+decreases-loop-i l = l.count - l.i

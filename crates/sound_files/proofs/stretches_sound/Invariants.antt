@@ -1,0 +1,25 @@
+use mathlib.Core.Path.{◌≡◌, refl, sym, ap, subst}
+use mathlib.Core.List.{List}
+use Prim.Native.Nat.{ℕ, ◌+◌, ◌*◌, ◌-◌, ◌≤◌, ◌<◌}
+use native.Mathlib.Omega.{arith}
+use borrow.Author.Rules.{rules}
+use borrow.Author.Tests.{not-true, not-false}
+use Rattle.disc.specs.Words.{word}
+use Rattle.disc.proofs.WalkLaws.{sectors_before}
+use Rattle.catalog.specs.declared.Catalog.{Catalog}
+use Rattle.kit.specs.declared.Geometry.{Geometry}
+use Rattle.sound_entries.specs.Sys.{places_in}
+use Rattle.sound_entries.proofs.SysLaws.{Turn, turn, sys_small}
+use Rattle.sound_files.specs.declared.Live.{Live}
+use Rattle.sound_files.specs.Live.{live_in}
+use Rattle.sound_files.specs.Walk.{places_from, SysKnown, OrdinaryPlace, OrdinaryPlaces}
+use Rattle.sound_files.proofs.WalkLaws.{PlacesPassed, places_none, places_some, places_more, places_stop, places_all}
+use Rattle.sound_files.proofs.SysLaws.{known_sys, some_sys, turn_places}
+use Rattle.sound_files.proofs.stretches_sound.Given as goal
+
+abbrev pub invariant-loop-b : goal.invariant-loop-b
+invariant-loop-b l =
+    (l.j ≤ word l.image 6 0) × (l.b ≤ l.g.keys * l.sys.layers) × (l.b < l.g.keys * l.sys.layers → l.b ≡ sectors_before l.image 6 l.j) × PlacesPassed l.image l.g (live_in l.names l.indexes l.lengths l.upto) (places_in l.image l.g) l.initial.marks l.marks (16 * l.b)
+
+abbrev pub decreases-loop-b : goal.decreases-loop-b
+decreases-loop-b l = word l.image 6 0 - l.j
