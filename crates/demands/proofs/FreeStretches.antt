@@ -87,7 +87,7 @@ call_highest : {image : List ℕ} {state : State} {name : Name} {attributes : �
     → 128 ≤ free_stretches_on_map image → AddsNoLayerOn image state name → r.answer.result ≡ 0x1008
 call_highest (unknown _ u) z c many stays = absurd (let e = ap (λ (a : Answer). a.result) u.answered in omega arith)
 call_highest (unsound _ _ u) z c many stays = absurd (let e = ap (λ (a : Answer). a.result) u.answered in omega arith)
-call_highest (obeyed k s _) z (unknown denied _) many stays = absurd (denied k)
+call_highest (obeyed k s _) z (unknown denied _) many stays = absurd (denied (record { unit = k.unit; ready = k.ready }))
 call_highest (obeyed k s _) z (unsound _ denied _) many stays = absurd (denied s)
 call_highest {image} {state} {name} {attributes} {words} {lent} (obeyed k s first) z (obeyed _ _ second) many stays =
     let x = sound_represents.reads image state s in
