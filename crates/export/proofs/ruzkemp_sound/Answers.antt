@@ -1,0 +1,12 @@
+-- `export::ruzkemp_sound` meets its contract. Assumes nothing.
+use mathlib.Core.Path.{subst}
+use borrow.Author.Rules.{rules}
+use Rattle.types.specs.declared.State.{State}
+use Rattle.disc.specs.Decide.{Decides}
+use Rattle.sound.specs.Sound.{SoundUnit}
+use Rattle.export.proofs.ruzkemp_sound.Goals as goal
+
+pub returns : goal.returns
+returns c =
+    let args = c.args in
+    subst (λ (s : State). Decides c.sound.result (SoundUnit args.image.now s)) c.state_of-own.ensures c.sound.ensures
