@@ -5,6 +5,7 @@ ghost use Rattle.std.specs.Prelude.{◌<◌, ◌≤◌, length};
 use crate::report::show;
 use crate::setup::{Setup, usual, with_word};
 use crate::unit::{Disc, build};
+use std::io::{self, Write};
 
 // Where a byte stands first from a place on; the text's length if it does not.
 fn find(text: &[u8], from: usize, byte: u8) -> usize
@@ -97,23 +98,24 @@ fn edits(image: &mut Disc, text: &[u8], from: usize) -> Setup
 }
 
 // One case.
-fn case(image: &mut Disc, text: &[u8]) {
+fn case<W: Write>(image: &mut Disc, text: &[u8], out: &mut W) -> io::Result<()> {
     let colon = find(text, 0, b':');
     build(image);
     let setup = edits(image, text, colon);
-    io::write_all(1, &text[..colon]);
-    show(image, setup.count as usize, setup.state, setup.unit);
+    out.write_all(&text[..colon])?;
+    show(image, setup.count as usize, setup.state, setup.unit, out)
 }
 
 // All cases.
-pub fn run(image: &mut Disc, text: &[u8]) {
+pub fn run<W: Write>(image: &mut Disc, text: &[u8], out: &mut W) -> io::Result<()> {
     let mut at: usize = 0;
     while at < text.len() {
         let end = find(text, at, b'\n');
-        case(image, &text[at..end]);
+        case(image, &text[at..end], out)?;
         if end == text.len() {
-            return;
+            return Ok(());
         }
         at = end + 1;
     }
+    Ok(())
 }

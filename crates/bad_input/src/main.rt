@@ -18,9 +18,13 @@ mod report;
 mod setup;
 mod unit;
 
-fn main() {
+use std::io::{self, BufWriter, Read, Write};
+
+fn main(rt: HostRuntime) -> io::Result<()> {
     let mut image: unit::Disc = [0; 5376];
-    let mut text = io::large_buffer();
-    let n = io::read_full(0, &mut text);
-    cases::run(&mut image, &text[..n]);
+    let mut text = Vec::new(rt.alloc());
+    rt.reader().read_to_end(&mut text)?;
+    let mut out = BufWriter::new(rt.alloc(), io::writer(&rt))?;
+    cases::run(&mut image, &text, &mut out)?;
+    out.flush()
 }

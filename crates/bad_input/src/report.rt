@@ -2,6 +2,7 @@
 
 use crate::unit::Disc;
 use perform::Outcome;
+use std::io::{self, Write};
 use types::{Area, Message, Role, State, User};
 
 // A number for each role.
@@ -79,12 +80,11 @@ fn checksum(image: &[u16]) -> u64 {
 }
 
 // Writes one of two texts.
-fn either(first: bool, yes: &[u8], other: &[u8]) {
+fn either<W: Write>(first: bool, yes: &[u8], other: &[u8], out: &mut W) -> io::Result<()> {
     if first {
-        io::write_all(1, yes);
-        return;
+        return out.write_all(yes);
     }
-    io::write_all(1, other);
+    out.write_all(other)
 }
 
 // Init by the one call, which lends it a word that it has no use for.
@@ -94,36 +94,59 @@ fn init(words: &mut [u16], state: State, unit: u16) -> Outcome {
 }
 
 // Writes Init's answer, and whether the words are a sound unit.
-fn tell(words: &[u16], state: State, res: u16) {
-    io::write_all(1, b": ");
-    io::print_hex(1, res as u64, 4);
-    either(soundness::sound(words, state), b", sound", b", not sound");
+fn tell<W: Write>(words: &[u16], state: State, res: u16, out: &mut W) -> io::Result<()> {
+    write!(out, ": {res:04x}")?;
+    either(
+        soundness::sound(words, state),
+        b", sound",
+        b", not sound",
+        out,
+    )
 }
 
 // What Init answers with the image's first words, and whether they are a sound unit.
-fn answer(words: &mut [u16], count: usize, state: State, unit: u16) -> State {
+fn answer<W: Write>(
+    words: &mut [u16],
+    count: usize,
+    state: State,
+    unit: u16,
+    out: &mut W,
+) -> io::Result<State> {
     if words.len() < count {
-        return state;
+        return Ok(state);
     }
     let outcome = init(&mut words[..count], state, unit);
     let answer = outcome.answer;
-    tell(&words[..count], state, answer.result);
-    outcome.state
+    tell(&words[..count], state, answer.result, out)?;
+    Ok(outcome.state)
 }
 
 // The case's line after its name.
-pub fn show(image: &mut Disc, count: usize, state: State, unit: u16) {
+pub fn show<W: Write>(
+    image: &mut Disc,
+    count: usize,
+    state: State,
+    unit: u16,
+    out: &mut W,
+) -> io::Result<()> {
     let before = checksum(image);
-    let after = answer(image, count, state, unit);
+    let after = answer(image, count, state, unit, out)?;
     either(
         checksum(image) == before,
         b", image kept",
         b", IMAGE CHANGED",
-    );
-    either(same_rest(state, after), b", areas kept", b", AREAS CHANGED");
+        out,
+    )?;
+    either(
+        same_rest(state, after),
+        b", areas kept",
+        b", AREAS CHANGED",
+        out,
+    )?;
     either(
         after.initialized,
         b", initialized\n",
         b", not initialized\n",
-    );
+        out,
+    )
 }

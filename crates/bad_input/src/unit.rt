@@ -30,7 +30,7 @@ pub fn fill(image: &mut Disc, value: u16) {
 
 // Formats the first 20 sectors; Format refuses an F from 20 on.
 fn format_first(words: &mut [u16], keys: u16, first: u16) {
-    let free = std::num::wrapping_sub_u16(20, first);
+    let free = 20u16.wrapping_sub(first);
     let lent = [0, keys, 2, 20, free, first, 20, 0, 0];
     if words.len() < 5120 {
         return;

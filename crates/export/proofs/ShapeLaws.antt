@@ -22,11 +22,11 @@ abbrev Threes : AreaState → Type 0
 Threes a = (length a.name ≡ 3) × (length a.users ≡ 3)
 
 threes : (area : AreaState) (vs : List Val) → Is A.the_row area vs → Threes area
-threes area vs g = let owed = LL.owed A.the_type A'.the_laws area vs g in (sym (length-map area.name _) ∙ owed.1.0.1.0.1, sym (length-map area.users _) ∙ owed.1.1.1.1.0.1.0.1)
+threes area vs g = let owed = LL.owed A.the_type A'.the_laws area vs g in (owed.1.0.1.0.1, owed.1.1.1.1.0.1.0.1)
 
 -- what owning an array of descriptors tells of each
 each_threes : (l : List AreaState) (us : List Val)
-    → shadow (each (field A.the_type).row.Denot (field A.the_type).row.own_val (map (field A.the_type).into l) us)
+    → shadow (each A.the_row.Denot A.the_row.own_val l us)
     → (j : ℕ) → j < length l → Threes (get_or l j (record { live = 0; name = []; index = 0; length = 0; users = [] }))
 each_threes [] us s j h = absurd (omega arith)
 each_threes (a ∷ l) [] s j h = absurd s
@@ -37,7 +37,7 @@ pub arrays : (m : UnitState) (vs : List Val) → Is T.the_row m vs → Arrays m
 arrays m vs g = record { eight = eight; name = λ j h. (all j h).0; users = λ j h. (all j h).1 }
   where
     eight : length m.areas ≡ 8
-    eight = sym (length-map m.areas _) ∙ (LL.owed T.the_type T'.the_laws m vs g).1.1.0.1.0.1
+    eight = (LL.owed T.the_type T'.the_laws m vs g).1.1.0.1.0.1
 
     all : (j : ℕ) → j < 8 → Threes (mirror_area m j)
     all j h = each_threes m.areas _ (LL.owed T.the_type T'.the_laws m vs g).1.1.0.1.1 j (omega (arith, eight))

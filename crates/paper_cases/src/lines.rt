@@ -1,8 +1,9 @@
 // The lines, read one by one.
 
-ghost use Rattle.std.specs.Prelude.{◌≤◌, ◌<◌};
+ghost use Rattle.std.specs.Prelude.{◌≤◌, ◌<◌, length};
 
 use crate::step::{Disc, Lent, called, done, is_call};
+use std::io::{self, Write};
 use types::State;
 
 // A digit of base 16; 0 for another byte.
@@ -62,36 +63,63 @@ fn read_numbers(numbers: &mut [u16; 16], text: &[u8]) -> usize
     count
 }
 
+// Where a byte stands first from a place on; the text's length if it does not.
+fn find(text: &[u8], from: usize, byte: u8) -> usize
+    requires { from ≤ length text.now }
+    ensures { (from ≤ result) × (result ≤ length text.now) }
+{
+    let mut i = from;
+    while i < text.len() {
+        if text[i] == byte {
+            return i;
+        }
+        i += 1;
+    }
+    i
+}
+
 // One line; one that is too short or begins with '#' does nothing.
-fn line(image: &mut Disc, lent: &mut Lent, state: State, text: &[u8]) -> State {
-    let colon = bytes::scan::find(text, 0, text.len(), b':');
+fn line<W: Write>(
+    image: &mut Disc,
+    lent: &mut Lent,
+    state: State,
+    text: &[u8],
+    out: &mut W,
+) -> io::Result<State> {
+    let colon = find(text, 0, b':');
     if text.len() < 3 || text[0] == b'#' {
-        return state;
+        return Ok(state);
     }
     if text.len() - 3 < colon {
-        return state;
+        return Ok(state);
     }
     let letter = text[colon + 2];
     let mut numbers = [0u16; 16];
     let count = read_numbers(&mut numbers, &text[colon + 3..]);
     let label = &text[0..colon + 1];
     if is_call(letter) {
-        return called(image, lent, state, letter, &numbers, label);
+        return called(image, lent, state, letter, &numbers, label, out);
     }
-    done(image, lent, letter, &numbers, count, label);
-    state
+    done(image, lent, letter, &numbers, count, label, out)?;
+    Ok(state)
 }
 
 // All lines.
-pub fn run(image: &mut Disc, lent: &mut Lent, text: &[u8]) {
+pub fn run<W: Write>(
+    image: &mut Disc,
+    lent: &mut Lent,
+    text: &[u8],
+    out: &mut W,
+) -> io::Result<()> {
     let mut state = types::fresh_state(0);
     let mut at: usize = 0;
     while at < text.len() {
-        let end = bytes::scan::find(text, at, text.len(), b'\n');
-        state = line(image, lent, state, &text[at..end]);
+        let end = find(text, at, b'\n');
+        state = line(image, lent, state, &text[at..end], out)?;
         if end == text.len() {
-            return;
+            return Ok(());
         }
         at = end + 1;
     }
+    Ok(())
 }

@@ -29,10 +29,14 @@
 mod lines;
 mod step;
 
-fn main() {
+use std::io::{self, BufWriter, Read, Write};
+
+fn main(rt: HostRuntime) -> io::Result<()> {
     let mut image: step::Disc = [0; 7680];
     let mut lent: step::Lent = [0; 256];
-    let mut text = io::large_buffer();
-    let n = io::read_full(0, &mut text);
-    lines::run(&mut image, &mut lent, &text[..n]);
+    let mut text = Vec::new(rt.alloc());
+    rt.reader().read_to_end(&mut text)?;
+    let mut out = BufWriter::new(rt.alloc(), io::writer(&rt))?;
+    lines::run(&mut image, &mut lent, &text, &mut out)?;
+    out.flush()
 }

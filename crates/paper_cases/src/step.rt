@@ -4,6 +4,7 @@ ghost use Rattle.std.specs.Prelude.{◌≤◌, length};
 
 use catalog::Place;
 use perform::Outcome;
+use std::io::{self, Write};
 use types::{Answer, Message, Name, Operation, Sector, State};
 
 // Room for an image: its first 256 times N words, N being at most 30.
@@ -13,9 +14,8 @@ pub type Disc = [u16; 7680];
 pub type Lent = [u16; 256];
 
 // Writes a number of a line.
-fn number(value: u16) {
-    io::write_all(1, b" ");
-    io::print_hex(1, value as u64, 4);
+fn number<W: Write>(value: u16, out: &mut W) -> io::Result<()> {
+    write!(out, " {value:04x}")
 }
 
 // Whether a letter is a call's.
@@ -85,20 +85,19 @@ fn lend(lent: &mut Lent, letter: u8, numbers: &[u16; 16]) -> usize
 }
 
 // The rest of a call's line.
-fn answered(letter: u8, answer: Answer, lent: &Lent) {
-    number(answer.result);
+fn answered<W: Write>(letter: u8, answer: Answer, lent: &Lent, out: &mut W) -> io::Result<()> {
+    number(answer.result, out)?;
     if letter == b'n' {
-        io::write_all(1, b" ");
-        io::print_hex(1, answer.entries as u64, 4);
+        write!(out, " {:04x}", answer.entries)?;
     }
     if letter != b's' && letter != b'm' && letter != b'n' {
-        number(answer.bytes);
-        number(answer.block.0);
-        number(lent[0]);
-        number(lent[7]);
-        number(lent[9]);
+        number(answer.bytes, out)?;
+        number(answer.block.0, out)?;
+        number(lent[0], out)?;
+        number(lent[7], out)?;
+        number(lent[9], out)?;
     }
-    io::write_all(1, b"\n");
+    out.write_all(b"\n")
 }
 
 // A state to start from: Init's is that of a unit that is not initialized.
@@ -135,24 +134,25 @@ fn performed(
 }
 
 // A call.
-pub fn called(
+pub fn called<W: Write>(
     image: &mut Disc,
     lent: &mut Lent,
     state: State,
     letter: u8,
     numbers: &[u16; 16],
     label: &[u8],
-) -> State {
+    out: &mut W,
+) -> io::Result<State> {
     let from = start(letter, state);
     let message = message_of(letter, numbers);
     let n = lend(lent, letter, numbers);
     let size = image_size(image);
     let o = performed(image, size, from, message, lent, n);
     let answer = o.answer;
-    io::write_all(1, label);
-    answered(letter, answer, lent);
+    out.write_all(label)?;
+    answered(letter, answer, lent, out)?;
     let next = o.state;
-    next
+    Ok(next)
 }
 
 // Format, on so many words of the image.
@@ -183,45 +183,59 @@ fn enter(image: &mut Disc, entry: &[u16; 16]) {
     catalog::write_entry(image, place, entry);
 }
 
-fn show_word(words: &[u16], index: u16) {
-    number(words::word(words, Sector(0), index as usize));
+fn show_word<W: Write>(words: &[u16], index: u16, out: &mut W) -> io::Result<()> {
+    number(words::word(words, Sector(0), index as usize), out)
 }
 
-fn show_words(words: &[u16], indices: &[u16; 16], count: usize)
+fn show_words<W: Write>(
+    words: &[u16],
+    indices: &[u16; 16],
+    count: usize,
+    out: &mut W,
+) -> io::Result<()>
     requires { count ≤ 16 }
 {
     let mut i: usize = 0;
     while i < count {
-        show_word(words, indices[i]);
+        show_word(words, indices[i], out)?;
         i += 1;
     }
+    Ok(())
 }
 
 // A line of words, by their indices.
-fn show(words: &[u16], indices: &[u16; 16], count: usize, label: &[u8])
+fn show<W: Write>(
+    words: &[u16],
+    indices: &[u16; 16],
+    count: usize,
+    label: &[u8],
+    out: &mut W,
+) -> io::Result<()>
     requires { count ≤ 16 }
 {
-    io::write_all(1, label);
-    show_words(words, indices, count);
-    io::write_all(1, b"\n");
+    out.write_all(label)?;
+    show_words(words, indices, count, out)?;
+    out.write_all(b"\n")
 }
 
 // What is no call.
-pub fn done(
+pub fn done<W: Write>(
     image: &mut Disc,
     lent: &mut Lent,
     letter: u8,
     numbers: &[u16; 16],
     count: usize,
     label: &[u8],
-)
+    out: &mut W,
+) -> io::Result<()>
     requires { count ≤ 16 }
 {
     match letter {
         b'e' => words::store_words(lent, Sector(0), 0, numbers, 16),
         b'f' => fresh(image, numbers[0], numbers[1]),
-        b'g' => show(lent, numbers, count, label),
+        b'g' => return show(lent, numbers, count, label, out),
         b'k' => enter(image, numbers),
-        _ => show(image, numbers, count, label),
+        _ => return show(image, numbers, count, label, out),
     }
+    Ok(())
 }

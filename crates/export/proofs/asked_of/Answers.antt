@@ -71,7 +71,5 @@ returns-in-10 c =
 pub returns-in_default : goal.returns-in_default
 returns-in_default c =
     let message : UnitMessage = c.args.message in
-    let no = c.in_default.rest in
-    other_number message _ no.0.0.0.0.0.0.0.0.0.0.1 no.0.0.0.0.0.0.0.0.0.1
-    no.0.0.0.0.0.0.0.0.1 no.0.0.0.0.0.0.0.1 no.0.0.0.0.0.0.1 no.0.0.0.0.0.1 no.0.0.0.0.1
-    no.0.0.0.1 no.0.0.1 no.0.1 no.1
+    let no = c.in_default.in_default-own.rest in
+    other_number message _ no.0.0.0.0.0.0.0.0.0.0.1 no.0.0.0.0.0.0.0.0.0.1 no.0.0.0.0.0.0.0.0.1 no.0.0.0.0.0.0.0.1 no.0.0.0.0.0.0.1 no.0.0.0.0.0.1 no.0.0.0.0.1 no.0.0.0.1 no.0.0.1 no.0.1 no.1

@@ -12,4 +12,4 @@ pub returns : goal.returns
 returns c =
     let f = c.format-o in
     formats (arrays c.args.state _ c.well_formed.0) c.state_of-own.ensures
-    (shaped f.result.state _ (LL.owed F.the_type F'.the_laws f.result _ f.type-inv).1.0) c.remirror.ensures f.ensures
+    (shaped f.result.state _ (LL.owed F.the_type F'.the_laws f.result _ f.type_inv).1.0) c.remirror.ensures f.ensures

@@ -17,7 +17,6 @@ returns-in_default c =
 pub returns : goal.returns
 returns c =
     let o = c.perform-o in
-    let asked = c.asked-1.given in
-    call asked.0.0 (sym c.asked_of.ensures ∙ asked.1)
-    (called (arrays c.args.state _ c.well_formed.0) c.state_of-own.ensures (shaped o.result.state _ (LL.owed O.the_type O'.the_laws o.result _ o.type-inv).1.0)
+    call c.in-Call.asked (sym c.asked_of.ensures ∙ c.in-Call.is)
+    (called (arrays c.args.state _ c.well_formed.0) c.state_of-own.ensures (shaped o.result.state _ (LL.owed O.the_type O'.the_laws o.result _ o.type_inv).1.0)
     c.remirror.ensures o.ensures c.mirror_of_answer.ensures)
