@@ -1,9 +1,7 @@
 -- `area_messages::area_message` meets its contract. Assumes nothing.
 -- no other user is exclusive
-use borrow.Author.Rules.{rules}
 use mathlib.Core.Path.{◌≡◌, sym, ◌∙◌}
 use mathlib.Core.Bool.{false}
-use borrow.Author.Tests.{not-true, not-false}
 use Rattle.state.specs.declared.Kind.TheVariants.{Exclusive}
 use Rattle.disc.specs.Names.{packed}
 use Rattle.state.specs.Areas.{any_other}

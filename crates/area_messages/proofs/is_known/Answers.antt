@@ -1,5 +1,4 @@
 -- `area_messages::is_known` meets its contract. Assumes nothing.
-use borrow.Author.Rules.{rules}
 use mathlib.Core.Path.{sym, ap, ◌∙◌}
 use Rattle.plain.specs.Step.{is_known}
 use Rattle.area_messages.proofs.is_known.Goals as goal

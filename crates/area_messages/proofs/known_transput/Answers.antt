@@ -1,5 +1,4 @@
 -- `area_messages::known_transput` meets its contract. Assumes nothing.
-use borrow.Author.Rules.{rules}
 use mathlib.Core.Path.{sym, ap, ◌∙◌}
 use Rattle.area_messages.specs.AreaMessages.{known_transput}
 use Rattle.area_messages.proofs.MessageLaws.{transput_by}

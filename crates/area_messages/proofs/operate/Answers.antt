@@ -1,5 +1,4 @@
 -- `area_messages::operate` meets its contract. Assumes nothing.
-use borrow.Author.Rules.{rules}
 use Rattle.area_messages.proofs.MessageLaws.{operate_low, operate_reserve, operate_stranger, operate_seated, operate_user}
 use Rattle.area_messages.proofs.operate.Goals as goal
 

@@ -1,5 +1,4 @@
 -- `area_messages::reserve_count` meets its contract. Assumes nothing.
-use borrow.Author.Rules.{rules}
 use mathlib.Core.Path.{sym, ap}
 use Rattle.area_messages.specs.AreaMessages.{reserve_word}
 use Rattle.area_messages.proofs.reserve_count.Goals as goal

@@ -1,5 +1,4 @@
 -- `area_messages::user_step` meets its contract. Assumes nothing.
-use borrow.Author.Rules.{rules}
 use Rattle.area_users.proofs.UserLaws.{seat_low}
 use Rattle.area_messages.proofs.MessageLaws.{step_release_lem, step_position_lem, step_sense, step_transput_lem, step_other}
 use Rattle.area_messages.proofs.user_step.Goals as goal

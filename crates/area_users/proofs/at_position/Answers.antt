@@ -1,5 +1,4 @@
 -- `area_users::at_position` meets its contract. Assumes nothing.
-use borrow.Author.Rules.{rules}
 use Rattle.area_users.proofs.at_position.Goals as goal
 
 pub returns : goal.returns

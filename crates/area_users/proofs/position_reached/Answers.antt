@@ -1,5 +1,4 @@
 -- `area_users::position_reached` meets its contract. Assumes nothing.
-use borrow.Author.Rules.{rules}
 use mathlib.Core.Path.{sym, ◌∙◌}
 use borrow.Author.Tests.{le-leb, lt-leb}
 use Rattle.area_users.proofs.position_reached.Goals as goal

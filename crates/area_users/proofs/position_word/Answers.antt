@@ -1,5 +1,4 @@
 -- `area_users::position_word` meets its contract. Assumes nothing.
-use borrow.Author.Rules.{rules}
 use mathlib.Core.Path.{sym, ◌∙◌}
 use borrow.Author.Tests.{le-leb, lt-leb}
 use Rattle.area_users.proofs.position_word.Goals as goal

@@ -1,5 +1,4 @@
 -- `area_users::refused_at` meets its contract. Assumes nothing.
-use borrow.Author.Rules.{rules}
 use Rattle.area_users.proofs.refused_at.Goals as goal
 
 pub returns : goal.returns

@@ -1,5 +1,4 @@
 -- `area_users::reserve` meets its contract. Assumes nothing.
-use borrow.Author.Rules.{rules}
 use Rattle.area_users.proofs.reserve.Goals as goal
 
 pub returns : goal.returns

@@ -1,5 +1,4 @@
 -- `area_users::transferred` meets its contract. Assumes nothing.
-use borrow.Author.Rules.{rules}
 use Rattle.area_users.proofs.transferred.Goals as goal
 
 pub returns : goal.returns

@@ -1,6 +1,5 @@
 -- `areas::book` meets its contract. Assumes nothing.
 use native.Mathlib.Omega.{arith}
-use borrow.Author.Rules.{rules}
 use Rattle.areas.proofs.BookLaws.{book_room, entry_length, slices_fit, reserved_fits, booked}
 use Rattle.areas.proofs.book.Goals as goal
 

@@ -1,6 +1,5 @@
 -- `areas::create_area` meets its contract. Assumes nothing.
 use mathlib.Core.Path.{sym, ◌∙◌}
-use borrow.Author.Rules.{rules}
 use Rattle.disc.specs.Names.{packed}
 use Rattle.lookup.proofs.UnitLaws.{searchable}
 use Rattle.lookup.proofs.FileLaws.{represented_on}

@@ -1,7 +1,6 @@
 -- `areas::remove_area` meets its contract. Assumes nothing.
 -- the name is not SYS's or MAP's
 use mathlib.Core.Path.{sym, ◌∙◌}
-use borrow.Author.Rules.{rules}
 use Rattle.disc.specs.Names.{packed}
 use Rattle.lookup.proofs.UnitLaws.{searchable}
 use Rattle.lookup.proofs.FileLaws.{represented_on}

@@ -1,5 +1,4 @@
 -- `blocks::attributes_of` meets its contract. Assumes nothing.
-use borrow.Author.Rules.{rules}
 use Rattle.blocks.proofs.BlockLaws.{attributes_none, attributes_some}
 use Rattle.blocks.proofs.attributes_of.Goals as goal
 

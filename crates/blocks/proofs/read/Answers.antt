@@ -1,5 +1,4 @@
 -- `blocks::read` meets its contract. Assumes nothing.
-use borrow.Author.Rules.{rules}
 use Rattle.blocks.proofs.BlockLaws.{sector_inside, block_read}
 use Rattle.blocks.proofs.read.Goals as goal
 

@@ -1,5 +1,4 @@
 -- `blocks::replace` meets its contract. Assumes nothing.
-use borrow.Author.Rules.{rules}
 use Rattle.blocks.proofs.BlockLaws.{sector_inside, block_replaced}
 use Rattle.blocks.proofs.replace.Goals as goal
 

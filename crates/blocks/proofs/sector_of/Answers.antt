@@ -1,5 +1,4 @@
 -- `blocks::sector_of` meets its contract. Assumes nothing.
-use borrow.Author.Rules.{rules}
 use Rattle.blocks.proofs.BlockLaws.{block_sector_of}
 use Rattle.blocks.proofs.sector_of.Goals as goal
 

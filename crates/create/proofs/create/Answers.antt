@@ -1,6 +1,5 @@
 -- `create::create` meets its contract. Assumes nothing.
 use mathlib.Core.Path.{refl}
-use borrow.Author.Rules.{rules}
 use Rattle.create.proofs.MessageLaws.{creates}
 use Rattle.create.proofs.create.Goals as goal
 

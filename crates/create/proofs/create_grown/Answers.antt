@@ -1,5 +1,4 @@
 -- `create::create_grown` meets its contract. Assumes nothing.
-use borrow.Author.Rules.{rules}
 use native.Mathlib.Omega.{arith}
 use Rattle.create.proofs.PlaceLaws.{asked_of, layers_fit, some_key, grow_refused, can_grow, grown_search, never_full, grown_write, grown_done}
 use Rattle.create.proofs.create_grown.Goals as goal

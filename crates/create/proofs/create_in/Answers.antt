@@ -1,5 +1,4 @@
 -- `create::create_in` meets its contract. Assumes nothing.
-use borrow.Author.Rules.{rules}
 use Rattle.create.proofs.PlaceLaws.{asked_of, place_refused, place_write, place_done}
 use Rattle.create.proofs.create_in.Goals as goal
 

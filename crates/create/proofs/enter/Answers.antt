@@ -1,5 +1,4 @@
 -- `create::enter` meets its contract. Assumes nothing.
-use borrow.Author.Rules.{rules}
 use Rattle.catalog.proofs.EntryLaws.{entry_whole}
 use Rattle.create.proofs.enter.Goals as goal
 

@@ -1,7 +1,6 @@
 -- `create::is_legal` meets its contract. Assumes nothing.
 use mathlib.Core.Path.{ap}
 use mathlib.Core.Bool.{not}
-use borrow.Author.Rules.{rules}
 use Rattle.create.proofs.LegalLaws.{name_illegal, size_illegal, attributes_illegal, bit_decides}
 use Rattle.create.proofs.is_legal.Goals as goal
 

@@ -2,7 +2,6 @@
 -- the lent words are words
 use mathlib.Core.Path.{ap}
 use mathlib.Core.Bool.{not}
-use borrow.Author.Rules.{rules}
 use native.Mathlib.Omega.{arith}
 use Rattle.disc.specs.Words.{Words}
 use Rattle.lookup.proofs.UnitLaws.{searchable}

@@ -1,6 +1,5 @@
 -- `create::set` meets its contract. Assumes nothing.
 use native.Mathlib.Omega.{arith}
-use borrow.Author.Rules.{rules}
 use Rattle.create.proofs.MessageLaws.{sets, sets_short}
 use Rattle.create.proofs.set.Goals as goal
 

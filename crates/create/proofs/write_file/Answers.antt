@@ -1,5 +1,4 @@
 -- `create::write_file` meets its contract. Assumes nothing.
-use borrow.Author.Rules.{rules}
 use native.Mathlib.Omega.{arith}
 use Rattle.create.proofs.FileLaws.{reserved_small, can-take, can_zero, can_enter, can_count, file_written}
 use Rattle.create.proofs.write_file.Goals as goal

@@ -1,5 +1,4 @@
 -- `export::area_of` meets its contract. Assumes nothing.
-use borrow.Author.Rules.{rules}
 use Rattle.export.proofs.area_of.Goals as goal
 
 pub returns : goal.returns

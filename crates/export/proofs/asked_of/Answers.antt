@@ -1,7 +1,6 @@
 -- `export::asked_of` meets its contract. Assumes nothing.
 -- the message that came in, seen from the place where its operation is read
 use mathlib.Core.Path.{ap, ◌∙◌}
-use borrow.Author.Rules.{rules}
 use Rattle.types.specs.declared.Operation.{Operation}
 use Rattle.types.specs.declared.Message.TheVariants.{AreaMessage}
 use Rattle.export.specs.declared.Asked.TheVariants as asked

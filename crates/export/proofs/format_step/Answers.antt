@@ -1,5 +1,4 @@
 -- `export::format_step` meets its contract. Assumes nothing.
-use borrow.Author.Rules.{rules}
 use denote.Struct.Laws as LL
 use Rattle.sound_users.proofs.ShapeLaws.{shaped}
 use Rattle.format.specs.contracts.Formatted as F

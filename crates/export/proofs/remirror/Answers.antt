@@ -1,5 +1,4 @@
 -- `export::remirror` meets its contract. Assumes nothing.
-use borrow.Author.Rules.{rules}
 use Rattle.export.proofs.remirror.Goals as goal
 
 pub returns : goal.returns

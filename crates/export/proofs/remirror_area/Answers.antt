@@ -1,5 +1,4 @@
 -- `export::remirror_area` meets its contract. Assumes nothing.
-use borrow.Author.Rules.{rules}
 use Rattle.export.proofs.remirror_area.Goals as goal
 
 pub returns : goal.returns

@@ -1,5 +1,4 @@
 -- `export::remirror_user` meets its contract. Assumes nothing.
-use borrow.Author.Rules.{rules}
 use Rattle.export.proofs.remirror_user.Goals as goal
 
 pub returns : goal.returns

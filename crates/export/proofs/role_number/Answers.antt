@@ -1,5 +1,4 @@
 -- `export::role_number` meets its contract. Assumes nothing.
-use borrow.Author.Rules.{rules}
 use borrow.Author.Tests.{lt-ltb, le-ltb}
 use Rattle.export.proofs.role_number.Goals as goal
 

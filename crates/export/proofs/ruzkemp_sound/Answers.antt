@@ -1,6 +1,5 @@
 -- `export::ruzkemp_sound` meets its contract. Assumes nothing.
 use mathlib.Core.Path.{subst}
-use borrow.Author.Rules.{rules}
 use Rattle.types.specs.declared.State.{State}
 use Rattle.disc.specs.Decide.{Decides}
 use Rattle.sound.specs.Sound.{SoundUnit}

@@ -1,5 +1,5 @@
 -- `export::set_word` meets its contract. Assumes nothing.
-use borrow.Author.Tests.{not-true, not-false, eq-eqb, ne_eqb}
+use borrow.Author.Tests.{eq-eqb, ne_eqb}
 use Rattle.export.proofs.set_word.Goals as goal
 
 pub returns-then-not-set : goal.returns-then-not-set

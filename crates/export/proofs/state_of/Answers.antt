@@ -1,5 +1,4 @@
 -- `export::state_of` meets its contract. Assumes nothing.
-use borrow.Author.Rules.{rules}
 use Rattle.export.proofs.state_of.Goals as goal
 
 pub returns : goal.returns

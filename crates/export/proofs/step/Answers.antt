@@ -1,6 +1,5 @@
 -- `export::step` meets its contract. Assumes nothing.
 use mathlib.Core.Path.{refl, sym, ◌∙◌}
-use borrow.Author.Rules.{rules}
 use denote.Struct.Laws as LL
 use Rattle.sound_users.proofs.ShapeLaws.{shaped}
 use Rattle.perform.specs.contracts.Outcome as O

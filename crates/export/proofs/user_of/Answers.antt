@@ -1,5 +1,4 @@
 -- `export::user_of` meets its contract. Assumes nothing.
-use borrow.Author.Rules.{rules}
 use Rattle.export.proofs.user_of.Goals as goal
 
 pub returns : goal.returns

@@ -5,8 +5,7 @@ use Prim.Native.Nat.{◌*◌}
 use native.Mathlib.Nat.{mul_comm}
 use native.Mathlib.Omega.{arith}
 use lib.ListN.{length, get_or}
-use borrow.Author.Rules.{rules}
-use Rattle.disc.proofs.DecideLaws.{fails, refutes, grants, decides_eq}
+use Rattle.disc.proofs.DecideLaws.{fails, decides_eq}
 use Rattle.format.specs.Format.{LentLimits}
 use Rattle.format.proofs.accepts.Goals as goal
 

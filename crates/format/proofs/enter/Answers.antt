@@ -1,5 +1,4 @@
 -- `format::enter` meets its contract. Assumes nothing.
-use borrow.Author.Rules.{rules}
 use Rattle.format.proofs.enter.Goals as goal
 
 pub returns : goal.returns

@@ -3,8 +3,6 @@
 use mathlib.Core.Path.{refl, ◌∙◌}
 use native.Mathlib.Omega.{arith}
 use lib.ListN.{get_or}
-use borrow.Author.Rules.{rules}
-use Rattle.disc.proofs.DecideLaws.{refutes, grants}
 use Rattle.format.specs.Format.{RecordLent, Formattable, lent_keys, lent_slice, lent_first, lent_sectors, not_lent, not_allowed, written}
 use Rattle.format.proofs.WriteLaws.{format_written_lem, length_written}
 use Rattle.format.proofs.format.Goals as goal

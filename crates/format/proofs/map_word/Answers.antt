@@ -1,6 +1,6 @@
 -- `format::map_word` meets its contract: after b turns the word is made of its first b bits. Assumes nothing.
 use mathlib.Core.Path.{◌≡◌}
-use Prim.Native.Nat.{◌+◌, ◌-◌, ◌*◌, ◌≤◌}
+use Prim.Native.Nat.{◌+◌, ◌*◌}
 use native.Mathlib.Omega.{arith}
 use Rattle.disc.specs.Stretches.{span}
 use Rattle.map.proofs.MapWordLaws.{free_bit}

@@ -1,9 +1,6 @@
-use mathlib.Core.Path.{◌≡◌}
-use Prim.Native.Nat.{◌+◌, ◌-◌, ◌*◌, ◌≤◌}
-use native.Mathlib.Omega.{arith}
+use Prim.Native.Nat.{◌-◌, ◌≤◌}
 use Rattle.disc.specs.Stretches.{span}
-use Rattle.map.proofs.MapWordLaws.{free_bit}
-use Rattle.format.proofs.MapLaws.{BitsDone, bits_none, bits_more, bits_fit, bits_done}
+use Rattle.format.proofs.MapLaws.{BitsDone}
 use Rattle.format.proofs.map_word.Given as goal
 
 abbrev pub invariant-loop-b : goal.invariant-loop-b

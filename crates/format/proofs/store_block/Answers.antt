@@ -1,5 +1,4 @@
 -- `format::store_block` meets its contract. Assumes nothing.
-use borrow.Author.Rules.{rules}
 use Rattle.format.proofs.BlockLaws.{block_stores}
 use Rattle.format.proofs.store_block.Goals as goal
 

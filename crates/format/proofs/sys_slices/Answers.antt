@@ -1,7 +1,6 @@
 -- `format::sys_slices` meets its contract: it is at most the number of sectors. Assumes nothing.
 use native.Mathlib.Nat.{le-mul_of_pos_right}
 use native.Mathlib.Omega.{arith}
-use borrow.Author.Rules.{rules}
 use Rattle.disc.proofs.NumberLaws.{ceil_div_le}
 use Rattle.format.proofs.sys_slices.Goals as goal
 

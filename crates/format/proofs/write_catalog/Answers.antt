@@ -6,7 +6,6 @@ use Rattle.disc.proofs.SliceLaws.{same_le}
 use Rattle.refine.proofs.Format.{sys_end}
 use Rattle.format.specs.Format.{lent_keys, lent_slice, lent_first, lent_sectors}
 use Rattle.format.proofs.WriteLaws.{part_fits, catalog_written, key_inside, key_sector_lem}
-use borrow.Author.Rules.{rules}
 use Rattle.format.proofs.write_catalog.Goals as goal
 
 pub overflow_mul-reserved : goal.overflow_mul-reserved

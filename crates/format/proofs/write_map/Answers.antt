@@ -1,13 +1,8 @@
 -- `format::write_map` meets its contract: after w turns the first w words of the map are stored. Assumes nothing.
-use mathlib.Core.Path.{◌≡◌, refl, ◌∙◌}
-use Prim.Native.Nat.{◌-◌, ◌*◌, ◌≤◌}
+use mathlib.Core.Path.{refl, ◌∙◌}
 use native.Mathlib.Omega.{arith}
-use lib.ListN.{length}
 use borrow.Author.Rules.{rules}
-use Rattle.disc.specs.Kit.{map_sector}
 use Rattle.disc.specs.Stretches.{span}
-use Rattle.words.specs.Store.{store}
-use Rattle.refine.specs.Format.{map_words}
 use Rattle.format.proofs.MapLaws.{map_none, map_more, map_done}
 use Rattle.format.proofs.write_map.Goals as goal
 

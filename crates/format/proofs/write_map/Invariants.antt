@@ -1,13 +1,10 @@
-use mathlib.Core.Path.{◌≡◌, refl, ◌∙◌}
+use mathlib.Core.Path.{◌≡◌}
 use Prim.Native.Nat.{◌-◌, ◌*◌, ◌≤◌}
-use native.Mathlib.Omega.{arith}
 use lib.ListN.{length}
-use borrow.Author.Rules.{rules}
 use Rattle.disc.specs.Kit.{map_sector}
 use Rattle.disc.specs.Stretches.{span}
 use Rattle.words.specs.Store.{store}
 use Rattle.refine.specs.Format.{map_words}
-use Rattle.format.proofs.MapLaws.{map_none, map_more, map_done}
 use Rattle.format.proofs.write_map.Given as goal
 
 abbrev pub invariant-loop-w : goal.invariant-loop-w

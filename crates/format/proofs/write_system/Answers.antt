@@ -3,7 +3,6 @@ use native.Mathlib.Omega.{arith}
 use lib.ListN.{get_or}
 use Rattle.format.specs.Format.{lent_keys, lent_slice, lent_first, lent_sectors}
 use Rattle.format.proofs.WriteLaws.{part_fits, system_written}
-use borrow.Author.Rules.{rules}
 use Rattle.format.proofs.write_system.Goals as goal
 
 pub overflow_mul-free : goal.overflow_mul-free

@@ -1,7 +1,6 @@
 -- `grow::add_layer` meets its contract. Assumes nothing.
 -- the function's entry, seen from the place where the index block is read
 use native.Mathlib.Omega.{arith}
-use borrow.Author.Rules.{rules}
 use Rattle.grow.proofs.BlockLaws.{slice_low_lem, had_small}
 use Rattle.grow.proofs.GrowLaws.{layers_small, from_small, more_is, more_small, can_lengthen, index_inside, can_zero, layer_added}
 use Rattle.grow.proofs.add_layer.Goals as goal

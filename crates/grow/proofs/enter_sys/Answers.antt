@@ -1,5 +1,4 @@
 -- `grow::enter_sys` meets its contract. Assumes nothing.
-use borrow.Author.Rules.{rules}
 use Rattle.grow.proofs.enter_sys.Goals as goal
 
 pub returns : goal.returns

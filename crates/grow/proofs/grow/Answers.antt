@@ -3,7 +3,6 @@
 use mathlib.Core.Path.{refl, ap}
 use Prim.Native.Nat.{ℕ, ◌*◌}
 use native.Mathlib.Omega.{arith}
-use borrow.Author.Rules.{rules}
 use Rattle.grow.proofs.GrowLaws.{layers_small, blocks_small, reserved_small, slices_small, never_nothing, place_inside, can_count, grown_from, grown_numbers}
 use Rattle.grow.proofs.grow.Goals as goal
 

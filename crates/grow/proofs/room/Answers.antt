@@ -2,7 +2,6 @@
 use mathlib.Core.Path.{ap}
 use mathlib.Core.Bool.{not}
 use native.Mathlib.Omega.{arith}
-use borrow.Author.Rules.{rules}
 use Rattle.grow.proofs.BlockLaws.{slice_low_lem, had_small}
 use Rattle.grow.proofs.RoomLaws.{for_small, answer_few, free_enough, can_fit, answer_no, answer_yes}
 use Rattle.grow.proofs.room.Goals as goal

@@ -7,7 +7,7 @@ use native.Mathlib.Omega.{arith}
 use mir.Facts.{Fits-widen}
 use Rattle.disc.specs.Words.{word}
 use Rattle.disc.specs.Kit.{kit_sector}
-use Rattle.disc.proofs.DecideLaws.{fails, refutes, grants, decides_eq}
+use Rattle.disc.proofs.DecideLaws.{fails, decides_eq}
 use Rattle.disc.specs.Kit.{Limits}
 use Rattle.kit.specs.declared.Geometry.{Geometry}
 use Rattle.kit.specs.Geometry.{UnitOf, GeometryOf}
@@ -16,7 +16,6 @@ use mathlib.Core.Path.{◌≡◌}
 use Prim.Native.Nat.{ℕ}
 use lib.ListN.{length}
 use Rattle.kit.proofs.KitLaws.{sound_unit, sound_kit, kit_top, kit_free, unit_long}
-use borrow.Author.Rules.{rules}
 use Rattle.kit.proofs.kit_sound.Goals as goal
 
 unit : {image : List ℕ} {g : Geometry} → GeometryOf image g → length image ≡ g.sectors * 256

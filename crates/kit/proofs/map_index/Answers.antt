@@ -4,7 +4,6 @@ use Rattle.disc.specs.Words.{word}
 use Rattle.disc.specs.Kit.{map_index_sector}
 use Rattle.disc.proofs.DecideLaws.{fails, decides_eq}
 use Rattle.kit.proofs.KitLaws.{holds_three}
-use borrow.Author.Rules.{rules}
 use Rattle.kit.proofs.map_index.Goals as goal
 
 pub returns-then-image-ne1 : goal.returns-then-image-ne1

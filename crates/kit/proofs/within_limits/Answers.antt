@@ -4,7 +4,6 @@ use native.Mathlib.Nat.{div-mul-le_self}
 use native.Mathlib.Omega.{arith}
 use Rattle.disc.proofs.DecideLaws.{fails, decides_le}
 use Rattle.kit.proofs.KitLaws.{product_whole, whole_product, enough, enough_only}
-use borrow.Author.Rules.{rules}
 use Rattle.kit.proofs.within_limits.Goals as goal
 
 pub returns-then-keys-eq0 : goal.returns-then-keys-eq0

@@ -1,7 +1,6 @@
 -- `lookup::find_name` meets its contract. Assumes nothing.
 use mathlib.Core.Path.{◌≡◌, refl, sym, ap, ◌∙◌}
 use mathlib.Core.Logic.{◌≢◌}
-use borrow.Author.Rules.{rules}
 use Rattle.catalog.specs.Catalog.{place_named}
 use Rattle.catalog.specs.declared.Catalog.{Catalog}
 use Rattle.catalog.proofs.ValueLaws.{is_value}

@@ -1,6 +1,5 @@
 -- `lookup::is_open` meets its contract. Assumes nothing.
 use mathlib.Core.Path.{sym, ap, ◌∙◌}
-use borrow.Author.Rules.{rules}
 use Rattle.lookup.specs.Files.{is_found}
 use Rattle.lookup.proofs.is_open.Goals as goal
 

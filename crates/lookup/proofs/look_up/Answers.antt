@@ -1,6 +1,5 @@
 -- `lookup::look_up` meets its contract. Assumes nothing.
 use native.Mathlib.Omega.{arith}
-use borrow.Author.Rules.{rules}
 use Rattle.lookup.proofs.UnitLaws.{searchable}
 use Rattle.lookup.proofs.FindLaws.{name_room}
 use Rattle.lookup.proofs.LookUpLaws.{looks_none, looks_short, looks_done}

@@ -1,12 +1,9 @@
 -- `marks::cleared` meets its contract. The loop's invariant: the sum is 0 exactly if the words passed are 0. Assumes nothing.
 use mathlib.Core.Path.{refl}
-use Prim.Native.Nat.{◌+◌, ◌-◌, ◌*◌, ◌≤◌}
+use Prim.Native.Nat.{◌+◌}
 use native.Mathlib.Omega.{arith}
 use mir.Facts.{Fits-widen}
-use borrow.Author.Rules.{rules}
-use Rattle.disc.specs.Words.{word}
-use Rattle.disc.specs.Kit.{map_sector}
-use Rattle.marks.proofs.WordTests.{ZeroIf, zero_none, zero_more, zero_cleared}
+use Rattle.marks.proofs.WordTests.{zero_none, zero_more, zero_cleared}
 use Rattle.marks.proofs.cleared.Goals as goal
 
 pub loop-w-init : goal.loop-w-init

@@ -1,11 +1,7 @@
-use mathlib.Core.Path.{refl}
-use Prim.Native.Nat.{◌+◌, ◌-◌, ◌*◌, ◌≤◌}
-use native.Mathlib.Omega.{arith}
-use mir.Facts.{Fits-widen}
-use borrow.Author.Rules.{rules}
+use Prim.Native.Nat.{◌-◌, ◌*◌, ◌≤◌}
 use Rattle.disc.specs.Words.{word}
 use Rattle.disc.specs.Kit.{map_sector}
-use Rattle.marks.proofs.WordTests.{ZeroIf, zero_none, zero_more, zero_cleared}
+use Rattle.marks.proofs.WordTests.{ZeroIf}
 use Rattle.marks.proofs.cleared.Given as goal
 
 abbrev pub invariant-loop-w : goal.invariant-loop-w

@@ -1,12 +1,10 @@
 -- `marks::filled` meets its contract. The loop's invariant: the words passed and their marks add up to FFFFh. Assumes nothing.
 use mathlib.Core.Path.{refl}
-use Prim.Native.Nat.{◌+◌, ◌-◌, ◌≤◌}
+use Prim.Native.Nat.{◌+◌}
 use native.Mathlib.Omega.{arith}
 use mir.Facts.{Fits-widen}
 use borrow.Author.Count.{below_none}
-use borrow.Author.Rules.{rules}
 use Rattle.disc.proofs.DecideLaws.{holds, fails}
-use Rattle.marks.specs.Packed.{Filled}
 use Rattle.marks.proofs.WordTests.{filled_more, filled_fails, filled_all}
 use Rattle.marks.proofs.filled.Goals as goal
 

@@ -1,9 +1,6 @@
 -- `marks::is_free` meets its contract: the sum of the marks passed is 0 exactly if they are free. Assumes nothing.
-use Prim.Native.Nat.{◌+◌, ◌-◌, ◌*◌, ◌≤◌}
 use native.Mathlib.Omega.{arith}
-use lib.ListN.{get_or}
-use borrow.Author.Rules.{rules}
-use Rattle.marks.proofs.WordTests.{ZeroIf, zero_none, zero_more, zero_free}
+use Rattle.marks.proofs.WordTests.{zero_none, zero_more, zero_free}
 use Rattle.marks.proofs.is_free.Goals as goal
 
 pub loop-n-init : goal.loop-n-init

@@ -1,8 +1,6 @@
 use Prim.Native.Nat.{◌+◌, ◌-◌, ◌*◌, ◌≤◌}
-use native.Mathlib.Omega.{arith}
 use lib.ListN.{get_or}
-use borrow.Author.Rules.{rules}
-use Rattle.marks.proofs.WordTests.{ZeroIf, zero_none, zero_more, zero_free}
+use Rattle.marks.proofs.WordTests.{ZeroIf}
 use Rattle.marks.proofs.is_free.Given as goal
 
 abbrev pub invariant-loop-n : goal.invariant-loop-n

@@ -1,10 +1,9 @@
 -- `marks::map_agrees` meets its contract: each test is what a map that agrees has. Assumes nothing.
-use mathlib.Core.Path.{◌≡◌, refl}
+use mathlib.Core.Path.{refl}
 use Prim.Native.Nat.{◌+◌, ◌*◌, ◌/◌, ◌≤◌}
 use native.Mathlib.Omega.{arith}
 use mir.Facts.{Fits-widen}
-use borrow.Author.Rules.{rules}
-use Rattle.disc.specs.Words.{word, Words}
+use Rattle.disc.specs.Words.{Words}
 use Rattle.disc.specs.Kit.{map_sector}
 use Rattle.disc.proofs.DecideLaws.{holds, fails}
 use Rattle.marks.proofs.AgreeLaws.{agree_filled, agree_edge, agree_full, agree_past}

@@ -9,7 +9,6 @@ use lib.ListN.{get_or}
 use Rattle.disc.proofs.Compare.{below_or}
 use Rattle.marks.specs.Marked.{RunMarking}
 use Rattle.marks.proofs.RunLaws.{four_refused, four_done}
-use borrow.Author.Rules.{rules}
 use Rattle.marks.proofs.mark_four.Goals as goal
 
 refused : (marks : List ℕ) (from count third : ℕ) → (2 ≤ count) × (count ≤ 4) × (from + count ≤ 4096)

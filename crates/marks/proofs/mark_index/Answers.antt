@@ -1,11 +1,8 @@
 -- `marks::mark_index` meets its contract. The loop's invariant: the pairs passed are legal, and their slices marked. Assumes nothing.
 use mathlib.Core.Path.{refl}
-use Prim.Native.Nat.{◌-◌, ◌+◌, ◌≤◌, ◌<◌}
 use native.Mathlib.Omega.{arith}
 use mir.Facts.{Fits-widen}
-use borrow.Author.Rules.{rules}
-use Rattle.disc.specs.Pairs.{pair_length, pair_start}
-use Rattle.marks.proofs.IndexMarks.{Passed, passed_none, passed_few, passed_more, refuse_index, count_is, index_inside, same_start, no_pair, mark_index}
+use Rattle.marks.proofs.IndexMarks.{passed_none, passed_few, passed_more, refuse_index, count_is, index_inside, same_start, no_pair, mark_index}
 use Rattle.marks.proofs.mark_index.Goals as goal
 
 pub bounds-image-at : goal.bounds-image-at

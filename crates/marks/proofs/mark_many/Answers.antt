@@ -1,7 +1,5 @@
 -- `marks::mark_many` meets its contract. Assumes nothing.
-use Rattle.disc.proofs.DecideLaws.{refutes, grants}
 use Rattle.marks.proofs.RunLaws.{run_refused, run_done}
-use borrow.Author.Rules.{rules}
 use Rattle.marks.proofs.mark_many.Goals as goal
 
 pub returns-then-not-is_free : goal.returns-then-not-is_free

@@ -1,6 +1,5 @@
 -- `marks::mark_one` meets its contract. Assumes nothing.
 use Rattle.marks.proofs.RunLaws.{one_refused, one_done}
-use borrow.Author.Rules.{rules}
 use Rattle.marks.proofs.mark_one.Goals as goal
 
 pub returns-then-marks-from-ne0 : goal.returns-then-marks-from-ne0

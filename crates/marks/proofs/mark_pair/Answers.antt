@@ -5,10 +5,7 @@ use mathlib.Core.List.{List}
 use Prim.Native.Nat.{ℕ, ◌+◌, ◌-◌, ◌*◌, ◌/◌, ◌≤◌}
 use native.Mathlib.Nat.{div-mul-le_self, div-le_self}
 use native.Mathlib.Omega.{arith}
-use borrow.Author.Rules.{rules}
-use borrow.Author.Tests.{not-true, not-false}
 use Rattle.disc.specs.Numbers.{slice_start}
-use Rattle.disc.proofs.DecideLaws.{refutes, grants}
 use Rattle.kit.proofs.KitLaws.{whole_product}
 use Rattle.marks.specs.Marked.{RunMarking}
 use Rattle.marks.proofs.PairLaws.{refuse_pair, some_count, past_unit, mark_pair}

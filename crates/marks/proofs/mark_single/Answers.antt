@@ -4,9 +4,7 @@ use mathlib.Core.Path.{◌≡◌, sym, ap, ◌∙◌}
 use Prim.Native.Nat.{ℕ, ◌+◌, ◌-◌, ◌*◌, ◌/◌, ◌≤◌, ◌<◌}
 use native.Mathlib.Nat.{mul-le-mul}
 use native.Mathlib.Omega.{arith}
-use borrow.Author.Rules.{rules}
 use Rattle.disc.specs.Numbers.{slice_start}
-use Rattle.disc.proofs.DecideLaws.{refutes, grants}
 use Rattle.disc.proofs.NumberLaws.{quotient_lt}
 use mathlib.Core.List.{List}
 use Rattle.kit.specs.declared.Geometry.{Geometry}

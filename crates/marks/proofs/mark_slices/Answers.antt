@@ -1,5 +1,4 @@
 -- `marks::mark_slices` meets its contract. Assumes nothing.
-use borrow.Author.Rules.{rules}
 use Rattle.marks.proofs.mark_slices.Goals as goal
 
 pub returns-then-count-eq1 : goal.returns-then-count-eq1

@@ -5,7 +5,6 @@ use native.Mathlib.Nat.{add-zero}
 use lib.ListN.{get_or}
 use Rattle.disc.specs.Pairs.{pair_start}
 use Rattle.disc.proofs.DecideLaws.{fails, decides_eq}
-use borrow.Author.Rules.{rules}
 use Rattle.marks.proofs.one_pair.Goals as goal
 
 pub returns-then-image-at-ne1 : goal.returns-then-image-at-ne1

@@ -1,9 +1,7 @@
 -- `marks::packed` meets its contract. The loop's invariant: the marks passed are packed. Assumes nothing.
 use mathlib.Core.Path.{◌≡◌, sym, ap, ap₂, ◌∙◌}
-use Prim.Native.Nat.{ℕ, ◌+◌, ◌-◌, ◌*◌, ◌^◌, ◌≤◌}
+use Prim.Native.Nat.{ℕ, ◌+◌, ◌*◌, ◌^◌}
 use native.Mathlib.Omega.{arith}
-use borrow.Author.Rules.{rules}
-use lib.ListN.{get_or}
 use Rattle.marks.specs.Packed.{packed}
 use Rattle.marks.proofs.PackedLaws.{packed_none, packed_more, packed_bound, packed_room}
 use Rattle.marks.proofs.packed.Goals as goal

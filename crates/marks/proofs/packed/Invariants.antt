@@ -1,10 +1,7 @@
-use mathlib.Core.Path.{◌≡◌, sym, ap, ap₂, ◌∙◌}
-use Prim.Native.Nat.{ℕ, ◌+◌, ◌-◌, ◌*◌, ◌^◌, ◌≤◌}
-use native.Mathlib.Omega.{arith}
-use borrow.Author.Rules.{rules}
+use mathlib.Core.Path.{◌≡◌}
+use Prim.Native.Nat.{◌+◌, ◌-◌, ◌*◌, ◌^◌, ◌≤◌}
 use lib.ListN.{get_or}
 use Rattle.marks.specs.Packed.{packed}
-use Rattle.marks.proofs.PackedLaws.{packed_none, packed_more, packed_bound, packed_room}
 use Rattle.marks.proofs.packed.Given as goal
 
 abbrev pub invariant-loop-i : goal.invariant-loop-i

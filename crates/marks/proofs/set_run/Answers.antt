@@ -1,8 +1,6 @@
 -- `marks::set_run` meets its contract: the slices passed are marked. Assumes nothing.
 use mathlib.Core.Path.{◌≡◌, ap, ◌∙◌}
-use Prim.Native.Nat.{◌-◌, ◌≤◌}
 use native.Mathlib.Omega.{arith}
-use borrow.Author.Rules.{rules}
 use Rattle.marks.specs.Marked.{run_marks}
 use Rattle.marks.proofs.RunLaws.{run_none, run_more}
 use Rattle.marks.proofs.set_run.Goals as goal

@@ -1,9 +1,6 @@
-use mathlib.Core.Path.{◌≡◌, ap, ◌∙◌}
+use mathlib.Core.Path.{◌≡◌}
 use Prim.Native.Nat.{◌-◌, ◌≤◌}
-use native.Mathlib.Omega.{arith}
-use borrow.Author.Rules.{rules}
 use Rattle.marks.specs.Marked.{run_marks}
-use Rattle.marks.proofs.RunLaws.{run_none, run_more}
 use Rattle.marks.proofs.set_run.Given as goal
 
 abbrev pub invariant-loop-n : goal.invariant-loop-n

@@ -1,5 +1,4 @@
 -- `output::extend` meets its contract. Assumes nothing.
-use borrow.Author.Rules.{rules}
 use Rattle.output.proofs.AppendLaws.{can_lengthen, can_count, extended_is, index_is}
 use Rattle.output.proofs.extend.Goals as goal
 

@@ -1,5 +1,4 @@
 -- `output::more_slices` meets its contract. Assumes nothing.
-use borrow.Author.Rules.{rules}
 use borrow.Author.Tests.{lt-ltb, le-ltb}
 use Rattle.output.proofs.more_slices.Goals as goal
 

@@ -1,6 +1,5 @@
 -- `output::output` meets its contract. Assumes nothing.
 -- the lent words are words
-use borrow.Author.Rules.{rules}
 use Rattle.disc.specs.Words.{Words}
 use Rattle.output.proofs.OutputLaws.{position_asks, outputs_refused, block_ready, outputs_stored}
 use Rattle.output.proofs.output.Goals as goal

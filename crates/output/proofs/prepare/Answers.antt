@@ -1,10 +1,8 @@
 -- `output::prepare` meets its contract. Assumes nothing.
 -- the file is extendable
-use borrow.Author.Rules.{rules}
 use mathlib.Core.Path.{◌≡◌, sym, ◌∙◌}
 use mathlib.Core.Bool.{true}
 use native.Mathlib.Omega.{arith}
-use borrow.Author.Tests.{not-true, not-false}
 use Rattle.disc.specs.Attributes.{extendable}
 use Rattle.area_users.specs.Seat.{area_users}
 use Rattle.output.proofs.OutputLaws.{searches, room_asks, position_asks, more_asks, prepares_below, prepares_fixed, prepares_full, can_extend, prepares_extended}

@@ -1,5 +1,4 @@
 -- `output::room_word` meets its contract. Assumes nothing.
-use borrow.Author.Rules.{rules}
 use mathlib.Core.Path.{sym, ap}
 use Rattle.slices.specs.Take.{next_word}
 use Rattle.output.proofs.FileLaws.{room_by_none, room_by}

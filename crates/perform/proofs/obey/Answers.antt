@@ -1,7 +1,6 @@
 -- `perform::obey` meets its contract: each message's own contract gives what the one call promises. Assumes nothing.
 -- the lent words are words
 use mathlib.Core.Path.{◌∙◌}
-use borrow.Author.Rules.{rules}
 use Rattle.disc.specs.Words.{Words}
 use Rattle.perform.proofs.ObeyLaws.{can_mean, can_mean_on, answer_obeys, init_obeyed, set_obeyed, create_obeyed, look_up_obeyed, change_obeyed, remove_obeyed, create_area_obeyed, remove_area_obeyed, area_message_obeyed, describe_obeyed, list_obeyed}
 use Rattle.perform.proofs.obey.Goals as goal

@@ -1,8 +1,6 @@
 -- `perform::perform` meets its contract: the first two questions, then the message. Assumes nothing.
 use mathlib.Core.Path.{refl, ap, ◌∙◌}
 use Prim.Native.Nat.{ℕ}
-use borrow.Author.Rules.{rules}
-use Rattle.disc.proofs.DecideLaws.{refutes, grants}
 use Rattle.plain.specs.Questions.{answer}
 use Rattle.soundness.proofs.TopLaws.{judged_sound, judged_unsound}
 use Rattle.refine.proofs.SoundRepresents.{sound_represents}

@@ -1,5 +1,4 @@
 -- `remove::drop_file` meets its contract. Assumes nothing.
-use borrow.Author.Rules.{rules}
 use Rattle.lookup.proofs.FileLaws.{closed_fits}
 use Rattle.remove.proofs.DropLaws.{drop_room, can_give_all, can_count, dropped}
 use Rattle.remove.proofs.drop_file.Goals as goal

@@ -1,6 +1,5 @@
 -- `remove::remove` meets its contract. Assumes nothing.
 use mathlib.Core.Path.{sym, ap, ◌∙◌}
-use borrow.Author.Rules.{rules}
 use Rattle.disc.specs.Numbers.{bit}
 use Rattle.disc.specs.Names.{packed}
 use Rattle.lookup.proofs.UnitLaws.{searchable}

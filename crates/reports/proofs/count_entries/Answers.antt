@@ -1,9 +1,6 @@
 -- `reports::count_entries` meets its contract: the entries in the first b blocks are counted. Assumes nothing.
 use mathlib.Core.Path.{◌≡◌}
-use Prim.Native.Nat.{◌-◌, ◌≤◌}
 use native.Mathlib.Omega.{arith}
-use borrow.Author.Rules.{rules}
-use Rattle.reports.specs.Listing.{block_records, CountOf}
 use Rattle.reports.proofs.TurnLaws.{slots_most, blocks_most, count_none, count_block}
 use Rattle.reports.proofs.count_entries.Goals as goal
 

@@ -1,9 +1,5 @@
-use mathlib.Core.Path.{◌≡◌}
 use Prim.Native.Nat.{◌-◌, ◌≤◌}
-use native.Mathlib.Omega.{arith}
-use borrow.Author.Rules.{rules}
 use Rattle.reports.specs.Listing.{block_records, CountOf}
-use Rattle.reports.proofs.TurnLaws.{slots_most, blocks_most, count_none, count_block}
 use Rattle.reports.proofs.count_entries.Given as goal
 
 abbrev pub invariant-loop-b : goal.invariant-loop-b

@@ -1,9 +1,6 @@
 -- `reports::count_slots` meets its contract: the entries in the first slots are counted. Assumes nothing.
 use mathlib.Core.Path.{◌≡◌}
-use mathlib.Core.Logic.{⊎_elim}
-use Prim.Native.Nat.{◌-◌, ◌≤◌}
 use native.Mathlib.Omega.{arith}
-use Rattle.reports.specs.Listing.{slot_records, CountOf}
 use Rattle.reports.proofs.TurnLaws.{slots_most, count_none, count_unused, count_used}
 use Rattle.reports.proofs.count_slots.Goals as goal
 use Rattle.reports.proofs.count_slots.Goals.{then-image-q-ne0, else-image-q-ne0}
@@ -48,9 +45,9 @@ loop-i-preserved c =
     let a = c.args in
     let n = c.loop-i.invariant.1 in
     elim c.if-image-q-ne0.branch [
-      then-image-q-ne0 w ↦ (omega arith, rw w.count-is (count_used a.image.now a.q.0 c.loop-i.i n w.if-image-q-ne0.true))
+      | then-image-q-ne0 w ↦ (omega arith, rw w.count-is (count_used a.image.now a.q.0 c.loop-i.i n w.if-image-q-ne0.true))
       | else-image-q-ne0 w ↦ (omega arith, rw w.count-is (count_unused a.image.now a.q.0 c.loop-i.i n w.if-image-q-ne0.false))
-      ]
+    ]
 
 pub returns : goal.returns
 returns c =

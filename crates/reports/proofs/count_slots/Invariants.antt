@@ -1,9 +1,5 @@
-use mathlib.Core.Path.{◌≡◌}
-use mathlib.Core.Logic.{⊎_elim}
 use Prim.Native.Nat.{◌-◌, ◌≤◌}
-use native.Mathlib.Omega.{arith}
 use Rattle.reports.specs.Listing.{slot_records, CountOf}
-use Rattle.reports.proofs.TurnLaws.{slots_most, count_none, count_unused, count_used}
 use Rattle.reports.proofs.count_slots.Given as goal
 
 abbrev pub invariant-loop-i : goal.invariant-loop-i

@@ -1,5 +1,4 @@
 -- `reports::describe` meets its contract. Assumes nothing.
-use borrow.Author.Rules.{rules}
 use Rattle.lookup.proofs.MeantLaws.{known_low}
 use Rattle.reports.proofs.DescriptionLaws.{describes_bytes, describes_short, describes_done}
 use Rattle.reports.proofs.describe.Goals as goal

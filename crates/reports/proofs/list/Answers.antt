@@ -1,6 +1,5 @@
 -- `reports::list` meets its contract. Assumes nothing.
 use native.Mathlib.Omega.{arith}
-use borrow.Author.Rules.{rules}
 use Rattle.reports.proofs.ListingLaws.{can_read, lists_short, lists_can, lists_done}
 use Rattle.reports.proofs.list.Goals as goal
 

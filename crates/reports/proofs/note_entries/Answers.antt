@@ -1,9 +1,7 @@
 -- `reports::note_entries` meets its contract: the records of the first b blocks are stored. Assumes nothing.
 use mathlib.Core.Path.{◌≡◌}
-use Prim.Native.Nat.{◌-◌, ◌≤◌}
 use native.Mathlib.Omega.{arith}
-use borrow.Author.Rules.{rules}
-use Rattle.reports.specs.Listing.{slot_records, catalog_sector, block_records, Noted}
+use Rattle.reports.specs.Listing.{slot_records, catalog_sector}
 use Rattle.reports.proofs.TurnLaws.{turn_room, turn_start, noted_turn, noted-length}
 use Rattle.reports.proofs.note_entries.Goals as goal
 

@@ -1,9 +1,5 @@
-use mathlib.Core.Path.{◌≡◌}
 use Prim.Native.Nat.{◌-◌, ◌≤◌}
-use native.Mathlib.Omega.{arith}
-use borrow.Author.Rules.{rules}
-use Rattle.reports.specs.Listing.{slot_records, catalog_sector, block_records, Noted}
-use Rattle.reports.proofs.TurnLaws.{turn_room, turn_start, noted_turn, noted-length}
+use Rattle.reports.specs.Listing.{block_records, Noted}
 use Rattle.reports.proofs.note_entries.Given as goal
 
 abbrev pub invariant-loop-b : goal.invariant-loop-b

@@ -3,7 +3,6 @@
 use Prim.Native.Nat.{◌+◌, ◌≤◌}
 use native.Mathlib.Omega.{arith}
 use lib.ListN.{length, length-set}
-use borrow.Author.Rules.{rules}
 use Rattle.reports.specs.Listing.{slot_start}
 use Rattle.reports.proofs.TurnLaws.{slot_none, slot-length, slot_noted, noted_none}
 use Rattle.reports.proofs.note_slot.Goals as goal

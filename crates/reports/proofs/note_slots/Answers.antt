@@ -1,8 +1,7 @@
 -- `reports::note_slots` meets its contract: the records of the first slots are stored. Assumes nothing.
 use mathlib.Core.Path.{◌≡◌}
-use Prim.Native.Nat.{◌-◌, ◌≤◌}
 use native.Mathlib.Omega.{arith}
-use Rattle.reports.specs.Listing.{slot_record, slot_records, Noted}
+use Rattle.reports.specs.Listing.{slot_record}
 use Rattle.reports.proofs.TurnLaws.{turn_room, turn_start, noted_turn, noted-length}
 use Rattle.reports.proofs.note_slots.Goals as goal
 

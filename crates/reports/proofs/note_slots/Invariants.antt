@@ -1,8 +1,5 @@
-use mathlib.Core.Path.{◌≡◌}
 use Prim.Native.Nat.{◌-◌, ◌≤◌}
-use native.Mathlib.Omega.{arith}
-use Rattle.reports.specs.Listing.{slot_record, slot_records, Noted}
-use Rattle.reports.proofs.TurnLaws.{turn_room, turn_start, noted_turn, noted-length}
+use Rattle.reports.specs.Listing.{slot_records, Noted}
 use Rattle.reports.proofs.note_slots.Given as goal
 
 abbrev pub invariant-loop-slot : goal.invariant-loop-slot

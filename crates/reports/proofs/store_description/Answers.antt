@@ -1,5 +1,4 @@
 -- `reports::store_description` meets its contract. Assumes nothing.
-use borrow.Author.Rules.{rules}
 use Rattle.reports.proofs.store_description.Goals as goal
 
 pub returns : goal.returns

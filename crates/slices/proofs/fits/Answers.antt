@@ -1,5 +1,4 @@
 -- `slices::fits` meets its contract: the copy's map is the image's, and after the catalog's turn that of the slices held with its new ones.
-use borrow.Author.Rules.{rules}
 use native.Mathlib.Omega.{arith}
 use Rattle.slices.proofs.FitLaws.{map_copied, can_first, first_full, can_second, second_fits}
 use Rattle.slices.proofs.fits.Goals as goal

@@ -1,16 +1,10 @@
 -- `slices::free_slices` meets its contract. The loop's invariant: freeing the slices from number j on, from the image now, is freeing all
 -- of them, and the walk along the block has not passed slice j. The measure is the number of slices left.
-use borrow.Author.Rules.{rules}
-use mathlib.Core.Path.{◌≡◌, refl, ap, ◌∙◌}
-use mathlib.Core.List.{List}
-use Prim.Native.Nat.{ℕ, ◌+◌, ◌-◌, ◌*◌, ◌/◌, ◌≤◌}
+use mathlib.Core.Path.{refl, ap, ◌∙◌}
+use Prim.Native.Nat.{ℕ, ◌+◌, ◌-◌, ◌/◌, ◌≤◌}
 use native.Mathlib.Omega.{arith}
 use native.Mathlib.Nat.{le_trans, mul-le-mul_left}
-use lib.ListN.{length, drop}
-use Rattle.map.specs.Marks.{all_free}
-use Rattle.index.specs.Along.{Along}
 use Rattle.index.proofs.AlongLaws.{along_start}
-use Rattle.slices.specs.Give.{CanFreeFrom, CanFree}
 use Rattle.slices.proofs.GiveLaws.{number_inside, give_next, give_done}
 use Rattle.slices.proofs.free_slices.Goals as goal
 

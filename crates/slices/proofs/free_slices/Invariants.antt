@@ -1,15 +1,10 @@
-use borrow.Author.Rules.{rules}
-use mathlib.Core.Path.{◌≡◌, refl, ap, ◌∙◌}
+use mathlib.Core.Path.{◌≡◌}
 use mathlib.Core.List.{List}
-use Prim.Native.Nat.{ℕ, ◌+◌, ◌-◌, ◌*◌, ◌/◌, ◌≤◌}
-use native.Mathlib.Omega.{arith}
-use native.Mathlib.Nat.{le_trans, mul-le-mul_left}
+use Prim.Native.Nat.{ℕ, ◌-◌, ◌*◌, ◌≤◌}
 use lib.ListN.{length, drop}
 use Rattle.map.specs.Marks.{all_free}
 use Rattle.index.specs.Along.{Along}
-use Rattle.index.proofs.AlongLaws.{along_start}
 use Rattle.slices.specs.Give.{CanFreeFrom, CanFree}
-use Rattle.slices.proofs.GiveLaws.{number_inside, give_next, give_done}
 use Rattle.slices.proofs.free_slices.Given as goal
 
 abbrev pub invariant-loop-j : goal.invariant-loop-j

@@ -1,5 +1,4 @@
 -- `slices::next_slice` meets its contract: the slice that the map offers is the one to take.
-use borrow.Author.Rules.{rules}
 use mathlib.Core.Path.{sym, ◌∙◌}
 use Rattle.disc.specs.Map.{map_bit}
 use Rattle.map.specs.Choice.{chosen}

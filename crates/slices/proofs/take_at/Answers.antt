@@ -1,5 +1,4 @@
 -- `slices::take_at` meets its contract.
-use borrow.Author.Rules.{rules}
 use native.Mathlib.Omega.{arith}
 use Rattle.slices.proofs.StoreLaws.{catalog_fresh, can-take, can-take_more, took_none, took_some, longer_words}
 use Rattle.slices.proofs.take_at.Goals as goal

@@ -1,7 +1,6 @@
 -- `slices::take_for_file` meets its contract: in the first two ways the file takes by 01's choice, in the third the first slice is that of
 -- the lowest stretch, and 01's choice goes on from it.
-use borrow.Author.Rules.{rules}
-use mathlib.Core.Path.{◌≡◌, sym, ◌∙◌}
+use mathlib.Core.Path.{◌≡◌, ◌∙◌}
 use Prim.Native.Nat.{◌≤◌}
 use native.Mathlib.Omega.{arith}
 use Rattle.index.specs.Block.{pair_count}

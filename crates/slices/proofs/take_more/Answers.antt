@@ -1,5 +1,4 @@
 -- `slices::take_more` meets its contract: the block goes into the first sector of the longer file.
-use borrow.Author.Rules.{rules}
 use mathlib.Core.Path.{ap, ◌∙◌}
 use mathlib.Core.List.{List}
 use Prim.Native.Nat.{ℕ}

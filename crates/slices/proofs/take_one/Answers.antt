@@ -1,12 +1,10 @@
 -- `slices::take_one` meets its contract: the next slice is marked and appended, or there is no room for it.
-use borrow.Author.Rules.{rules}
 use mathlib.Core.Path.{◌≡◌, sym, ◌∙◌}
 use mathlib.Core.List.{List}
 use Prim.Native.Nat.{ℕ}
 use native.Mathlib.Omega.{arith}
 use Rattle.disc.proofs.DecideLaws.{true≢false, fails}
 use Rattle.slices.specs.declared.Next.{Next}
-use Rattle.slices.specs.declared.Next.TheVariants.{At}
 use Rattle.slices.specs.Take.{CanTakeFrom, Chosen, next_of}
 use Rattle.slices.proofs.BlockLaws.{block-length}
 use Rattle.slices.proofs.TakeLaws.{can_fewer, can_fresh, inside, one_at, one_few, ready, took_one}

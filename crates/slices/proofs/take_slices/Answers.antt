@@ -1,6 +1,5 @@
 -- `slices::take_slices` meets its contract. The loop's invariant: what is left to take gives, from the image and the block now, what
 -- was to be taken. The measure is the number of slices left.
-use borrow.Author.Rules.{rules}
 use mathlib.Core.Path.{◌≡◌, refl, sym}
 use mathlib.Core.List.{List}
 use Prim.Native.Nat.{ℕ, suc, ◌+◌, ◌-◌, ◌<◌}

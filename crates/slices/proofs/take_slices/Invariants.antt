@@ -1,13 +1,9 @@
-use borrow.Author.Rules.{rules}
-use mathlib.Core.Path.{◌≡◌, refl, sym}
+use mathlib.Core.Path.{◌≡◌}
 use mathlib.Core.List.{List}
-use Prim.Native.Nat.{ℕ, suc, ◌+◌, ◌-◌, ◌≤◌}
-use native.Mathlib.Omega.{arith}
-use borrow.Author.Tests.{not-true, not-false}
+use Prim.Native.Nat.{ℕ, ◌-◌, ◌≤◌}
 use lib.ListN.{length}
-use Rattle.disc.proofs.DecideLaws.{true≢false, fails}
 use Rattle.slices.specs.Take.{CanTakeFrom, CanTake}
-use Rattle.slices.proofs.TakeLaws.{Left, left_start, left_one, left_next, left_full, left_done}
+use Rattle.slices.proofs.TakeLaws.{Left}
 use Rattle.slices.proofs.take_slices.Given as goal
 
 abbrev pub invariant-loop-j : goal.invariant-loop-j

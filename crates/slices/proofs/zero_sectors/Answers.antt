@@ -1,15 +1,10 @@
 -- `slices::zero_sectors` meets its contract. The loop's invariant: j sectors are zeroed, for every slice list that fits, and the walk along the
 -- block has not passed the next. The measure is the number of sectors left.
-use borrow.Author.Rules.{rules}
 use mathlib.Core.Path.{◌≡◌, refl, ap, ◌∙◌}
-use mathlib.Core.List.{List}
-use Prim.Native.Nat.{ℕ, ◌+◌, ◌-◌, ◌≤◌, ◌<◌}
+use Prim.Native.Nat.{◌<◌}
 use native.Mathlib.Omega.{arith}
-use lib.ListN.{length}
-use Rattle.index.specs.Along.{Along}
 use Rattle.index.proofs.AlongLaws.{along_start}
 use Rattle.refine.specs.Writes.{zeroed_sectors}
-use Rattle.slices.specs.Zero.{CanZeroFrom, CanZero}
 use Rattle.slices.proofs.ZeroLaws.{zero_none, zero_next, zero_inside}
 use Rattle.slices.proofs.zero_sectors.Goals as goal
 

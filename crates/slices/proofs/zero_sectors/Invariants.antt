@@ -1,14 +1,10 @@
-use borrow.Author.Rules.{rules}
-use mathlib.Core.Path.{◌≡◌, refl, ap, ◌∙◌}
+use mathlib.Core.Path.{◌≡◌}
 use mathlib.Core.List.{List}
-use Prim.Native.Nat.{ℕ, ◌+◌, ◌-◌, ◌≤◌, ◌<◌}
-use native.Mathlib.Omega.{arith}
+use Prim.Native.Nat.{ℕ, ◌+◌, ◌-◌, ◌≤◌}
 use lib.ListN.{length}
 use Rattle.index.specs.Along.{Along}
-use Rattle.index.proofs.AlongLaws.{along_start}
 use Rattle.refine.specs.Writes.{zeroed_sectors}
 use Rattle.slices.specs.Zero.{CanZeroFrom, CanZero}
-use Rattle.slices.proofs.ZeroLaws.{zero_none, zero_next, zero_inside}
 use Rattle.slices.proofs.zero_sectors.Given as goal
 
 abbrev pub invariant-loop-j : goal.invariant-loop-j

@@ -1,6 +1,6 @@
 -- `sound_entries::find_layers` meets its contract. Assumes nothing.
 -- the catalog that is searched
-use Rattle.std.proofs.Common.{◌≡◌, ℕ, ◌+◌, ◌-◌, ◌*◌, ◌/◌, refl, ap, ◌∙◌, div-mul-le_self, arith, rules}
+use Rattle.std.proofs.Common.{◌≡◌, ℕ, ◌+◌, ◌-◌, ◌*◌, ◌/◌, refl, ap, ◌∙◌, div-mul-le_self, arith}
 use Rattle.catalog.specs.declared.Catalog.{Catalog}
 use Rattle.catalog.specs.Catalog.{sys_value}
 use Rattle.sound_entries.specs.Names.{full_sys}

@@ -1,7 +1,7 @@
 -- `sound_entries::has_key` meets its contract: a sum that is so many times the number of keys, and the key, has the key as its rest.
 -- Assumes nothing.
 -- the key, by a quotient that shows it
-use Rattle.std.proofs.Common.{◌≡◌, ℕ, ◌+◌, ◌*◌, ◌/◌, ◌%◌, ◌<◌, ◌≤◌, sym, ap, ◌∙◌, mod-eq_of_lt, mul-le-mul, arith, rules}
+use Rattle.std.proofs.Common.{◌≡◌, ℕ, ◌+◌, ◌*◌, ◌/◌, ◌%◌, ◌<◌, ◌≤◌, sym, ap, ◌∙◌, mod-eq_of_lt, mul-le-mul, arith}
 use native.Mathlib.Nat.{mul-add-mod_self_right}
 use Rattle.disc.specs.Names.{pack, key_of}
 use Rattle.disc.proofs.DecideLaws.{holds, decides_eq}

@@ -1,5 +1,5 @@
 -- `sound_entries::holds_entry` meets its contract: the words before w agree. Assumes nothing.
-use Rattle.std.proofs.Common.{◌≡◌, ℕ, ◌+◌, ◌-◌, ◌<◌, ◌≤◌, get_or, arith, rules, below_more}
+use Rattle.std.proofs.Common.{arith, below_more}
 use Rattle.disc.proofs.DecideLaws.{holds, fails}
 use Rattle.sound_entries.proofs.holds_entry.Goals as goal
 

@@ -1,5 +1,4 @@
-use Rattle.std.proofs.Common.{◌≡◌, ℕ, ◌+◌, ◌-◌, ◌<◌, ◌≤◌, get_or, arith, rules, below_more}
-use Rattle.disc.proofs.DecideLaws.{holds, fails}
+use Rattle.std.proofs.Common.{◌≡◌, ℕ, ◌+◌, ◌-◌, ◌<◌, ◌≤◌, get_or}
 use Rattle.sound_entries.proofs.holds_entry.Given as goal
 
 abbrev pub invariant-loop-w : goal.invariant-loop-w

@@ -1,5 +1,5 @@
 -- `sound_entries::inverse` meets its contract; the inverse of 1, which is the greatest, fits. Assumes nothing.
-use Rattle.std.proofs.Common.{div-le_self, arith, rules}
+use Rattle.std.proofs.Common.{div-le_self, arith}
 use Rattle.sound_entries.proofs.inverse.Goals as goal
 
 pub overflow_add-result : goal.overflow_add-result

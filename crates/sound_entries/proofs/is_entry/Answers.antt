@@ -1,5 +1,4 @@
 -- `sound_entries::is_entry` meets its contract. Assumes nothing.
-use Rattle.std.proofs.Common.{rules}
 use Rattle.sound_entries.proofs.is_entry.Goals as goal
 
 pub returns : goal.returns

@@ -1,6 +1,6 @@
 -- `sound_entries::is_unused` meets its contract: no bit is gathered exactly if every word before w is 0. Assumes nothing.
 -- no bit of either
-use Rattle.std.proofs.Common.{◌≡◌, ℕ, ◌+◌, ◌-◌, ◌<◌, ◌≤◌, get_or, refl, ap₂, arith, rules, below_more, eqb-true}
+use Rattle.std.proofs.Common.{◌≡◌, ℕ, refl, ap₂, arith, below_more, eqb-true}
 use lib.Bits.{bit_or, or_add_and, and_le_l, and_le_r}
 use borrow.Author.Tests.{eqb-false}
 use Rattle.sound_entries.proofs.is_unused.Goals as goal

@@ -1,6 +1,4 @@
-use Rattle.std.proofs.Common.{◌≡◌, ℕ, ◌+◌, ◌-◌, ◌<◌, ◌≤◌, get_or, refl, ap₂, arith, rules, below_more, eqb-true}
-use lib.Bits.{bit_or, or_add_and, and_le_l, and_le_r}
-use borrow.Author.Tests.{eqb-false}
+use Rattle.std.proofs.Common.{◌≡◌, ℕ, ◌+◌, ◌-◌, ◌<◌, ◌≤◌, get_or}
 use Rattle.sound_entries.proofs.is_unused.Given as goal
 
 abbrev pub invariant-loop-w : goal.invariant-loop-w

@@ -1,5 +1,4 @@
 -- `sound_entries::named_legal` meets its contract. Assumes nothing.
-use Rattle.std.proofs.Common.{rules}
 use Rattle.disc.proofs.DecideLaws.{holds}
 use Rattle.sound_entries.proofs.PlaceLaws.{judged_sys, judged-map, other_name, ordinary}
 use Rattle.sound_entries.proofs.named_legal.Goals as goal

@@ -1,6 +1,5 @@
 -- `sound_entries::place_legal` meets its contract. Assumes nothing.
-use Rattle.std.proofs.Common.{rules}
-use Rattle.disc.proofs.DecideLaws.{fails, refutes, grants}
+use Rattle.disc.proofs.DecideLaws.{fails}
 use Rattle.sound_entries.proofs.PlaceLaws.{first_used, judged_unused, judged_name, judged_key, judged_rest}
 use Rattle.sound_entries.proofs.place_legal.Goals as goal
 

@@ -1,5 +1,5 @@
 -- `sound_entries::place_name` meets its contract. Assumes nothing.
-use Rattle.std.proofs.Common.{◌≡◌, ℕ, ◌+◌, ◌*◌, get_or, ap, arith, rules}
+use Rattle.std.proofs.Common.{◌≡◌, ℕ, ◌+◌, ◌*◌, get_or, ap, arith}
 use Rattle.sound_entries.proofs.place_name.Goals as goal
 
 pub returns : goal.returns

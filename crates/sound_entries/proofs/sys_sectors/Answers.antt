@@ -1,5 +1,5 @@
 -- `sound_entries::sys_sectors` meets its contract. Assumes nothing.
-use Rattle.std.proofs.Common.{◌≡◌, ◌*◌, length, ap, ◌∙◌, arith, rules}
+use Rattle.std.proofs.Common.{◌≡◌, ◌*◌, length, ap, ◌∙◌, arith}
 use Rattle.index.specs.Block.{sector_total}
 use Rattle.index.proofs.ReadLaws.{read_sectors}
 use Rattle.sound_entries.specs.Sys.{sys_slices}

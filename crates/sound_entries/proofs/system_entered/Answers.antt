@@ -1,6 +1,6 @@
 -- `sound_entries::system_entered` meets its contract. Assumes nothing.
 -- the places of all layers
-use Rattle.std.proofs.Common.{◌≡◌, ℕ, ◌*◌, ap, lit<, rules}
+use Rattle.std.proofs.Common.{◌≡◌, ℕ, ◌*◌, ap, lit<}
 use Rattle.disc.specs.Entries.{place_count}
 use Rattle.disc.proofs.DecideLaws.{holds, fails}
 use Rattle.sound_entries.proofs.FindLaws.{some_key}

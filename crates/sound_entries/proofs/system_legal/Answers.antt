@@ -1,5 +1,5 @@
 -- `sound_entries::system_legal` meets its contract: another first word is another name. Assumes nothing.
-use Rattle.std.proofs.Common.{arith, rules}
+use Rattle.std.proofs.Common.{arith}
 use Rattle.disc.proofs.DecideLaws.{holds}
 use Rattle.sound_entries.proofs.PlaceLaws.{ordinary, other_first}
 use Rattle.sound_entries.proofs.system_legal.Goals as goal

@@ -3,10 +3,9 @@ use mathlib.Core.Path.{ap}
 use Prim.Native.Nat.{ℕ, ◌/◌}
 use native.Mathlib.Nat.{div-mul-le_self}
 use native.Mathlib.Omega.{arith}
-use Rattle.disc.proofs.DecideLaws.{fails, refutes, grants}
+use Rattle.disc.proofs.DecideLaws.{fails}
 use Rattle.sound.specs.Places.{index_if}
 use Rattle.sound_files.proofs.FileLaws.{index_some, booked_own, booked_whole, booked_covered_lem, booked_decided}
-use borrow.Author.Rules.{rules}
 use Rattle.sound_files.proofs.booked_legal.Goals as goal
 
 pub overflow_mul-own : goal.overflow_mul-own

@@ -5,7 +5,6 @@ use Rattle.sound_files.specs.declared.Entry.{Entry}
 use Rattle.sound_files.specs.Live.{index_by}
 use Rattle.sound_files.specs.Rules.{entry_at}
 use Rattle.sound_files.proofs.FileLaws.{file_refused, file_judged}
-use borrow.Author.Rules.{rules}
 use Rattle.sound_files.proofs.file_sound.Goals as goal
 
 pub returns-then-not-found : goal.returns-then-not-found

@@ -1,10 +1,8 @@
 -- `sound_files::files_sound` meets its contract. Assumes nothing.
 use Rattle.state.proofs.ShapeLaws.{areas-length}
 use Rattle.sound_files.proofs.SoundLaws.{ordinary_known, files_marked}
-use borrow.Author.Tests.{not-true, not-false}
 use Rattle.disc.proofs.DecideLaws.{true≢false}
 use Rattle.marks.proofs.MarkLaws.{marks, refuses}
-use borrow.Author.Rules.{rules}
 use Rattle.sound_files.proofs.files_sound.Goals as goal
 
 pub stretches_sound-requires : goal.stretches_sound-requires

@@ -1,10 +1,9 @@
 -- `sound_files::fill_cells` meets its contract: the cells of the names passed are filled. Assumes nothing.
 use mathlib.Core.Path.{◌≡◌, ◌∙◌, subst}
-use Prim.Native.Nat.{ℕ, ◌-◌, ◌≤◌}
+use Prim.Native.Nat.{ℕ}
 use native.Mathlib.Omega.{arith}
-use lib.ListN.{length, length-set}
+use lib.ListN.{length-set}
 use borrow.Author.Count.{below_none}
-use borrow.Author.Rules.{rules}
 use Rattle.sound_files.specs.Live.{CellsOf}
 use Rattle.sound_files.proofs.PlainLaws.{cells_more}
 use Rattle.sound_files.proofs.fill_cells.Goals as goal

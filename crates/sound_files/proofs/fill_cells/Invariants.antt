@@ -1,11 +1,7 @@
-use mathlib.Core.Path.{◌≡◌, ◌∙◌, subst}
-use Prim.Native.Nat.{ℕ, ◌-◌, ◌≤◌}
-use native.Mathlib.Omega.{arith}
-use lib.ListN.{length, length-set}
-use borrow.Author.Count.{below_none}
-use borrow.Author.Rules.{rules}
+use mathlib.Core.Path.{◌≡◌}
+use Prim.Native.Nat.{◌-◌, ◌≤◌}
+use lib.ListN.{length}
 use Rattle.sound_files.specs.Live.{CellsOf}
-use Rattle.sound_files.proofs.PlainLaws.{cells_more}
 use Rattle.sound_files.proofs.fill_cells.Given as goal
 
 abbrev pub invariant-loop-j : goal.invariant-loop-j

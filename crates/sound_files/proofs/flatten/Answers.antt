@@ -1,11 +1,9 @@
 -- `sound_files::flatten` meets its contract: the descriptors before descriptor j are written. Assumes nothing.
 use mathlib.Core.Path.{refl}
-use Prim.Native.Nat.{◌-◌, ◌≤◌, ◌<◌}
+use Prim.Native.Nat.{◌<◌}
 use native.Mathlib.Omega.{arith}
-use borrow.Author.Rules.{rules}
-use Rattle.types.specs.State.{past_area}
 use Rattle.sound_files.specs.Live.{open_name}
-use Rattle.sound_files.proofs.LiveLaws.{Written, written_none, written_more}
+use Rattle.sound_files.proofs.LiveLaws.{written_none, written_more}
 use Rattle.sound_files.proofs.flatten.Goals as goal
 
 pub loop-j-init : goal.loop-j-init

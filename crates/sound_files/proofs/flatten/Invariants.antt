@@ -1,10 +1,7 @@
-use mathlib.Core.Path.{refl}
-use Prim.Native.Nat.{◌-◌, ◌≤◌, ◌<◌}
-use native.Mathlib.Omega.{arith}
-use borrow.Author.Rules.{rules}
+use Prim.Native.Nat.{◌-◌, ◌≤◌}
 use Rattle.types.specs.State.{past_area}
 use Rattle.sound_files.specs.Live.{open_name}
-use Rattle.sound_files.proofs.LiveLaws.{Written, written_none, written_more}
+use Rattle.sound_files.proofs.LiveLaws.{Written}
 use Rattle.sound_files.proofs.flatten.Given as goal
 
 abbrev pub invariant-loop-j : goal.invariant-loop-j

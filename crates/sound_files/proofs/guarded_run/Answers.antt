@@ -1,14 +1,12 @@
 -- `sound_files::guarded_run` meets its contract: the places before place i are legal if no area process of an unopened name is open, and
 -- their slices marked. Assumes nothing.
 use mathlib.Core.Path.{refl, sym, ap, ◌∙◌}
-use Prim.Native.Nat.{ℕ, ◌-◌, ◌≤◌}
+use Prim.Native.Nat.{ℕ}
 use native.Mathlib.Omega.{arith}
 use lib.ListN.{get_or}
-use borrow.Author.Rules.{rules}
-use borrow.Author.Tests.{not-true, not-false}
 use Rattle.sound_files.specs.Live.{name_cell}
 use Rattle.sound_files.specs.Walk.{places_from}
-use Rattle.sound_files.proofs.PlainLaws.{ClosedPassed, closed_none, closed_some, closed_more, closed_end}
+use Rattle.sound_files.proofs.PlainLaws.{closed_none, closed_some, closed_more, closed_end}
 use Rattle.sound_files.proofs.guarded_run.Goals as goal
 
 pub reciprocal-reciprocal-requires : goal.reciprocal-reciprocal-requires

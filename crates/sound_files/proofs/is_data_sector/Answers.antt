@@ -2,7 +2,6 @@
 use native.Mathlib.Omega.{arith}
 use borrow.Author.Tests.{ltb-true, ltb-false}
 use Rattle.disc.proofs.DecideLaws.{fails}
-use borrow.Author.Rules.{rules}
 use Rattle.sound_files.proofs.is_data_sector.Goals as goal
 
 pub returns-then-q-first : goal.returns-then-q-first

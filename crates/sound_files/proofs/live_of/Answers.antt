@@ -1,12 +1,9 @@
 -- `sound_files::live_of` meets its contract: the search from the start is the search from name j on. Assumes nothing.
 use lib.ListN.{get_or}
-use mathlib.Core.Path.{◌≡◌, sym, ◌∙◌}
-use Prim.Native.Nat.{◌-◌, ◌≤◌}
+use mathlib.Core.Path.{sym, ◌∙◌}
 use borrow.Author.Tests.{eqb-true, eqb-false}
 use native.Mathlib.Omega.{arith}
-use Rattle.sound_files.specs.Live.{live_in, live_from}
 use Rattle.sound_files.proofs.LiveLaws.{live_start, live_hit, live_miss, live_end}
-use borrow.Author.Rules.{rules}
 use Rattle.sound_files.proofs.live_of.Goals as goal
 
 pub loop-j-init : goal.loop-j-init

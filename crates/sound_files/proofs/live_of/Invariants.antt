@@ -1,11 +1,6 @@
-use lib.ListN.{get_or}
-use mathlib.Core.Path.{◌≡◌, sym, ◌∙◌}
+use mathlib.Core.Path.{◌≡◌}
 use Prim.Native.Nat.{◌-◌, ◌≤◌}
-use borrow.Author.Tests.{eqb-true, eqb-false}
-use native.Mathlib.Omega.{arith}
 use Rattle.sound_files.specs.Live.{live_in, live_from}
-use Rattle.sound_files.proofs.LiveLaws.{live_start, live_hit, live_miss, live_end}
-use borrow.Author.Rules.{rules}
 use Rattle.sound_files.proofs.live_of.Given as goal
 
 abbrev pub invariant-loop-j : goal.invariant-loop-j

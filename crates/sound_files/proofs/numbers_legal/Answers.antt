@@ -3,12 +3,10 @@ use mathlib.Core.Path.{sym, ◌∙◌, subst}
 use Prim.Native.Nat.{ℕ, ◌≤◌}
 use native.Mathlib.Nat.{mul-le-mul}
 use native.Mathlib.Omega.{arith}
-use borrow.Author.Tests.{not-true, not-false}
 use Rattle.disc.specs.Numbers.{need}
-use Rattle.disc.proofs.DecideLaws.{fails, refutes, grants}
+use Rattle.disc.proofs.DecideLaws.{fails}
 use Rattle.sound_entries.proofs.PlaceLaws.{T_of, T_not}
 use Rattle.sound_files.proofs.FileLaws.{numbers_open, numbers_closed}
-use borrow.Author.Rules.{rules}
 use Rattle.sound_files.proofs.numbers_legal.Goals as goal
 
 pub returns-then-not-legal : goal.returns-then-not-legal

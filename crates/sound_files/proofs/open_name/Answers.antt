@@ -2,7 +2,6 @@
 use mathlib.Core.Path.{sym, ap, ◌∙◌}
 use mathlib.Core.Bool.{Bool, cond}
 use Rattle.sound.specs.State.{area_name}
-use borrow.Author.Rules.{rules}
 use Rattle.sound_files.proofs.open_name.Goals as goal
 
 pub returns-then-is_open : goal.returns-then-is_open

@@ -1,9 +1,3 @@
-use mathlib.Core.Path.{ap, ◌∙◌}
-use Prim.Native.Nat.{ℕ, ◌-◌}
-use native.Mathlib.Omega.{arith}
-use lib.ListN.{get_or}
-use borrow.Author.Rules.{rules}
-use Rattle.disc.proofs.Compare.{same_or}
 use Rattle.sound_files.specs.Live.{OpenUpto}
 use Rattle.sound_files.proofs.open_upto.Given as goal
 

@@ -1,9 +1,7 @@
 -- `sound_files::own_index` meets its contract. Assumes nothing.
 use mathlib.Core.Path.{refl}
-use Rattle.disc.proofs.DecideLaws.{refutes, grants}
 use Rattle.marks.specs.Indexed.{of_file}
 use Rattle.sound_files.proofs.FileLaws.{own_none, own_outside, own_some}
-use borrow.Author.Rules.{rules}
 use Rattle.sound_files.proofs.own_index.Goals as goal
 
 pub returns-then-q-eq0 : goal.returns-then-q-eq0

@@ -1,6 +1,5 @@
 -- `sound_files::place_sound` meets its contract. Assumes nothing.
 use Rattle.sound_files.proofs.PlaceLaws.{place_unused_lem, place_system, place_file}
-use borrow.Author.Rules.{rules}
 use Rattle.sound_files.proofs.place_sound.Goals as goal
 
 pub returns-then-name-eq0 : goal.returns-then-name-eq0

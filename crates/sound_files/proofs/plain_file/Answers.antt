@@ -1,7 +1,5 @@
 -- `sound_files::plain_file` meets its contract. Assumes nothing.
-use Rattle.disc.proofs.DecideLaws.{grants}
 use Rattle.sound_files.proofs.PlainLaws.{closed_left, closed_marked}
-use borrow.Author.Rules.{rules}
 use Rattle.sound_files.proofs.plain_file.Goals as goal
 
 pub returns-then-not-plain_numbers : goal.returns-then-not-plain_numbers

@@ -2,7 +2,6 @@
 use mathlib.Core.Path.{sym, ◌∙◌}
 use native.Mathlib.Omega.{arith}
 use Rattle.disc.proofs.DecideLaws.{true≢false, fails}
-use borrow.Author.Rules.{rules}
 use Rattle.sound_files.proofs.plain_numbers.Goals as goal
 
 pub returns-then-entry : goal.returns-then-entry

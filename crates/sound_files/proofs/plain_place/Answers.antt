@@ -2,7 +2,6 @@
 use native.Mathlib.Omega.{arith}
 use borrow.Author.Tests.{eqb-true}
 use Rattle.sound_files.proofs.PlainLaws.{plain_unused, plain_used}
-use borrow.Author.Rules.{rules}
 use Rattle.sound_files.proofs.plain_place.Goals as goal
 
 pub returns-then-image-at : goal.returns-then-image-at

@@ -1,12 +1,9 @@
 -- `sound_files::plain_run` meets its contract: the places before place i are legal if no area process is open, and their slices marked.
 -- Assumes nothing.
 use mathlib.Core.Path.{refl}
-use Prim.Native.Nat.{◌-◌, ◌≤◌}
 use native.Mathlib.Omega.{arith}
-use borrow.Author.Rules.{rules}
-use borrow.Author.Tests.{not-true, not-false}
 use Rattle.sound_files.specs.Walk.{places_from}
-use Rattle.sound_files.proofs.PlainLaws.{ClosedPassed, closed_none, closed_some, closed_more, closed_end}
+use Rattle.sound_files.proofs.PlainLaws.{closed_none, closed_some, closed_more, closed_end}
 use Rattle.sound_files.proofs.plain_run.Goals as goal
 
 pub reciprocal-reciprocal-requires : goal.reciprocal-reciprocal-requires

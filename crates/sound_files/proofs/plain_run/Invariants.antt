@@ -1,10 +1,6 @@
-use mathlib.Core.Path.{refl}
 use Prim.Native.Nat.{◌-◌, ◌≤◌}
-use native.Mathlib.Omega.{arith}
-use borrow.Author.Rules.{rules}
-use borrow.Author.Tests.{not-true, not-false}
 use Rattle.sound_files.specs.Walk.{places_from}
-use Rattle.sound_files.proofs.PlainLaws.{ClosedPassed, closed_none, closed_some, closed_more, closed_end}
+use Rattle.sound_files.proofs.PlainLaws.{ClosedPassed}
 use Rattle.sound_files.proofs.plain_run.Given as goal
 
 abbrev pub invariant-loop-i : goal.invariant-loop-i

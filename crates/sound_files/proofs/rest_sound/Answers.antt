@@ -1,8 +1,6 @@
 -- `sound_files::rest_sound` meets its contract: the places before place i are legal, and their slices marked. Assumes nothing.
-use Prim.Native.Nat.{ℕ, ◌+◌, ◌*◌, ◌-◌, ◌≤◌}
+use Prim.Native.Nat.{ℕ, ◌+◌, ◌*◌}
 use native.Mathlib.Omega.{arith}
-use borrow.Author.Rules.{rules}
-use borrow.Author.Tests.{not-true, not-false}
 use Rattle.sound_files.specs.declared.Live.{Live}
 use Rattle.sound_files.specs.Live.{live_in}
 use Rattle.sound_files.specs.Walk.{places_from}

@@ -1,12 +1,7 @@
-use Prim.Native.Nat.{ℕ, ◌+◌, ◌*◌, ◌-◌, ◌≤◌}
-use native.Mathlib.Omega.{arith}
-use borrow.Author.Rules.{rules}
-use borrow.Author.Tests.{not-true, not-false}
-use Rattle.sound_files.specs.declared.Live.{Live}
+use Prim.Native.Nat.{◌-◌, ◌≤◌}
 use Rattle.sound_files.specs.Live.{live_in}
 use Rattle.sound_files.specs.Walk.{places_from}
-use Rattle.sound_files.proofs.WalkLaws.{PlacesPassed, places_none, places_some, place_more, place_stop, places_all}
-use Rattle.sound_files.proofs.PlainLaws.{live_cell, plain_more, places_on, ordinary_on}
+use Rattle.sound_files.proofs.WalkLaws.{PlacesPassed}
 use Rattle.sound_files.proofs.rest_sound.Given as goal
 
 abbrev pub invariant-loop-i : goal.invariant-loop-i

@@ -6,7 +6,6 @@ use Rattle.sound_files.specs.Live.{live_in}
 use Rattle.sound_files.specs.Walk.{places_from}
 use Rattle.sound_files.proofs.WalkLaws.{PlacesPassed, places_some}
 use Rattle.sound_files.proofs.PlainLaws.{live_cell, places_passed, places_then, places_on, ordinary_on}
-use borrow.Author.Rules.{rules}
 use Rattle.sound_files.proofs.run_sound.Goals as goal
 
 pub rest_sound-requires : goal.rest_sound-requires

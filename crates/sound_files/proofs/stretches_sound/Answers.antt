@@ -2,12 +2,8 @@
 -- blocks are those of the pairs before pair j. Assumes nothing.
 use mathlib.Core.Path.{◌≡◌, refl, sym, ap, subst}
 use mathlib.Core.List.{List}
-use Prim.Native.Nat.{ℕ, ◌+◌, ◌*◌, ◌-◌, ◌≤◌, ◌<◌}
+use Prim.Native.Nat.{ℕ, ◌+◌, ◌*◌, ◌<◌}
 use native.Mathlib.Omega.{arith}
-use borrow.Author.Rules.{rules}
-use borrow.Author.Tests.{not-true, not-false}
-use Rattle.disc.specs.Words.{word}
-use Rattle.disc.proofs.WalkLaws.{sectors_before}
 use Rattle.catalog.specs.declared.Catalog.{Catalog}
 use Rattle.kit.specs.declared.Geometry.{Geometry}
 use Rattle.sound_entries.specs.Sys.{places_in}

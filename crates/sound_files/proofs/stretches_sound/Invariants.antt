@@ -1,20 +1,10 @@
-use mathlib.Core.Path.{◌≡◌, refl, sym, ap, subst}
-use mathlib.Core.List.{List}
-use Prim.Native.Nat.{ℕ, ◌+◌, ◌*◌, ◌-◌, ◌≤◌, ◌<◌}
-use native.Mathlib.Omega.{arith}
-use borrow.Author.Rules.{rules}
-use borrow.Author.Tests.{not-true, not-false}
+use mathlib.Core.Path.{◌≡◌}
+use Prim.Native.Nat.{◌*◌, ◌-◌, ◌≤◌, ◌<◌}
 use Rattle.disc.specs.Words.{word}
 use Rattle.disc.proofs.WalkLaws.{sectors_before}
-use Rattle.catalog.specs.declared.Catalog.{Catalog}
-use Rattle.kit.specs.declared.Geometry.{Geometry}
 use Rattle.sound_entries.specs.Sys.{places_in}
-use Rattle.sound_entries.proofs.SysLaws.{Turn, turn, sys_small}
-use Rattle.sound_files.specs.declared.Live.{Live}
 use Rattle.sound_files.specs.Live.{live_in}
-use Rattle.sound_files.specs.Walk.{places_from, SysKnown, OrdinaryPlace, OrdinaryPlaces}
-use Rattle.sound_files.proofs.WalkLaws.{PlacesPassed, places_none, places_some, places_more, places_stop, places_all}
-use Rattle.sound_files.proofs.SysLaws.{known_sys, some_sys, turn_places}
+use Rattle.sound_files.proofs.WalkLaws.{PlacesPassed}
 use Rattle.sound_files.proofs.stretches_sound.Given as goal
 
 abbrev pub invariant-loop-b : goal.invariant-loop-b

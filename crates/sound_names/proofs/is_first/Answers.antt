@@ -1,6 +1,5 @@
 -- `sound_names::is_first` meets its contract. Assumes nothing.
 use borrow.Author.Tests.{eqb-true, eqb-false}
-use borrow.Author.Rules.{rules}
 use Rattle.disc.proofs.DecideLaws.{fails}
 use Rattle.sound_entries.proofs.FindLaws.{some_key}
 use Rattle.sound_names.proofs.AloneLaws.{found_some, found_here, found_before}

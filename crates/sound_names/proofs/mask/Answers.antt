@@ -6,7 +6,6 @@ use native.Mathlib.Nat.{one-mul}
 use native.Mathlib.Omega.{arith}
 use lib.Bits.{bit_or}
 use lib.Pow.{shl_exact}
-use borrow.Author.Rules.{rules}
 use Rattle.sound_names.specs.Filter.{mask_by}
 use Rattle.sound_names.proofs.mask.Goals as goal
 

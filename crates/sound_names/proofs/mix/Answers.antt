@@ -1,6 +1,5 @@
 -- `sound_names::mix` meets its contract. Assumes nothing.
 use native.Mathlib.Omega.{arith}
-use borrow.Author.Rules.{rules}
 use Rattle.sound_names.proofs.FilterLaws.{mixed_words}
 use Rattle.sound_names.proofs.mix.Goals as goal
 

@@ -3,7 +3,6 @@
 use mathlib.Core.Path.{◌≡◌, refl, ap}
 use native.Mathlib.Omega.{arith}
 use Rattle.disc.specs.Kit.{sys_index_sector}
-use Rattle.disc.proofs.DecideLaws.{grants}
 use Rattle.catalog.specs.declared.Catalog.{Catalog}
 use Rattle.sound_entries.proofs.SysLaws.{sys_small}
 use Rattle.sound_names.proofs.SoundLaws.{not_sound, judged_entered}

@@ -1,5 +1,4 @@
 -- `sound_names::note` meets its contract. Assumes nothing.
-use borrow.Author.Rules.{rules}
 use Rattle.sound_names.proofs.FilterLaws.{noted}
 use Rattle.sound_names.proofs.note.Goals as goal
 

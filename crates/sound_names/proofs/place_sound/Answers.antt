@@ -12,7 +12,6 @@ use Rattle.kit.specs.declared.Geometry.{Geometry}
 use Rattle.sound_entries.specs.declared.Expected.{Expected}
 use Rattle.sound_entries.specs.Legal.{Judging}
 use Rattle.sound_entries.specs.Legal.{sector_places}
-use borrow.Author.Rules.{rules}
 use Rattle.disc.specs.Decide.{Decides}
 use Rattle.sound_entries.specs.Legal.{NameIn, PlaceLegal, own_entry}
 use Rattle.sound_entries.specs.Sys.{sys_slices, places_in}

@@ -1,5 +1,4 @@
 -- `sound_names::places_sound` meets its contract. Assumes nothing.
-use borrow.Author.Rules.{rules}
 use Rattle.sound_names.proofs.places_sound.Goals as goal
 
 pub returns : goal.returns

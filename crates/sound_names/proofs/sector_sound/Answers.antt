@@ -1,10 +1,5 @@
 -- `sound_names::sector_sound` meets its contract: the places before place i of the block have passed. Assumes nothing.
-use Prim.Native.Nat.{◌+◌, ◌*◌, ◌-◌, ◌≤◌}
 use native.Mathlib.Omega.{arith}
-use borrow.Author.Rules.{rules}
-use Rattle.sound_entries.specs.Legal.{own_entry}
-use Rattle.sound_entries.specs.Sys.{places_in}
-use Rattle.sound_names.specs.Scan.{Passed}
 use Rattle.sound_names.proofs.AloneLaws.{passed_at, scanned, refused, granted}
 use Rattle.sound_names.proofs.sector_sound.Goals as goal
 

@@ -1,15 +1,11 @@
 -- `sound_names::stretch_sound` meets its contract: the places before the c-th of the blocks have passed, and `key` is the key of that block.
 -- Assumes nothing.
-use mathlib.Core.Path.{◌≡◌, sym, ap}
-use Prim.Native.Nat.{ℕ, ◌+◌, ◌*◌, ◌-◌, ◌%◌, ◌≤◌}
+use mathlib.Core.Path.{sym, ap}
+use Prim.Native.Nat.{ℕ, ◌+◌, ◌%◌}
 use native.Mathlib.Nat.{mod-lt, add-zero}
 use native.Mathlib.Omega.{arith}
-use borrow.Author.Rules.{rules}
-use Rattle.sound_entries.specs.Legal.{own_entry}
-use Rattle.sound_entries.specs.Sys.{places_in}
 use Rattle.sound_entries.proofs.SysLaws.{sys_small}
 use Rattle.sound_entries.proofs.BlockLaws.{key_next}
-use Rattle.sound_names.specs.Scan.{Passed}
 use Rattle.sound_names.proofs.AloneLaws.{passed_at, scanned, refused, granted, in_slices, fewer}
 use Rattle.sound_names.proofs.stretch_sound.Goals as goal
 

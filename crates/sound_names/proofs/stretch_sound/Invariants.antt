@@ -1,14 +1,8 @@
-use mathlib.Core.Path.{◌≡◌, sym, ap}
-use Prim.Native.Nat.{ℕ, ◌+◌, ◌*◌, ◌-◌, ◌%◌, ◌≤◌}
-use native.Mathlib.Nat.{mod-lt, add-zero}
-use native.Mathlib.Omega.{arith}
-use borrow.Author.Rules.{rules}
+use mathlib.Core.Path.{◌≡◌}
+use Prim.Native.Nat.{◌+◌, ◌*◌, ◌-◌, ◌%◌, ◌≤◌}
 use Rattle.sound_entries.specs.Legal.{own_entry}
 use Rattle.sound_entries.specs.Sys.{places_in}
-use Rattle.sound_entries.proofs.SysLaws.{sys_small}
-use Rattle.sound_entries.proofs.BlockLaws.{key_next}
 use Rattle.sound_names.specs.Scan.{Passed}
-use Rattle.sound_names.proofs.AloneLaws.{passed_at, scanned, refused, granted, in_slices, fewer}
 use Rattle.sound_names.proofs.stretch_sound.Given as goal
 
 abbrev pub invariant-loop-c : goal.invariant-loop-c

@@ -1,16 +1,9 @@
 -- `sound_names::stretches_sound` meets its contract: the places before block b have passed, and the blocks before it are those of the pairs
 -- before pair j. Assumes nothing.
-use mathlib.Core.Path.{◌≡◌, refl, ap}
-use Prim.Native.Nat.{◌*◌, ◌-◌, ◌≤◌, ◌<◌}
+use mathlib.Core.Path.{refl, ap}
 use native.Mathlib.Omega.{arith}
-use borrow.Author.Rules.{rules}
-use Rattle.disc.specs.Words.{word}
-use Rattle.disc.proofs.WalkLaws.{sectors_before}
 use Rattle.catalog.specs.declared.Catalog.{Catalog}
-use Rattle.sound_entries.specs.Legal.{own_entry}
-use Rattle.sound_entries.specs.Sys.{places_in}
-use Rattle.sound_entries.proofs.SysLaws.{Turn, turn, sys_small}
-use Rattle.sound_names.specs.Scan.{Passed}
+use Rattle.sound_entries.proofs.SysLaws.{turn, sys_small}
 use Rattle.sound_names.proofs.AloneLaws.{passed_none, passed_at, scanned, refused, granted, in_slices, fewer}
 use Rattle.sound_names.proofs.stretches_sound.Goals as goal
 

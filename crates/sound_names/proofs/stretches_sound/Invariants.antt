@@ -1,15 +1,10 @@
-use mathlib.Core.Path.{◌≡◌, refl, ap}
+use mathlib.Core.Path.{◌≡◌}
 use Prim.Native.Nat.{◌*◌, ◌-◌, ◌≤◌, ◌<◌}
-use native.Mathlib.Omega.{arith}
-use borrow.Author.Rules.{rules}
 use Rattle.disc.specs.Words.{word}
 use Rattle.disc.proofs.WalkLaws.{sectors_before}
-use Rattle.catalog.specs.declared.Catalog.{Catalog}
 use Rattle.sound_entries.specs.Legal.{own_entry}
 use Rattle.sound_entries.specs.Sys.{places_in}
-use Rattle.sound_entries.proofs.SysLaws.{Turn, turn, sys_small}
 use Rattle.sound_names.specs.Scan.{Passed}
-use Rattle.sound_names.proofs.AloneLaws.{passed_none, passed_at, scanned, refused, granted, in_slices, fewer}
 use Rattle.sound_names.proofs.stretches_sound.Given as goal
 
 abbrev pub invariant-loop-b : goal.invariant-loop-b

@@ -1,15 +1,12 @@
 -- `soundness::areas_entered` meets its contract. The invariant: the name of each open descriptor before j is entered. Assumes
 -- nothing.
 use mathlib.Core.Path.{sym, ◌∙◌}
-use mathlib.Core.Logic.{⊎_elim}
-use Prim.Native.Nat.{ℕ, ◌-◌, ◌≤◌, ◌<◌}
 use native.Mathlib.Omega.{arith}
 use borrow.Author.Count.{below_more}
-use borrow.Author.Rules.{rules}
 use Rattle.types.specs.State.{area_at, IsOpen}
 use Rattle.sound.specs.State.{area_name}
 use Rattle.disc.specs.Entries.{place_count}
-use Rattle.disc.proofs.DecideLaws.{holds, fails, refutes, grants, true≢false}
+use Rattle.disc.proofs.DecideLaws.{holds, fails, true≢false}
 use Rattle.sound_entries.specs.Sys.{places_in}
 use Rattle.soundness.specs.Areas.{OrdinaryEntered}
 use Rattle.soundness.proofs.areas_entered.Goals as goal

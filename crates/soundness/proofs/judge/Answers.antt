@@ -1,7 +1,6 @@
 -- `soundness::judge` meets its contract: the answers of the steps are joined. Assumes nothing.
 use mathlib.Core.Path.{refl}
 use native.Mathlib.Omega.{arith}
-use borrow.Author.Rules.{rules}
 use Rattle.disc.specs.Decide.{Decides}
 use Rattle.sound.specs.Sound.{SoundUnit}
 use Rattle.kit.specs.Geometry.{SoundByKit}

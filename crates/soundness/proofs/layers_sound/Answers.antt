@@ -1,8 +1,7 @@
 -- `soundness::layers_sound` meets its contract. Assumes nothing.
 use mathlib.Core.Path.{ap}
 use mathlib.Core.Bool.{not}
-use borrow.Author.Tests.{not-false}
-use Rattle.disc.proofs.DecideLaws.{fails, refutes, grants}
+use Rattle.disc.proofs.DecideLaws.{fails}
 use Rattle.sound_entries.specs.Sys.{SysIn}
 use Rattle.sound_files.proofs.SysLaws.{known_sys}
 use Rattle.soundness.proofs.LayerLaws.{names_known, files_refused, map_decides}

@@ -1,6 +1,6 @@
 -- `soundness::mark_sys` meets its contract. Assumes nothing.
-use mathlib.Core.Path.{refl}
 use mathlib.Core.List.{[]}
+use mathlib.Core.Path.{refl}
 use borrow.Author.Tests.{not-true, not-false}
 use Rattle.marks.specs.Indexed.{of_sys}
 use Rattle.soundness.proofs.SysLaws.{sys_refused_lem, sys_of_lem, sys_elsewhere, sys_layers_lem}

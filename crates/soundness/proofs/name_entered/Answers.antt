@@ -1,7 +1,6 @@
 -- `soundness::name_entered` meets its contract. Assumes nothing.
 use mathlib.Core.Path.{sym, ◌∙◌}
 use native.Mathlib.Omega.{arith}
-use borrow.Author.Rules.{rules}
 use Rattle.disc.proofs.DecideLaws.{holds, fails}
 use Rattle.sound_entries.proofs.PlaceLaws.{T_of, T_not}
 use Rattle.sound_entries.proofs.FindLaws.{some_key}

@@ -1,5 +1,4 @@
 -- `soundness::sound` meets its contract. Assumes nothing.
-use borrow.Author.Rules.{rules}
 use Rattle.disc.proofs.DecideLaws.{holds, fails}
 use Rattle.soundness.proofs.TopLaws.{judged_sound, judged_unsound}
 use Rattle.soundness.proofs.sound.Goals as goal

@@ -1,5 +1,4 @@
 -- `transput::end_word` meets its contract. Assumes nothing.
-use borrow.Author.Rules.{rules}
 use mathlib.Core.Path.{sym, ◌∙◌}
 use Rattle.plain.proofs.TransputLaws.{end_extendable, end_fixed}
 use Rattle.transput.proofs.end_word.Goals as goal

@@ -1,5 +1,4 @@
 -- `transput::input` meets its contract. Assumes nothing.
-use borrow.Author.Rules.{rules}
 use Rattle.output.proofs.OutputLaws.{searches, position_asks, block_there}
 use Rattle.transput.proofs.TransputLaws.{inputs_refused, inputs_handed}
 use Rattle.transput.proofs.input.Goals as goal

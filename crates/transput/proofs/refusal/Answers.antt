@@ -1,7 +1,5 @@
 -- `transput::refusal` meets its contract. Assumes nothing.
-use borrow.Author.Rules.{rules}
 use mathlib.Core.Path.{sym, ap, ◌∙◌}
-use borrow.Author.Tests.{not-true, not-false}
 use Rattle.disc.specs.Attributes.{write_protected}
 use Rattle.blocks.proofs.BlockLaws.{file_attributes}
 use Rattle.transput.proofs.TransputLaws.{word_bytes, word_short, word_input, word_writer, word_protected, word_output}

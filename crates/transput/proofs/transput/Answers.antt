@@ -1,9 +1,7 @@
 -- `transput::transput` meets its contract. Assumes nothing.
 -- the sender's own position, and Position first
-use borrow.Author.Rules.{rules}
 use mathlib.Core.Path.{◌≡◌, sym, ap, ◌∙◌}
 use mathlib.Core.Bool.{true}
-use borrow.Author.Tests.{not-true, not-false}
 use Rattle.types.specs.declared.Area.{Area}
 use Rattle.types.specs.declared.User.{User}
 use Rattle.types.specs.State.{area_at, user_at}

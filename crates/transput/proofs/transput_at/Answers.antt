@@ -1,5 +1,4 @@
 -- `transput::transput_at` meets its contract. Assumes nothing.
-use borrow.Author.Rules.{rules}
 use mathlib.Core.Path.{sym, ◌∙◌}
 use Rattle.transput.proofs.TransputLaws.{at_output, at_input}
 use Rattle.transput.proofs.transput_at.Goals as goal
