@@ -34,7 +34,6 @@ use Rattle.demands.proofs.Reserved.{format_determined_lem, reserved_sectors}
 use Rattle.demands.proofs.Slack.{slack_kept}
 use Rattle.demands.proofs.Whole.{written_whole}
 use Rattle.demands.proofs.Listing.{listed_by_name}
-use Rattle.demands.proofs.FreeStretches.{no_crowded_index_lem}
 
 -- ---- demand 1
 
@@ -156,5 +155,4 @@ the_demands = record {
   slack = slack_kept;
   whole = written_whole;
   listing = listed_by_name;
-  no_crowded_index = no_crowded_index_lem;
 }

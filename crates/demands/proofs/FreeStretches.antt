@@ -20,7 +20,7 @@ use Rattle.plain.specs.Step.{Reply, step}
 use Rattle.plain.specs.Good.{Good}
 use Rattle.plain.specs.FreeStretches.{free_stretches, AddsNoLayer, MakesFile, create, set, length_of_all}
 use Rattle.plain.proofs.TakingLaws.{layers_stay, layers_grow}
-use Rattle.plain.proofs.PlainClaims.{plain_claims}
+use Rattle.plain.proofs.FreeStretches as plain_unit
 use Rattle.refine.specs.Represents.{Represents}
 use Rattle.refine.specs.Demands.{Performed}
 use Rattle.refine.proofs.SoundRepresents.{sound_represents}
@@ -78,7 +78,7 @@ call_fits (unsound _ _ u) makes few stays e = (other_words makes).1 (sym (ap (λ
 call_fits {image} {state} {name} {message} {lent} (obeyed _ s all) makes few stays e =
     let x = sound_represents.reads image state s in
     let p : Plain = x.0 in
-    plain_claims.no_crowded_index.fits p name message lent x.1 makes (omega (arith, same_count p x.1 x.2)) (stays p x.1 x.2)
+    plain_unit.no_crowded_index_lem.fits p name message lent x.1 makes (omega (arith, same_count p x.1 x.2)) (stays p x.1 x.2)
     (sym (same_word (all p x.1 x.2)) ∙ e)
 
 call_highest : {image : List ℕ} {state : State} {name : Name} {attributes : ℕ} {words lent : List ℕ} {q r : Performed}
@@ -94,7 +94,7 @@ call_highest {image} {state} {name} {attributes} {words} {lent} (obeyed k s firs
     let p : Plain = x.0 in
     same_word (second p x.1 x.2)
     ∙ ap (λ (size : ℕ). (step p (Create name size attributes) lent).answer.result) (all_sectors p x.1 x.2)
-    ∙ plain_claims.no_crowded_index.highest p name attributes words lent x.1 (omega (arith, same_count p x.1 x.2)) (stays p x.1 x.2)
+    ∙ plain_unit.no_crowded_index_lem.highest p name attributes words lent x.1 (omega (arith, same_count p x.1 x.2)) (stays p x.1 x.2)
     (sym (same_word (first p x.1 x.2)) ∙ z)
 
 pub no_crowded_index_lem : NoCrowdedIndexOf Performs

@@ -25,7 +25,6 @@ use Rattle.format.specs.Format.{FormatAnswer}
 use Rattle.perform.specs.Perform.{Untouched, Obeyed, Performs}
 use Rattle.demands.specs.FormatContract.{FormatContract}
 use Rattle.demands.specs.Listing.{ListedByName}
-use Rattle.demands.specs.FreeStretches.{NoCrowdedIndexOf}
 use Rattle.demands.specs.Reserved.{ReservedSectors}
 use Rattle.demands.specs.Slack.{SlackKept}
 use Rattle.demands.specs.Whole.{WrittenWhole}
@@ -144,8 +143,6 @@ pub record Demands (C : Contract) (F : FormatContract) : Type 0 where
   pub whole : WrittenWhole C
   -- Document 02, R-1: "The listing shall come by name".
   pub listing : ListedByName C
-  -- Document 02, R-12: where the free slices form at most 127 stretches, a new file is "not refused with 1008h".
-  pub no_crowded_index : NoCrowdedIndexOf C
 
 -- The same of the very contracts of `perform::perform` and `format::format`.
 abbrev pub TheDemands : Type 0

@@ -193,6 +193,20 @@ output_unit = small_unit 0 1
 
 -- ---- units with many stretches
 
+-- SYS has slice 1, 'A' 3, 5, .., 255 (127 stretches, all full), 'B' 256 and 258. Free are 2, 4, .., 254, 257 and all from 259 on.
+abbrev pub scattered_in : ℕ → Table (Table AreaUser) → Plain
+scattered_in N areas = record {
+  unit = 0;
+  H = 1;
+  s = 2;
+  F = 10;
+  N = N;
+  layers = 1;
+  sys = 1 ∷ [];
+  files = file_row a_name (file_with 1 (alternate 3 127) (zero_sectors 253)) ∷ file_row b_name (file_with 1 (256 ∷ 258 ∷ []) (zero_sectors 3)) ∷ [];
+  areas = areas;
+}
+
 -- SYS has slice 1, 'A' 3, 5, .., 255 (127 stretches, all full), 'B' those given. Free are 2, 4, .., 254 and those past 255 that 'B' has not.
 abbrev pub alternating : ℕ → List ℕ → Table (Table AreaUser) → Plain
 alternating N slices areas = record {
@@ -206,10 +220,6 @@ alternating N slices areas = record {
   files = file_row a_name (file_with 1 (alternate 3 127) (zero_sectors 253)) ∷ file_row b_name (file_with 1 slices (zero_sectors 3)) ∷ [];
   areas = areas;
 }
-
--- 'B' has 256 and 258: free are also 257 and all from 259 on.
-abbrev pub scattered_in : ℕ → Table (Table AreaUser) → Plain
-scattered_in N areas = alternating N (256 ∷ 258 ∷ []) areas
 
 -- 259 slices: of the free ones no two are neighbours.
 abbrev pub scattered : Table (Table AreaUser) → Plain

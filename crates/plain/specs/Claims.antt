@@ -1,5 +1,5 @@
 -- What is claimed of the plain unit alone: `Good` is kept, the sum, what a refused call leaves, that SYS never shrinks, that
--- entry-only files never become more, which slices files take, where 1008h cannot come, and which result words never come.
+-- entry-only files never become more, which slices files take, and which result words never come.
 use Rattle.std.specs.Prelude.{◌≡◌, List, [], ◌∷◌, ◌++◌, cond, ◌≢◌, ℕ, suc, ◌+◌, ◌-◌, ◌≤◌, length, take, T, eqb}
 use Rattle.std.proofs.Math.Option.{some}
 use Rattle.types.specs.declared.Operation.{Operation}
@@ -23,7 +23,6 @@ use Rattle.plain.specs.Transput.{is_random, one_if, slices_to_take}
 use Rattle.plain.specs.Step.{Call, Reply, step, after, answers}
 use Rattle.plain.specs.Questions.{Outcome}
 use Rattle.plain.specs.Good.{Good}
-use Rattle.plain.specs.FreeStretches.{NoCrowdedIndex}
 
 -- The lent words of every call are words.
 abbrev pub LentWords : List Call → Type 0
@@ -141,7 +140,6 @@ EachNeverUnsound (r ∷ replies) = NeverUnsound r.answer.result × EachNeverUnso
 pub record PlainClaims : Type 0 where
   pub keeps : (p : Plain) (message : Message) (lent : List ℕ) → Good p → Words lent → Good (step p message lent).unit
   pub adds : (calls : List Call) (p : Plain) → Good p → LentWords calls → Good (after p calls) × Adds (after p calls)
-  pub no_crowded_index : NoCrowdedIndex
   pub refuses : (p : Plain) (message : Message) (lent : List ℕ) → (step p message lent).answer.result ≢ 0
       → Refused p message lent (step p message lent)
   pub never_shrinks : (calls : List Call) (p : Plain) → NeverShrinks p (after p calls)
