@@ -24,7 +24,9 @@ fn main(rt: HostRuntime) -> io::Result<()> {
     let mut image: unit::Disc = [0; 5376];
     let mut text = Vec::new(rt.alloc());
     rt.reader().read_to_end(&mut text)?;
+    // What is past the first 65,536 bytes is no case.
+    let n = text.len().min(65536);
     let mut out = BufWriter::new(rt.alloc(), io::writer(&rt))?;
-    cases::run(&mut image, &text, &mut out)?;
+    cases::run(&mut image, &text[..n], &mut out)?;
     out.flush()
 }

@@ -26,7 +26,7 @@ use Rattle.plain.proofs.QuestionLaws.{asks_law, false_no, asks_yes, asks_no}
 use Rattle.plain.proofs.ChangeUnit.{change_taking, change_count, ChangeAsked}
 use Rattle.grow.proofs.RoomLaws.{enough_yes, enough_no}
 
--- ---- the answer of changeFile
+-- ---- the answer of change_file
 
 -- An answer that is not 0 comes with nothing changed.
 record Refuses (p : Plain) (lent : List ℕ) (x : Outcome) : Type 0 where

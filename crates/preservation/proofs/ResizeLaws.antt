@@ -1,4 +1,4 @@
--- A file's slices and blocks cut or lengthened: what cutImage and resizedImage write, what they leave, and that words stay words.
+-- A file's slices and blocks cut or lengthened: what `cut_image` and `resized_image` write, what they leave, and that words stay words.
 use mathlib.Core.Path.{◌≡◌, refl, sym, ap, ◌∙◌, subst}
 use mathlib.Core.List.{List, [], ◌∷◌, ◌++◌, append-nil}
 use mathlib.Core.Logic.{◌≢◌}
@@ -254,7 +254,7 @@ module _ {i : List ℕ} {p : Plain} {v : ℕ} {E : ℕ → Option (List ℕ)} (g
     inside = λ b x. absurd (omega arith);
   }
 
--- ---- resizedImage: the file f becomes f' of name m, the other files stay
+-- ---- resized_image: the file f becomes f' of name m, the other files stay
 
 module _ {i : List ℕ} {p : Plain} {v : ℕ} {E : ℕ → Option (List ℕ)} {others : Table File} {f : File} (g : Ground p) (old : Beside i p v E others f) (m : ℕ) (f' : File)
     (vacant : table_find m others ≡ none) (g' : Ground (with_files p (table_put m f' others))) (re : Resizes f.slices f'.slices) (few : stretch_count f'.slices ≤ 127) where

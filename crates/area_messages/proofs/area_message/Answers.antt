@@ -1,5 +1,4 @@
 -- `area_messages::area_message` meets its contract. Assumes nothing.
--- no other user is exclusive
 use mathlib.Core.Path.{◌≡◌, sym, ◌∙◌}
 use mathlib.Core.Bool.{false}
 use Rattle.state.specs.declared.Kind.TheVariants.{Exclusive}
@@ -26,6 +25,7 @@ returns-then-any_other c =
 
 pub returns-then-sender-eq0 : goal.returns-then-sender-eq0
 returns-then-sender-eq0 c =
+    -- no other user is exclusive
     let alone : any_other Exclusive c.args.sender c.area_at-area.result ≡ false = sym c.any_other.ensures ∙ c.if-any_other.false in
     message_nobody c.args.name c.requires c.args.sender c.args.operation c.stored.ensures.packed c.find_area.ensures.first c.in-At.is c.area_at-area.ensures alone c.if-sender-eq0.true
     c.reply-then-sender-eq0.ensures

@@ -1,5 +1,4 @@
 -- `areas::remove_area` meets its contract. Assumes nothing.
--- the name is not SYS's or MAP's
 use mathlib.Core.Path.{sym, ◌∙◌}
 use Rattle.disc.specs.Names.{packed}
 use Rattle.lookup.proofs.UnitLaws.{searchable}
@@ -13,6 +12,7 @@ returns-then-is_system c =
 
 pub returns-in_default : goal.returns-in_default
 returns-in_default c =
+    -- the name is not SYS's or MAP's
     let ordinary : let a = c.args in
     Ordinary a.image.now a.state a.unit a.name (packed c.stored-n.result) = record { meant = c.requires; is = c.stored-n.ensures.packed; other = sym c.is_system.ensures ∙ c.if-is_system.false } in
     removes_none ordinary (sym c.find_area.ensures.first ∙ c.in_default.is)

@@ -1,5 +1,4 @@
 -- `catalog::is_named_within` meets its contract. Assumes nothing.
--- word w of the slot, by the image's index
 use mathlib.Core.Path.{◌≡◌, refl, sym, ap, ◌∙◌}
 use mathlib.Core.List.{List}
 use Prim.Native.Nat.{ℕ, ◌+◌, ◌*◌}
@@ -11,6 +10,7 @@ use Rattle.disc.proofs.NameLaws.{pack_injective}
 use Rattle.catalog.specs.Catalog.{slot_word, slot_named}
 use Rattle.catalog.proofs.is_named_within.Goals as goal
 
+-- word w of the slot, by the image's index
 at-word : (image : List ℕ) (q i w : ℕ) → get_or image (q * 256 + i * 16 + w) 0 ≡ slot_word image q i w
 at-word image q i w = let e : q * 256 + i * 16 + w ≡ q * 256 + (i * 16 + w) = omega arith in ap (λ (x : ℕ). get_or image x 0) e
 

@@ -1,5 +1,4 @@
 -- `create::new_file` meets its contract. Assumes nothing.
--- the lent words are words
 use mathlib.Core.Path.{ap}
 use mathlib.Core.Bool.{not}
 use native.Mathlib.Omega.{arith}
@@ -23,6 +22,7 @@ find_unused-requires c =
 
 pub create_grown-requires : goal.create_grown-requires
 create_grown-requires c =
+    -- the lent words are words
     let lent : let a = c.args in Words a.words.now = record { each = λ k. omega (arith, c.type_inv.words k) } in
     record {
       unit = _;

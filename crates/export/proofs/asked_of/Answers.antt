@@ -1,5 +1,4 @@
 -- `export::asked_of` meets its contract. Assumes nothing.
--- the message that came in, seen from the place where its operation is read
 use mathlib.Core.Path.{ap, ◌∙◌}
 use Rattle.types.specs.declared.Operation.{Operation}
 use Rattle.types.specs.declared.Message.TheVariants.{AreaMessage}
@@ -11,6 +10,7 @@ use Rattle.export.proofs.asked_of.Goals as goal
 
 pub returns-in-0 : goal.returns-in-0
 returns-in-0 c =
+    -- the message that came in, seen from the place where its operation is read
     let message : UnitMessage = c.args.message in
     by_number message 0 c.in-0.is
 

@@ -1,11 +1,11 @@
 -- `first_question::ready` meets its contract. Assumes nothing.
--- a test decides that it is true
 use mathlib.Core.Path.{◌≡◌, sym, ◌∙◌}
 use mathlib.Core.Bool.{Bool, true}
 use Rattle.disc.specs.Decide.{Decides}
 use Rattle.disc.proofs.DecideLaws.{true≢false}
 use Rattle.first_question.proofs.ready.Goals as goal
 
+-- a test decides that it is true
 itself : (b : Bool) → Decides b (b ≡ true)
 itself b = record { yes = λ e. e; not = λ e q. true≢false (sym q ∙ e) }
 

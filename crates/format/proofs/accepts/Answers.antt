@@ -1,5 +1,4 @@
 -- `format::accepts` meets its contract: each test is one of the questions. Assumes nothing.
--- the limits, once they are tested
 use mathlib.Core.Path.{◌∙◌}
 use Prim.Native.Nat.{◌*◌}
 use native.Mathlib.Nat.{mul_comm}
@@ -17,6 +16,7 @@ returns-then-not-within_limits c = fails (λ f. c.within_limits.ensures.not c.if
 
 pub overflow_sub-sectors : goal.overflow_sub-sectors
 overflow_sub-sectors c =
+    -- the limits, once they are tested
     let limits : LentLimits c.args.lent.now = c.within_limits.ensures.yes c.if-not-within_limits.false in
     omega (arith, limits.some_data)
 

@@ -1,5 +1,4 @@
 -- `format::format` meets its contract. Assumes nothing.
--- the record is lent, and no question has the answer no
 use mathlib.Core.Path.{refl, ◌∙◌}
 use native.Mathlib.Omega.{arith}
 use lib.ListN.{get_or}
@@ -15,6 +14,7 @@ returns-then-lent-lt9 c = not_lent (λ r. let n = r.words in omega arith) (recor
 
 pub returns-then-not-accepts : goal.returns-then-not-accepts
 returns-then-not-accepts c =
+    -- the record is lent, and no question has the answer no
     let lent : RecordLent c.args.bytes c.args.lent.now = record { count = c.if-bytes-ne18.false; words = omega arith } in
     not_allowed lent (c.accepts.ensures.not c.if-not-accepts.true) (record { word = refl; same = refl; kept = refl })
 

@@ -1,5 +1,4 @@
 -- `grow::add_layer` meets its contract. Assumes nothing.
--- the function's entry, seen from the place where the index block is read
 use native.Mathlib.Omega.{arith}
 use Rattle.grow.proofs.BlockLaws.{slice_low_lem, had_small}
 use Rattle.grow.proofs.GrowLaws.{layers_small, from_small, more_is, more_small, can_lengthen, index_inside, can_zero, layer_added}

@@ -1,5 +1,4 @@
 -- `grow::grow` meets its contract. Assumes nothing.
--- SYS is entered
 use mathlib.Core.Path.{refl, ap}
 use Prim.Native.Nat.{ℕ, ◌*◌}
 use native.Mathlib.Omega.{arith}
@@ -36,6 +35,7 @@ count_free-requires c =
     can_count c.requires.can c.sys_name.ensures.packed c.find_name.ensures c.in-At.is c.add_layer.ensures c.enter_sys.ensures refl
     (ap (λ (n : ℕ). c.args.unit.slice * n) c.slices_for.ensures)
 
+-- SYS is entered
 pub returns : goal.returns
 returns c =
     record {

@@ -1,5 +1,4 @@
 -- `kit::kit_sound` meets its contract: each test is one of the rules, said of the geometry that was read. Assumes nothing.
--- once the limits and the length are tested
 use mathlib.Core.Path.{◌∙◌}
 use Prim.Native.Nat.{◌*◌, ◌≤◌}
 use native.Mathlib.Nat.{mul-le-mul, mul_comm}
@@ -18,6 +17,7 @@ use lib.ListN.{length}
 use Rattle.kit.proofs.KitLaws.{sound_unit, sound_kit, kit_top, kit_free, unit_long}
 use Rattle.kit.proofs.kit_sound.Goals as goal
 
+-- once the limits and the length are tested
 unit : {image : List ℕ} {g : Geometry} → GeometryOf image g → length image ≡ g.sectors * 256
     → Limits g.keys g.slice g.first.0 g.sectors → UnitOf image g
 unit {image} {g} is long limits = record { size = long ∙ mul_comm g.sectors 256; limits = limits; slices = is.slices }

@@ -1,5 +1,4 @@
 -- `marks::mark_four` meets its contract: fewer than four slices are marked twice. Assumes nothing.
--- a slice of the four that is marked
 use mathlib.Core.Path.{◌≡◌, refl}
 use mathlib.Core.Bool.{false}
 use Prim.Native.Nat.{ℕ, ◌+◌, ◌-◌, ◌≤◌}
@@ -11,6 +10,7 @@ use Rattle.marks.specs.Marked.{RunMarking}
 use Rattle.marks.proofs.RunLaws.{four_refused, four_done}
 use Rattle.marks.proofs.mark_four.Goals as goal
 
+-- a slice of the four that is marked
 refused : (marks : List ℕ) (from count third : ℕ) → (2 ≤ count) × (count ≤ 4) × (from + count ≤ 4096)
     → (third ≤ from + (count - 1)) × (from + 2 ≤ from + (count - 1) → third ≡ from + 2) × (from + (count - 1) ≤ from + 2 → third ≡ from + (count - 1))
     → (j : ℕ) → from ≤ j → j ≤ from + (count - 1) → (get_or marks j 0 ≡ 0 → ⊥) → RunMarking false from count marks marks

@@ -1,5 +1,4 @@
 -- `output::output` meets its contract. Assumes nothing.
--- the lent words are words
 use Rattle.disc.specs.Words.{Words}
 use Rattle.output.proofs.OutputLaws.{position_asks, outputs_refused, block_ready, outputs_stored}
 use Rattle.output.proofs.output.Goals as goal
@@ -9,6 +8,7 @@ prepare-reply-requires c = c.requires.0
 
 pub returns-then-reply-ne0 : goal.returns-then-reply-ne0
 returns-then-reply-ne0 c =
+    -- the lent words are words
     let words : let a = c.args in Words a.lent.now = record { each = λ k. (c.type_inv.lent k).fits } in
     outputs_refused c.prepare-reply.ensures c.requires.1 words c.if-reply-ne0.true
 

@@ -1,5 +1,4 @@
 -- `output::prepare` meets its contract. Assumes nothing.
--- the file is extendable
 use mathlib.Core.Path.{◌≡◌, sym, ◌∙◌}
 use mathlib.Core.Bool.{true}
 use native.Mathlib.Omega.{arith}
@@ -43,6 +42,7 @@ refused_at-requires-then-word-ne0 c =
 
 pub returns-then-word-ne0 : goal.returns-then-word-ne0
 returns-then-word-ne0 c =
+    -- the file is extendable
     let extends : extendable c.attributes_of.result ≡ true = sym c.bit.ensures ∙ c.if-not-bit.false in
     prepares_full c.area_at-area.ensures c.if-k-length.false c.attributes_of.ensures extends
     c.file_block-block.ensures.file c.more_slices-more.ensures c.room_word-word.ensures c.if-word-ne0.true

@@ -1,5 +1,4 @@
 -- `perform::obey` meets its contract: each message's own contract gives what the one call promises. Assumes nothing.
--- the lent words are words
 use mathlib.Core.Path.{◌∙◌}
 use Rattle.disc.specs.Words.{Words}
 use Rattle.perform.proofs.ObeyLaws.{can_mean, can_mean_on, answer_obeys, init_obeyed, set_obeyed, create_obeyed, look_up_obeyed, change_obeyed, remove_obeyed, create_area_obeyed, remove_area_obeyed, area_message_obeyed, describe_obeyed, list_obeyed}
@@ -52,6 +51,7 @@ returns-in-Init c =
 
 pub returns-in-Set : goal.returns-in-Set
 returns-in-Set c =
+    -- the lent words are words
     let words : let a = c.args in Words a.lent.now = record { each = λ k. (c.slice_known-2-1.given k).fits } in
     answer_obeys c.in-Set.is c.requires.known c.word_alone-in-Set.ensures
     (λ k p g r n. set_obeyed g r words n k c.set.ensures)

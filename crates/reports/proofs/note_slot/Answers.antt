@@ -1,5 +1,4 @@
 -- `reports::note_slot` meets its contract. Assumes nothing.
--- a used slot's record has room
 use Prim.Native.Nat.{◌+◌, ◌≤◌}
 use native.Mathlib.Omega.{arith}
 use lib.ListN.{length, length-set}
@@ -14,6 +13,7 @@ returns-then-image-first-eq0 c =
 
 pub bounds-lent-at : goal.bounds-lent-at
 bounds-lent-at c =
+    -- a used slot's record has room
     let room : let a = c.args in a.at + 4 ≤ length a.lent.now = let a = c.args in
     omega (arith, slot-length a.image.now a.q.0 a.slot c.if-image-first-eq0.false, c.requires.2) in
     omega (arith, room)

@@ -1,5 +1,4 @@
 -- `sound_entries::find_layers` meets its contract. Assumes nothing.
--- the catalog that is searched
 use Rattle.std.proofs.Common.{◌≡◌, ℕ, ◌+◌, ◌-◌, ◌*◌, ◌/◌, refl, ap, ◌∙◌, div-mul-le_self, arith}
 use Rattle.catalog.specs.declared.Catalog.{Catalog}
 use Rattle.catalog.specs.Catalog.{sys_value}
@@ -13,6 +12,7 @@ find-requires c =
 
 pub returns-in_default : goal.returns-in_default
 returns-in_default c =
+    -- the catalog that is searched
     let full : let a = c.args in c.sys-full.result ≡ full_sys a.image.now a.g = let a = c.args in
     let keys = a.g.keys in
     c.sys-full.ensures ∙ ap (λ (n : ℕ). sys_value keys (n / keys)) c.sys_sectors-reserved.ensures in

@@ -1,10 +1,10 @@
 -- `sound_entries::is_unused` meets its contract: no bit is gathered exactly if every word before w is 0. Assumes nothing.
--- no bit of either
 use Rattle.std.proofs.Common.{◌≡◌, ℕ, refl, ap₂, arith, below_more, eqb-true}
 use lib.Bits.{bit_or, or_add_and, and_le_l, and_le_r}
 use borrow.Author.Tests.{eqb-false}
 use Rattle.sound_entries.proofs.is_unused.Goals as goal
 
+-- no bit of either
 or-none : (a b : ℕ) → bit_or a b ≡ 0 → (a ≡ 0) × (b ≡ 0)
 or-none a b e = let s = or_add_and a b in let l = and_le_l a b in let r = and_le_r a b in (omega arith, omega arith)
 

@@ -1,5 +1,4 @@
 -- `sound_entries::system_entered` meets its contract. Assumes nothing.
--- the places of all layers
 use Rattle.std.proofs.Common.{◌≡◌, ℕ, ◌*◌, ap, lit<}
 use Rattle.disc.specs.Entries.{place_count}
 use Rattle.disc.proofs.DecideLaws.{holds, fails}
@@ -12,6 +11,7 @@ find-requires c = let pre = c.requires in some_key pre.0.catalog
 
 pub returns-in_default : goal.returns-in_default
 returns-in_default c =
+    -- the places of all layers
     let all : 16 * c.args.expected.size ≡ place_count c.args.g.keys c.args.expected.catalog.layers = ap (λ (n : ℕ). 16 * n) c.requires.0.whole in
     fails (λ n. not_met c.requires.0.catalog all c.sys_name.ensures.packed c.find.ensures (lit< tt) n.places c.in_default.is n.sys_met)
 

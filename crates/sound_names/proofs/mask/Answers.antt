@@ -1,5 +1,4 @@
 -- `sound_names::mask` meets its contract. Assumes nothing.
--- one bit
 use mathlib.Core.Path.{◌≡◌, ap₂, ◌∙◌}
 use Prim.Native.Nat.{ℕ, ◌*◌, ◌/◌, ◌%◌, ◌^◌, ◌<◌}
 use native.Mathlib.Nat.{one-mul}
@@ -9,6 +8,7 @@ use lib.Pow.{shl_exact}
 use Rattle.sound_names.specs.Filter.{mask_by}
 use Rattle.sound_names.proofs.mask.Goals as goal
 
+-- one bit
 bit : (k : ℕ) → k < 64 → 1 * 2 ^ k % 2 ^ 64 ≡ 2 ^ k
 bit k h = shl_exact {a = 1} 1 k 64 (omega arith) (omega arith) ∙ one-mul (2 ^ k)
 

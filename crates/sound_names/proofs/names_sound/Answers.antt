@@ -1,5 +1,4 @@
 -- `sound_names::names_sound` meets its contract. Assumes nothing.
--- SYS's index block is in sector 6
 use mathlib.Core.Path.{◌≡◌, refl, ap}
 use native.Mathlib.Omega.{arith}
 use Rattle.disc.specs.Kit.{sys_index_sector}
@@ -16,6 +15,7 @@ overflow_mul-expected c = let sys = c.requires in record { fits = omega (arith, 
 
 pub sys_sectors-requires : goal.sys_sectors-requires
 sys_sectors-requires c =
+    -- SYS's index block is in sector 6
     let own_index : c.args.sys.index.0 ≡ sys_index_sector = ap (λ (x : Catalog). x.index.0) c.requires.is in
     (c.requires.sys, own_index)
 

@@ -1,5 +1,4 @@
 -- `sound_users::is_first` meets its contract: what the search found is compared with j. Assumes nothing.
--- the answer by what the search found: nothing, or descriptor k
 use mathlib.Core.Path.{◌≡◌}
 use mathlib.Core.Bool.{false}
 use Prim.Native.Nat.{ℕ}
@@ -12,6 +11,7 @@ use Rattle.state.specs.declared.Found.{Found}
 use Rattle.state.specs.declared.Found.TheVariants.{At, Absent}
 use Rattle.sound_users.proofs.is_first.Goals as goal
 
+-- the answer by what the search found: nothing, or descriptor k
 found_none : (found wanted : Found) (j : ℕ) → found ≡ wanted → found ≡ Absent → Decides false (wanted ≡ At j)
 found_none found wanted j e f = fails (λ p. let z : ◌≡◌ {A = ℕ} 0 1 = cc in omega arith)
 

@@ -1,5 +1,4 @@
 -- `transput::is_output` meets its contract. Assumes nothing.
--- neither of the first two
 use mathlib.Core.Path.{◌≡◌, refl}
 use mathlib.Core.Bool.{Bool, true, false, ◌||◌}
 use Prim.Native.Nat.{ℕ}
@@ -8,6 +7,7 @@ use borrow.Author.Tests.{eq-eqb, ne_eqb}
 use Rattle.plain.specs.Transput.{is_output}
 use Rattle.transput.proofs.is_output.Goals as goal
 
+-- neither of the first two
 last : (operation : ℕ) → eqb operation 3 ≡ false → eqb operation 7 ≡ false → eqb operation 19 ≡ is_output operation
 last operation a b = rw (a, b) (go (eqb operation 19))
   where

@@ -1,5 +1,4 @@
 -- `transput::is_random` meets its contract. Assumes nothing.
--- not the first
 use mathlib.Core.Path.{◌≡◌, refl}
 use mathlib.Core.Bool.{Bool, true, false, ◌||◌}
 use Prim.Native.Nat.{ℕ}
@@ -8,6 +7,7 @@ use borrow.Author.Tests.{eq-eqb, ne_eqb}
 use Rattle.plain.specs.Transput.{is_random}
 use Rattle.transput.proofs.is_random.Goals as goal
 
+-- not the first
 last : (operation : ℕ) → eqb operation 5 ≡ false → eqb operation 7 ≡ is_random operation
 last operation a = rw a (go (eqb operation 7))
   where

@@ -1,5 +1,4 @@
 -- `transput::transput` meets its contract. Assumes nothing.
--- the sender's own position, and Position first
 use mathlib.Core.Path.{◌≡◌, sym, ap, ◌∙◌}
 use mathlib.Core.Bool.{true}
 use Rattle.types.specs.declared.Area.{Area}
@@ -21,6 +20,7 @@ refused_at-requires c = seat_low c.requires.seat
 
 pub returns-then-word-ne0 : goal.returns-then-word-ne0
 returns-then-word-ne0 c =
+    -- the sender's own position, and Position first
     let own : c.user_at-user.result.position.0 ≡ (user_at (area_at c.args.state c.args.j) c.args.u).position.0 = ap (λ (x : User). x.position.0) (c.user_at-user.ensures ∙ ap (λ (a : Area). user_at a c.args.u) c.area_at-area.ensures) in
     let s = c.args in
     transputs_refused s.block s.lent.now c.area_at-area.ensures c.refusal-word.ensures c.if-word-ne0.true own c.refused_at.ensures
