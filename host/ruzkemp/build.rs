@@ -15,8 +15,10 @@ mod sha256;
 
 /// Names a library made elsewhere.
 const MADE: &str = "RUZKEMP_LIBRARY";
-/// What the library is made from, and by what.
-const SOURCES: [&str; 3] = ["crates", "crates.txt", "host/library"];
+/// What the library is made from, and by what, beside the crates.
+const SOURCES: [&str; 2] = ["crates.txt", "host/library"];
+/// What `rt` keeps in the folder of a crate; the rest of it is sources.
+const KEPT: &str = "out";
 
 fn main() {
     println!("cargo:rerun-if-changed=build.rs");
@@ -66,6 +68,9 @@ fn current() -> Result<PathBuf, String> {
     for source in SOURCES {
         watch(&root.join(source));
     }
+    for part in parts(&root.join("crates"))? {
+        watch(&part);
+    }
     let asked = Command::new(root.join("host/library"))
         .stderr(Stdio::inherit())
         .output();
@@ -74,6 +79,28 @@ fn current() -> Result<PathBuf, String> {
         true => Ok(OsString::from_vec(asked.stdout.trim_ascii_end().to_vec()).into()),
         false => Err("there is no proved library to link".into()),
     }
+}
+
+/// What lies in the folders of the crates, but for what `rt` keeps there.
+fn parts(crates: &Path) -> Result<Vec<PathBuf>, String> {
+    let mut parts = Vec::new();
+    for folder in entries(crates)?.iter().filter(|folder| folder.is_dir()) {
+        parts.extend(
+            entries(folder)?
+                .into_iter()
+                .filter(|part| !part.ends_with(KEPT)),
+        );
+    }
+    Ok(parts)
+}
+
+/// The paths of what lies in a folder.
+fn entries(folder: &Path) -> Result<Vec<PathBuf>, String> {
+    let unread = |why| format!("{} cannot be read: {why}", folder.display());
+    let entries = fs::read_dir(folder).map_err(unread)?;
+    entries
+        .map(|entry| Ok(entry.map_err(unread)?.path()))
+        .collect()
 }
 
 /// Has cargo run this again when a file, or one in a folder, changes. What is not there would
