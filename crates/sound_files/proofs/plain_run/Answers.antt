@@ -27,7 +27,7 @@ loop-i-preserved c = (
   omega arith,
   closed_more c.args.image.now c.args.g (places_from c.args.image.now c.args.at) c.args.upto c.args.cells.now
       c.loop-i.i c.requires.1 c.loop-i.invariant.1 c.plain_place.ensures (c.if-not-plain_place.false)
-      (λ d. absurd (d c.if-upto-ne0.false)),
+      (λ d. absurd (d (omega arith))),
 )
 
 pub returns : goal.returns
