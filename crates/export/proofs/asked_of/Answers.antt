@@ -5,7 +5,7 @@ use Rattle.types.specs.declared.Message.TheVariants.{AreaMessage}
 use Rattle.export.specs.declared.Asked.TheVariants as asked
 use Rattle.export.specs.declared.UnitMessage.{UnitMessage}
 use Rattle.export.specs.Calls.{name_of}
-use Rattle.export.proofs.CallLaws.{by_number, other_number}
+use Rattle.export.proofs.CallLaws.{by_number}
 use Rattle.export.proofs.asked_of.Goals as goal
 
 pub returns-in-0 : goal.returns-in-0
@@ -65,10 +65,3 @@ pub returns-in-10 : goal.returns-in-10
 returns-in-10 c =
     let message : UnitMessage = c.args.message in
     by_number message 10 c.in-10.is
-
--- no call
-pub returns-in_default : goal.returns-in_default
-returns-in_default c =
-    let message : UnitMessage = c.args.message in
-    let no = c.in_default.in_default-own.rest in
-    other_number message _ no.0.0.0.0.0.0.0.0.0.0.1 no.0.0.0.0.0.0.0.0.0.1 no.0.0.0.0.0.0.0.0.1 no.0.0.0.0.0.0.0.1 no.0.0.0.0.0.0.1 no.0.0.0.0.0.1 no.0.0.0.0.1 no.0.0.0.1 no.0.0.1 no.0.1 no.1

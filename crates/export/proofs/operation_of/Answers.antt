@@ -1,5 +1,4 @@
 -- `export::operation_of` meets its contract. Assumes nothing.
-use borrow.Author.Tests.{ne_eqb}
 use Rattle.export.proofs.operation_of.Goals as goal
 
 pub returns-in-0 : goal.returns-in-0
@@ -13,6 +12,3 @@ returns-in-2 c = simp c.in-2.is
 
 pub returns-in-3 : goal.returns-in-3
 returns-in-3 c = simp c.in-3.is
-
-pub returns-in_default : goal.returns-in_default
-returns-in_default c = simp (ne_eqb _ 0 c.in_default.in_default-own.rest.0.0.0.1, ne_eqb _ 1 c.in_default.in_default-own.rest.0.0.1, ne_eqb _ 2 c.in_default.in_default-own.rest.0.1, ne_eqb _ 3 c.in_default.in_default-own.rest.1)

@@ -1,5 +1,4 @@
 -- `export::role_of` meets its contract. Assumes nothing.
-use borrow.Author.Tests.{ne_eqb}
 use Rattle.export.proofs.role_of.Goals as goal
 
 pub returns-in-0 : goal.returns-in-0
@@ -7,6 +6,3 @@ returns-in-0 c = simp c.in-0.is
 
 pub returns-in-1 : goal.returns-in-1
 returns-in-1 c = simp c.in-1.is
-
-pub returns-in_default : goal.returns-in_default
-returns-in_default c = simp (ne_eqb _ 0 c.in_default.in_default-own.rest.0.1, ne_eqb _ 1 c.in_default.in_default-own.rest.1)

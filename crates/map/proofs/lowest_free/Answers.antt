@@ -24,7 +24,7 @@ overflow_cast-first c =
 pub loop-b-init : goal.loop-b-init
 loop-b-init c = (
   leading_le 16 _,
-  none_leading _ c.scan.w (c.shared_slice_known-in-scan-1.given _).fits c.scan.invariant.1,
+  none_leading _ c.scan.w (c.type_inv.image _).fits c.scan.invariant.1,
 )
 
 pub nonzero_div-word : goal.nonzero_div-word
