@@ -118,12 +118,12 @@ formattable_same s f = record {
   size = sym s.size ∙ f.size;
 }
 
-format_refused_lem : {word : ℕ} {a b : List ℕ} {state : State} {after_a afterB : List ℕ} {r q : Formatted} → SameOthers a b → format.Refused word a state after_a r → format.Refused word b state afterB q
-    → SameOthers after_a afterB × (r ≡ q)
+format_refused_lem : {word : ℕ} {a b : List ℕ} {state : State} {after_a after_b : List ℕ} {r q : Formatted} → SameOthers a b → format.Refused word a state after_a r → format.Refused word b state after_b q
+    → SameOthers after_a after_b × (r ≡ q)
 format_refused_lem {r = r} {q = q} s x y = (rw (x.same, y.same) s, format_same r q (x.word ∙ sym y.word) (x.kept ∙ sym y.kept))
 
-format_alike : {a b : List ℕ} {state : State} {bytes : ℕ} {lent after_a afterB : List ℕ} {r q : Formatted} → SameOthers a b → FormatAnswer a state bytes lent after_a r
-    → FormatAnswer b state bytes lent afterB q → SameOthers after_a afterB × (r ≡ q)
+format_alike : {a b : List ℕ} {state : State} {bytes : ℕ} {lent after_a after_b : List ℕ} {r q : Formatted} → SameOthers a b → FormatAnswer a state bytes lent after_a r
+    → FormatAnswer b state bytes lent after_b q → SameOthers after_a after_b × (r ≡ q)
 format_alike s (not_lent _ x) (not_lent _ y) = format_refused_lem s x y
 format_alike s (not_lent n x) (not_allowed l _ y) = absurd (n l)
 format_alike s (not_lent n x) (format.written l _ y) = absurd (n l)

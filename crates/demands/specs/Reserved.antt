@@ -42,5 +42,5 @@ pub record ReservedSectors (C : Contract) (F : FormatContract) : Type 0 where
   -- Format
   pub format_written : {image : List ℕ} {state : State} {bytes : ℕ} {lent after : List ℕ} {r : Formatted} → F image state bytes lent after r
       → SameReserved image after
-  pub format_read : {a b : List ℕ} {state : State} {bytes : ℕ} {lent after_a afterB : List ℕ} {r q : Formatted} → SameOthers a b
-      → F a state bytes lent after_a r → F b state bytes lent afterB q → SameOthers after_a afterB × (r ≡ q)
+  pub format_read : {a b : List ℕ} {state : State} {bytes : ℕ} {lent after_a after_b : List ℕ} {r q : Formatted} → SameOthers a b
+      → F a state bytes lent after_a r → F b state bytes lent after_b q → SameOthers after_a after_b × (r ≡ q)

@@ -46,15 +46,15 @@ module _ (H s F N : ℕ) (lim : Limits H s F N) (used : ℕ) (is : used ≡ ceil
   system_written k6 k7 image a b d after e f g h = rw (h, g, f, e, fresh_free_lem, is) refl
 
   -- SYS and its entries: its name's number and key, then MAP's and its place
-  module _ (sys map sysKey mapKey place : ℕ) (sysIs : sys ≡ SYS) (mapIs : map ≡ MAP) (sysKeyIs : sysKey ≡ key_of H sys) (mapKeyIs : mapKey ≡ key_of H map) (placeIs : place ≡ one_if_same (compare mapKey sysKey)) where
-    pub catalog_written : (image a b after : List ℕ) → a ≡ store image (F * 256 + 0) (zero_words (256 * H)) → {q : ℕ} → q ≡ F + sysKey
-        → b ≡ store a (q * 256 + 16 * 0) (system_entry sys H 6 (s * used)) → {r : ℕ} → r ≡ F + mapKey
+  module _ (sys map sys_key map_key place : ℕ) (sys_is : sys ≡ SYS) (map_is : map ≡ MAP) (sys_key_is : sys_key ≡ key_of H sys) (map_key_is : map_key ≡ key_of H map) (place_is : place ≡ one_if_same (compare map_key sys_key)) where
+    pub catalog_written : (image a b after : List ℕ) → a ≡ store image (F * 256 + 0) (zero_words (256 * H)) → {q : ℕ} → q ≡ F + sys_key
+        → b ≡ store a (q * 256 + 16 * 0) (system_entry sys H 6 (s * used)) → {r : ℕ} → r ≡ F + map_key
         → after ≡ store b (r * 256 + 16 * place) (system_entry map 1 7 1) → after ≡ fresh_catalog image H s F
     unfolding fresh_catalog enter_at clear_sys
-    catalog_written image a b after e {q} qIs f' {r} rIs g' =
+    catalog_written image a b after e {q} q_is f' {r} r_is g' =
         let size : H * 1 ≡ H = omega arith in
         let reserved : s * used ≡ s * length (sys_slices H s) = ap (λ (n : ℕ). s * n) (is ∙ sym (length_sys H s F N lim)) in
-        rw (g', rIs, f', qIs, e, store_start image F (zero_words (256 * H)), placeIs, mapKeyIs, sysKeyIs, mapIs, sysIs, size, reserved) refl
+        rw (g', r_is, f', q_is, e, store_start image F (zero_words (256 * H)), place_is, map_key_is, sys_key_is, map_is, sys_is, size, reserved) refl
 
 -- the whole image: sectors 6 to 9, then SYS
 pub format_written_lem : (image a after : List ℕ) (H s F N k6 k7 : ℕ) → a ≡ system_sectors image H s F N k6 k7 → after ≡ fresh_catalog a H s F → after ≡ formatted image H s F N k6 k7

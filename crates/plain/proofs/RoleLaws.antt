@@ -91,7 +91,7 @@ pub roles_raised : (sender count : ℕ) (users : Table AreaUser) (role : Role) (
     → T (not (other is_exclusive sender users)) → T (not (eqb count 2 && other is_writer sender users)) → T (not (eqb count 4 && other is_user sender users))
     → (1 ≤ is_writer role → users_of is_writer (table_remove sender users) ≡ 0) → (1 ≤ is_exclusive role → length (table_remove sender users) ≡ 0)
     → GoodRoles (table_put sender v users)
-roles_raised sender count users role v e g a b c oldWriter oldExclusive = record {
+roles_raised sender count users role v e g a b c old_writer old_exclusive = record {
   one_writer = go (is_writer (raised count role)) refl (writer_le (raised count role));
   alone = λ q.
       let others : Table AreaUser = table_remove sender users in
@@ -100,7 +100,7 @@ roles_raised sender count users role v e g a b c oldWriter oldExclusive = record
       let len : length (table_put sender v users) ≡ length others + 1 = omega (arith, users_put is_user sender v users, users-length (table_put sender v users), users-length others) in
       ⊎_elim
       (λ t. omega (arith, none_other is_user sender users (and_not (eqb count 4) _ c t), users-length others))
-      (λ t. omega (arith, oldExclusive t))
+      (λ t. omega (arith, old_exclusive t))
       (raised_exclusive count role one);
 }
   where
@@ -109,5 +109,5 @@ roles_raised sender count users role v e g a b c oldWriter oldExclusive = record
     go (suc n) q l =
         ⊎_elim
         (λ t. omega (arith, users_put is_writer sender v users, ap is_writer e, none_other is_writer sender users (and_not (eqb count 2) _ b t)))
-        (λ t. omega (arith, users_put is_writer sender v users, ap is_writer e, oldWriter t))
+        (λ t. omega (arith, users_put is_writer sender v users, ap is_writer e, old_writer t))
         (raised_writer count role (omega arith))

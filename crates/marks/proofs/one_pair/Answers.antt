@@ -2,6 +2,7 @@
 use mathlib.Core.Path.{ap, sym, ◌∙◌}
 use Prim.Native.Nat.{ℕ, ◌*◌}
 use native.Mathlib.Nat.{add-zero}
+use native.Mathlib.Omega.{arith}
 use lib.ListN.{get_or}
 use Rattle.disc.specs.Pairs.{pair_start}
 use Rattle.disc.proofs.DecideLaws.{fails, decides_eq}
@@ -13,7 +14,7 @@ returns-then-image-at-ne1 c =
     fails (λ pair. c.if-image-at-ne1.true (ap (λ (i : ℕ). get_or a.image.now i 0) (sym (add-zero (a.q.0 * 256))) ∙ pair.count))
 
 pub returns-then-image-at : goal.returns-then-image-at
-returns-then-image-at c = fails (λ pair. c.if-image-at.true pair.length)
+returns-then-image-at c = fails (λ pair. let e = pair.length in omega arith)
 
 pub returns : goal.returns
 returns c =

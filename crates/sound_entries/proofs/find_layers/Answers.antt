@@ -28,7 +28,7 @@ returns-then-layers-keys c =
     let keys = a.g.keys in
     c.sys-full.ensures ∙ ap (λ (n : ℕ). sys_value keys (n / keys)) c.sys_sectors-reserved.ensures in
     layers_part c.requires full c.sys_name.ensures.packed c.find.ensures c.in-At.is
-    c.entry_word-size.ensures refl c.if-layers-keys.true
+    c.entry_word-size.ensures refl (λ e. omega arith)
 
 pub overflow_mul-ceil_div : goal.overflow_mul-ceil_div
 overflow_mul-ceil_div c =
