@@ -1,4 +1,5 @@
 -- The messages to an area process by what the code finds: each answer is the plain unit's, image and state are those of its unit.
+use Rattle.std.specs.Prelude.{Some, None, Option as Maybe}
 use mathlib.Core.Path.{◌≡◌, refl, sym, ap, ap₂, ◌∙◌}
 use mathlib.Core.Bool.{Bool, true, false, not, ◌&&◌}
 use mathlib.Core.List.{List}
@@ -6,9 +7,9 @@ use mathlib.Core.Logic.{◌≢◌}
 use mathlib.Core.Option.{Option, none, some}
 use Prim.Native.Nat.{ℕ, zero, suc, ◌<◌}
 use native.Mathlib.Omega.{arith}
-use lib.Dec.{T, eqb, leb}
+use lib.Dec.{T, eqb}
 use lib.ListN.{length}
-use borrow.Author.Tests.{eq-eqb, ne_eqb, lt-leb}
+use borrow.Author.Tests.{eq-eqb, ne_eqb}
 use Rattle.types.specs.declared.Name.{Name}
 use Rattle.types.specs.declared.Answer.{Answer}
 use Rattle.types.specs.declared.Area.{Area}
@@ -19,15 +20,12 @@ use Rattle.types.specs.State.{area_at}
 use Rattle.disc.specs.Names.{named, unit_in}
 use Rattle.disc.proofs.Compare.{same_or}
 use Rattle.catalog.specs.declared.Unit.{Unit}
-use Rattle.state.specs.declared.Found.{Found}
-use Rattle.state.specs.declared.Found.TheVariants.{At, Absent}
 use Rattle.state.specs.declared.Kind.TheVariants.{Exclusive}
 use Rattle.state.specs.Areas.{set_area, area_named, entry_of, any_other, reserved}
 use Rattle.plain.specs.Table.{table_find}
 use Rattle.plain.specs.Unit.{Plain, File}
 use Rattle.plain.specs.Questions.{answer, replies, known}
 use Rattle.plain.specs.Areas as plain
-use Rattle.plain.specs.Transput.{is_output}
 use Rattle.plain.specs.Step.{is_known, reserve_count, user_step, operation_step, step_area}
 use Rattle.plain.specs.Good.{Good}
 use Rattle.refine.specs.Represents.{Represents}
@@ -44,20 +42,7 @@ use Rattle.area_users.specs.Seat.{Seat, area_users, area_user}
 use Rattle.area_users.proofs.UserLaws.{seat_size, reserve_leaves, release_leaves, moved_stands, reached_low, positioned_by}
 use Rattle.transput.specs.Transput.{Transputs, Seated}
 use Rattle.transput.proofs.TransputLaws.{kept_image}
-use Rattle.area_messages.specs.AreaMessages.{known_count, known_transput, reserve_word, message_image, user_state, operation_state, admitted, message_state, UserSteps, OperatesFrom, CanOperate, Operates, AreaMessages}
-
--- ---- known operations
-
-pub count_by : (count : ℕ) → count ≢ 1 → leb count 4 ≡ known_count count
-count_by count d =
-    same_or count 0 (λ e. rw e refl) (λ a.
-    same_or count 2 (λ e. rw e refl) (λ b.
-    same_or count 3 (λ e. rw e refl) (λ c.
-    same_or count 4 (λ e. rw e refl) (λ e.
-    rw (lt-leb count 4 (omega arith), ne_eqb count 0 a, ne_eqb count 2 b, ne_eqb count 3 c, ne_eqb count 4 e) refl))))
-
-pub transput_by : (operation : ℕ) → operation ≢ 1 → operation ≢ 5 → is_output operation ≡ known_transput operation
-transput_by operation a b = rw (ne_eqb operation 1 a, ne_eqb operation 5 b) refl
+use Rattle.area_messages.specs.AreaMessages.{reserve_word, message_image, user_state, operation_state, admitted, message_state, UserSteps, OperatesFrom, CanOperate, Operates, AreaMessages}
 
 -- ---- the image of a refused message, and of those that write nothing
 
@@ -171,16 +156,16 @@ reserve_none (Transput operation bytes block) z = refl
 reserve_none (Other operation) z = refl
 
 module _ (p : Plain) (f : File) (state : State) (j sender : ℕ) (operation : Operation) (a : Answer) where
-  state_reserve : (count : ℕ) (found : Found) → count ≢ 0 → set_area state j (reserved (area_at state j) sender count).area ≡ operation_state p f state j sender operation a count found
+  state_reserve : (count : ℕ) (found : Maybe ℕ) → count ≢ 0 → set_area state j (reserved (area_at state j) sender count).area ≡ operation_state p f state j sender operation a count found
   unfolding operation_state
   state_reserve zero found d = absurd (d refl)
   state_reserve (suc count) found d = refl
 
-  state_user : (count : ℕ) (found : Found) (u : ℕ) → count ≡ 0 → found ≡ At u → user_state p f state j u operation a ≡ operation_state p f state j sender operation a count found
+  state_user : (count : ℕ) (found : Maybe ℕ) (u : ℕ) → count ≡ 0 → found ≡ Some u → user_state p f state j u operation a ≡ operation_state p f state j sender operation a count found
   unfolding operation_state
   state_user count found u z e = rw (z, e) refl
 
-  state_stranger : (count : ℕ) (found : Found) → count ≡ 0 → found ≡ Absent → state ≡ operation_state p f state j sender operation a count found
+  state_stranger : (count : ℕ) (found : Maybe ℕ) → count ≡ 0 → found ≡ None → state ≡ operation_state p f state j sender operation a count found
   unfolding operation_state
   state_stranger count found z e = rw (z, e) refl
 
@@ -188,7 +173,7 @@ module _ (image : List ℕ) (state : State) (o : Unit) (j sender : ℕ) (operati
   exclusive : (p : Plain) (n : ℕ) (f : File) → OperatesFrom image state o j sender p n f → plain.other plain.is_exclusive sender (area_users state j) ≡ false
   exclusive p n f from = area_other from.represents.areas n j from.named Exclusive sender ∙ from.alone
 
-  seat_of : {p : Plain} {n u : ℕ} {f : File} → OperatesFrom image state o j sender p n f → entry_of sender (area_at state j) ≡ At u → Seat image state p n j sender u f
+  seat_of : {p : Plain} {n u : ℕ} {f : File} → OperatesFrom image state o j sender p n f → entry_of sender (area_at state j) ≡ Some u → Seat image state p n j sender u f
   seat_of from e = record { good = from.good; represents = from.represents; named = from.named; nonzero = from.nonzero; entry = e; file = from.file }
 
   pub operate_low : CanOperate image state o j sender → j < 8
@@ -211,11 +196,11 @@ module _ (image : List ℕ) (state : State) (o : Unit) (j sender : ℕ) (operati
         });
   }
 
-  module _ {count : ℕ} (w : count ≡ reserve_word operation) (z : count ≡ 0) {area : Area} (own : area ≡ area_at state j) {found : Found} (search : found ≡ entry_of sender area) where
+  module _ {count : ℕ} (w : count ≡ reserve_word operation) (z : count ≡ 0) {area : Area} (own : area ≡ area_at state j) {found : Maybe ℕ} (search : found ≡ entry_of sender area) where
     entry_is : entry_of sender (area_at state j) ≡ found
     entry_is = ap (λ (a : Area). entry_of sender a) (sym own) ∙ sym search
 
-    pub operate_stranger : {lent : List ℕ} {reply : AreaReply} → found ≡ Absent → reply ≡ area_reply state 0x0810 0 0 → Operates image state o j sender operation lent reply lent image
+    pub operate_stranger : {lent : List ℕ} {reply : AreaReply} → found ≡ None → reply ≡ area_reply state 0x0810 0 0 → Operates image state o j sender operation lent reply lent image
     operate_stranger {lent} absent e = record {
       all = λ p n f from.
           let is : operation_step p n sender (area_users state j) operation (reserve_count operation) lent ≡ replies p 0x0810 lent =
@@ -228,7 +213,7 @@ module _ (image : List ℕ) (state : State) (o : Unit) (j sender : ℕ) (operati
           });
     }
 
-    module _ {u : ℕ} (at : found ≡ At u) where
+    module _ {u : ℕ} (at : found ≡ Some u) where
       pub operate_seated : CanOperate image state o j sender → Seated image state o j sender u
       operate_seated c = record { p = c.p; n = c.n; f = c.f; seat = seat_of c.can (entry_is ∙ at); numbers = c.can.numbers }
 
@@ -254,22 +239,22 @@ is_true true t = refl
 is_true false t = absurd t
 
 module _ (p : Plain) (state : State) (sender : ℕ) (operation : Operation) (a : Answer) where
-  state_shut : (found : Found) (f : Option File) → found ≡ Absent → state ≡ message_state p state sender operation a found f
+  state_shut : (found : Maybe ℕ) (f : Option File) → found ≡ None → state ≡ message_state p state sender operation a found f
   unfolding message_state
   state_shut found f e = rw e refl
 
-  state_refused : (found : Found) (j : ℕ) (f : Option File) → found ≡ At j → admitted (area_at state j) sender operation ≡ false → state ≡ message_state p state sender operation a found f
+  state_refused : (found : Maybe ℕ) (j : ℕ) (f : Option File) → found ≡ Some j → admitted (area_at state j) sender operation ≡ false → state ≡ message_state p state sender operation a found f
   unfolding message_state
   state_refused found j none e q = rw e refl
   state_refused found j (some f) e q = rw (e, q) refl
 
-  state_admitted : (found : Found) (j : ℕ) (o : Option File) (f : File) → found ≡ At j → o ≡ some f → admitted (area_at state j) sender operation ≡ true
+  state_admitted : (found : Maybe ℕ) (j : ℕ) (o : Option File) (f : File) → found ≡ Some j → o ≡ some f → admitted (area_at state j) sender operation ≡ true
       → operation_state p f state j sender operation a (reserve_word operation) (entry_of sender (area_at state j)) ≡ message_state p state sender operation a found o
   unfolding message_state
   state_admitted found j o f e s q = rw (e, s, q) refl
 
 module _ {image : List ℕ} {state : State} {o : Unit} (name : Name) (meant : Meant image state o (unit_in name)) (sender : ℕ) (operation : Operation) {n : ℕ} (is : n ≡ named name)
-    {found : Found} (search : found ≡ area_named n state) where
+    {found : Maybe ℕ} (search : found ≡ area_named n state) where
   -- question 1 is answered yes
   mine : {p : Plain} → Represents image state p → known p (unit_in name) ≡ true
   mine {p} r = is_true (known p (unit_in name)) (meant_known meant r)
@@ -277,7 +262,7 @@ module _ {image : List ℕ} {state : State} {o : Unit} (name : Name) (meant : Me
   found_is : area_named (named name) state ≡ found
   found_is = ap (λ (m : ℕ). area_named m state) (sym is) ∙ sym search
 
-  pub message_shut : {lent : List ℕ} {reply : AreaReply} → found ≡ Absent → reply ≡ area_reply state 0x4800 0 0 → AreaMessages image state o name sender operation lent reply lent image
+  pub message_shut : {lent : List ℕ} {reply : AreaReply} → found ≡ None → reply ≡ area_reply state 0x4800 0 0 → AreaMessages image state o name sender operation lent reply lent image
   message_shut {lent} absent e = record {
     all = λ p g r num.
         rw e (record {
@@ -287,8 +272,8 @@ module _ {image : List ℕ} {state : State} {o : Unit} (name : Name) (meant : Me
         });
   }
 
-  module _ {j : ℕ} (at : found ≡ At j) {area : Area} (own : area ≡ area_at state j) where
-    here : area_named (named name) state ≡ At j
+  module _ {j : ℕ} (at : found ≡ Some j) {area : Area} (own : area ≡ area_at state j) where
+    here : area_named (named name) state ≡ Some j
     here = found_is ∙ at
 
     kept : {lent : List ℕ} {reply : AreaReply} (word : ℕ) → word ≢ 0 → admitted (area_at state j) sender operation ≡ false

@@ -1,5 +1,5 @@
 -- The messages to an area process, said of the plain unit: the answer, and the lent words, image and state that are left.
-use Rattle.std.specs.Prelude.{◌≡◌, Bool, false, not, cond, ◌&&◌, List, [], ◌∷◌, ◌≢◌, ℕ, zero, suc, eqb, length}
+use Rattle.std.specs.Prelude.{◌≡◌, Bool, false, not, cond, ◌&&◌, List, [], ◌∷◌, ◌≢◌, ℕ, zero, suc, eqb, length, Some, None, Option as Maybe}
 use Rattle.std.proofs.Math.Option.{Option, none, some}
 use Rattle.types.specs.declared.Name.{Name}
 use Rattle.types.specs.declared.Answer.{Answer}
@@ -10,8 +10,6 @@ use Rattle.types.specs.declared.Operation.TheVariants.{Reserve, Position, Sense,
 use Rattle.types.specs.State.{area_at}
 use Rattle.disc.specs.Names.{named}
 use Rattle.catalog.specs.declared.Unit.{Unit}
-use Rattle.state.specs.declared.Found.{Found}
-use Rattle.state.specs.declared.Found.TheVariants.{At, Absent}
 use Rattle.state.specs.declared.Kind.TheVariants.{Exclusive}
 use Rattle.state.specs.Areas.{set_area, area_named, entry_of, any_other, reserved, released}
 use Rattle.plain.specs.Table.{table_find}
@@ -63,20 +61,20 @@ user_state p f state j u (Transput operation bytes block) a = transput_state p f
 user_state p f state j u (Other operation) a = state
 
 -- "Reserve 2 to 4"; "Release and all else: sender a user?", by the count of a Reserve and where the sender's entry is found.
-unfoldable pub operation_state : Plain → File → State → ℕ → ℕ → Operation → Answer → ℕ → Found → State
+unfoldable pub operation_state : Plain → File → State → ℕ → ℕ → Operation → Answer → ℕ → Maybe ℕ → State
 operation_state p f state j sender operation a (suc count) found = set_area state j (reserved (area_at state j) sender (suc count)).area
-operation_state p f state j sender operation a zero (At u) = user_state p f state j u operation a
-operation_state p f state j sender operation a zero Absent = state
+operation_state p f state j sender operation a zero (Some u) = user_state p f state j u operation a
+operation_state p f state j sender operation a zero None = state
 
 -- "No other exclusive user? 0200h; sender not 0? 0810h; known operation? 0A00h."
 abbrev pub admitted : Area → ℕ → Operation → Bool
 admitted area sender operation = not (any_other Exclusive sender area) && (not (eqb sender 0) && is_known operation)
 
 -- "The first no decides; nothing changes", by the descriptor of the name and its file.
-unfoldable pub message_state : Plain → State → ℕ → Operation → Answer → Found → Option File → State
-message_state p state sender operation a Absent f = state
-message_state p state sender operation a (At j) none = state
-message_state p state sender operation a (At j) (some f) =
+unfoldable pub message_state : Plain → State → ℕ → Operation → Answer → Maybe ℕ → Option File → State
+message_state p state sender operation a None f = state
+message_state p state sender operation a (Some j) none = state
+message_state p state sender operation a (Some j) (some f) =
     cond (admitted (area_at state j) sender operation)
     (operation_state p f state j sender operation a (reserve_word operation) (entry_of sender (area_at state j))) state
 
@@ -102,7 +100,7 @@ pub record OperatesFrom (image : List ℕ) (state : State) (o : Unit) (j sender 
   pub good : Good p
   pub represents : Represents image state p
   pub numbers : NumbersOf o p
-  pub named : area_named n state ≡ At j
+  pub named : area_named n state ≡ Some j
   pub file : table_find n p.files ≡ some f
   pub nonzero : sender ≢ 0
   pub alone : any_other Exclusive sender (area_at state j) ≡ false

@@ -1,4 +1,5 @@
 -- Reserve, Release and Position on the state are those of the plain unit: what each leaves beside the outcome.
+use Rattle.std.specs.Prelude.{Some}
 use mathlib.Core.Path.{◌≡◌, refl, sym, ap, ◌∙◌}
 use mathlib.Core.Bool.{Bool, true, false, not, cond}
 use mathlib.Core.List.{List}
@@ -15,7 +16,6 @@ use Rattle.types.specs.declared.State.{State}
 use Rattle.types.specs.declared.Operation.TheVariants.{Reserve}
 use Rattle.types.specs.State.{vacant_user, area_at, user_at}
 use Rattle.disc.specs.Numbers.{negative}
-use Rattle.state.specs.declared.Found.TheVariants.{At}
 use Rattle.state.specs.Areas.{set_area, area_named, reserved, released, moved}
 use Rattle.plain.specs.Table.{Table, table_find}
 use Rattle.plain.specs.Unit.{Plain, File, AreaUser}
@@ -37,7 +37,7 @@ use Rattle.area_users.specs.Seat.{Seat}
 
 -- ---- Reserve
 
-module _ {image : List ℕ} {state : State} {p : Plain} (g : Good p) (r : Represents image state p) (n j : ℕ) (e : area_named n state ≡ At j) (sender : ℕ) (h : sender ≢ 0)
+module _ {image : List ℕ} {state : State} {p : Plain} (g : Good p) (r : Represents image state p) (n j : ℕ) (e : area_named n state ≡ Some j) (sender : ℕ) (h : sender ≢ 0)
     (alone : plain.other plain.is_exclusive sender (users_in (area_at state j).users) ≡ false) where
   pub reserve_leaves : (count : ℕ) (lent : List ℕ)
       → Leaves (plain.step_reserve p n sender (users_in (area_at state j).users) count lent) (answer (reserved (area_at state j) sender count).word 0 0 0) lent

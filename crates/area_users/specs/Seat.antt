@@ -1,9 +1,8 @@
 -- What a message to an area process finds.
-use Rattle.std.specs.Prelude.{◌≡◌, List, ◌≢◌, ℕ}
+use Rattle.std.specs.Prelude.{◌≡◌, List, ◌≢◌, ℕ, Some}
 use Rattle.std.proofs.Math.Option.{some}
 use Rattle.types.specs.declared.State.{State}
 use Rattle.types.specs.State.{area_at, user_at}
-use Rattle.state.specs.declared.Found.TheVariants.{At}
 use Rattle.state.specs.Areas.{area_named, entry_of}
 use Rattle.plain.specs.Table.{Table, table_find}
 use Rattle.plain.specs.Unit.{Plain, File, AreaUser}
@@ -14,9 +13,9 @@ use Rattle.refine.specs.Represents.{users_in, Represents}
 pub record Seat (image : List ℕ) (state : State) (p : Plain) (n j sender u : ℕ) (f : File) : Type 0 where
   pub good : Good p
   pub represents : Represents image state p
-  pub named : area_named n state ≡ At j
+  pub named : area_named n state ≡ Some j
   pub nonzero : sender ≢ 0
-  pub entry : entry_of sender (area_at state j) ≡ At u
+  pub entry : entry_of sender (area_at state j) ≡ Some u
   pub file : table_find n p.files ≡ some f
 
 -- The users of descriptor j, and that of its entry u, as the plain unit has them.

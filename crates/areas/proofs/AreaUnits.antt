@@ -17,8 +17,7 @@ use Rattle.refine.proofs.StateLaws.{same_room}
 use Rattle.preservation.proofs.Whole.{on_disc, stand_for_lem, still}
 use Rattle.preservation.proofs.BookStep.{book_on}
 use Rattle.preservation.proofs.AreaSteps.{areas_on, open_areas, close_areas}
-use Rattle.areas.specs.declared.AreaDone.{AreaDone}
-use Rattle.areas.specs.Areas.{AreaCreated, dummy_create, made, CreateAreaStep, AreaRemoved, dummy_remove, books, RemoveAreaStep}
+use Rattle.areas.specs.Areas.{AreaDone, AreaCreated, dummy_create, made, CreateAreaStep, AreaRemoved, dummy_remove, books, RemoveAreaStep}
 
 module _ {image : List ℕ} {state : State} {p : Plain} (g : Good p) (r : Represents image state p) where
   created : {n : ℕ} {next : State} {q : Plain} → AreaCreated p state n next q → StandFor image next q

@@ -1,4 +1,5 @@
 -- The answers of Create area on the plain unit, by what the searches of SYS and of the state found.
+use Rattle.std.specs.Prelude.{Option, Some, None}
 use mathlib.Core.Path.{◌≡◌, refl, ap₂, ◌∙◌}
 use mathlib.Core.Bool.{true, false}
 use mathlib.Core.List.{List, []}
@@ -10,14 +11,11 @@ use lib.Dec.{T}
 use borrow.Author.Tests.{lt-ltb, le-ltb}
 use Rattle.types.specs.declared.Name.{Name}
 use Rattle.types.specs.declared.State.{State}
-use Rattle.disc.specs.Names.{named, unit_in, is_system}
+use Rattle.disc.specs.Names.{packed, named, unit_in, is_system}
 use Rattle.names.specs.NameIs.{NameIs}
 use Rattle.catalog.specs.declared.Place.{Place}
-use Rattle.catalog.specs.declared.Found.{Found}
-use Rattle.catalog.specs.declared.Found.TheVariants as place
 use Rattle.catalog.specs.declared.Unit.{Unit}
 use Rattle.catalog.specs.Catalog.{entry_word}
-use Rattle.state.specs.declared.Found.TheVariants.{At, Absent}
 use Rattle.state.specs.Areas.{vacant_area_of, area_opened}
 use Rattle.plain.specs.Table.{table_find, table_put, is_some}
 use Rattle.plain.specs.Unit.{Plain, entry, with_areas}
@@ -26,6 +24,8 @@ use Rattle.plain.specs.Areas.{step_create_area}
 use Rattle.plain.proofs.QuestionLaws.{asks_yes, asks_no}
 use Rattle.refine.proofs.LeavesLaws.{refuses, writes}
 use Rattle.refine.proofs.StateLaws.{same_room, same_full}
+use Rattle.lookup.specs.Unit.{Meant}
+use Rattle.lookup.specs.Find.{FindsName}
 use Rattle.lookup.specs.Files.{name_open}
 use Rattle.lookup.proofs.MeantLaws.{meant_known}
 use Rattle.lookup.proofs.FileLaws.{live_size, live_index_lem, name_absent}
@@ -59,13 +59,22 @@ module _ (p : Plain) (name : Name) (lent : List ℕ) (mine : T (known p (unit_in
 
 -- ---- by what was found
 
-module _ {image : List ℕ} {state : State} {o : Unit} {name : Name} {n : ℕ} {r : Found} (s : Sought image state o name n r) where
-  pub creates_none : r ≡ place.Nothing → CreatesArea image o state name (record { result = 0x4800; state = state })
+-- the message in hand and what its search found; the file of the name, which has no area process
+pub sought : {image : List ℕ} {state : State} {o : Unit} {name stored : Name} {r : Option Place} → Meant image state o (unit_in name) → NameIs stored (named name) → FindsName image o (packed stored) r
+    → Sought image state o name (packed stored) r
+sought meant is finds = record { meant = meant; is = is.packed; finds = finds }
+
+pub sought_file : {image : List ℕ} {state : State} {o : Unit} {name : Name} {n : ℕ} {r : Option Place} {at : Place} → Sought image state o name n r → r ≡ Some at
+    → is_system n ≡ false → name_open n state ≡ false → SoughtFile image state o name at
+sought_file sought is ordinary shut = record { n = _; r = _; sought = sought; at = is; ordinary = ordinary; shut = shut }
+
+module _ {image : List ℕ} {state : State} {o : Unit} {name : Name} {n : ℕ} {r : Option Place} (s : Sought image state o name n r) where
+  pub creates_none : r ≡ None → CreatesArea image o state name (record { result = 0x4800; state = state })
   creates_none e = record {
     all = λ p g rep num. record { step = λ lent. refuses (λ z. omega arith) (create_none p name lent (meant_known s.meant rep) ((found s g rep num).nothing e)) refl };
   }
 
-  module _ {at : Place} (e : r ≡ place.At at) where
+  module _ {at : Place} (e : r ≡ Some at) where
     pub creates_system : is_system n ≡ true → CreatesArea image o state name (record { result = 0x0A00; state = state })
     creates_system h = record {
       all = λ p g rep num. record {
@@ -82,7 +91,7 @@ module _ {image : List ℕ} {state : State} {o : Unit} {name : Name} {n : ℕ} {
 
 -- a file with no area process
 module _ {image : List ℕ} {state : State} {o : Unit} {name : Name} {at : Place} (s : SoughtFile image state o name at) where
-  pub creates_full : vacant_area_of state ≡ Absent → CreatesArea image o state name (record { result = 0x0900; state = state })
+  pub creates_full : vacant_area_of state ≡ None → CreatesArea image o state name (record { result = 0x0900; state = state })
   creates_full h = record {
     all = λ p g rep num. record {
       step = λ lent.
@@ -93,7 +102,7 @@ module _ {image : List ℕ} {state : State} {o : Unit} {name : Name} {at : Place
   }
 
   -- the lowest vacant descriptor, with the words of the entry
-  pub creates_done : {j : ℕ} {stored : Name} {size sector : ℕ} {next : State} → vacant_area_of state ≡ At j → NameIs stored (named name)
+  pub creates_done : {j : ℕ} {stored : Name} {size sector : ℕ} {next : State} → vacant_area_of state ≡ Some j → NameIs stored (named name)
       → size ≡ entry_word image at 7 → sector ≡ entry_word image at 8 → next ≡ area_opened state j stored (record { 0 = sector }) size
       → CreatesArea image o state name (record { result = 0; state = next })
   creates_done {j} {stored} {size} {sector} {next} vacant means long first opens = record {

@@ -1,6 +1,7 @@
 -- The answers of Remove area on the plain unit, by what the searches of the state and of SYS found.
+use Rattle.std.specs.Prelude.{Option, Some, None}
 use mathlib.Core.Path.{◌≡◌, refl, sym, ap, ◌∙◌}
-use mathlib.Core.Bool.{true, false}
+use mathlib.Core.Bool.{Bool, true, false}
 use mathlib.Core.List.{List}
 use mathlib.Core.Logic.{◌≢◌}
 use mathlib.Core.Option.{none, some}
@@ -13,13 +14,11 @@ use Rattle.types.specs.declared.Name.{Name}
 use Rattle.types.specs.declared.Area.{Area}
 use Rattle.types.specs.declared.State.{State}
 use Rattle.types.specs.State.{area_at}
-use Rattle.disc.specs.Names.{named, unit_in, is_system}
+use Rattle.disc.specs.Names.{packed, named, unit_in, is_system}
 use Rattle.disc.proofs.SliceLaws.{none_left}
+use Rattle.names.specs.NameIs.{NameIs}
 use Rattle.catalog.specs.declared.Place.{Place}
-use Rattle.catalog.specs.declared.Found.{Found}
-use Rattle.catalog.specs.declared.Found.TheVariants as place
 use Rattle.catalog.specs.declared.Unit.{Unit}
-use Rattle.state.specs.declared.Found.TheVariants.{At, Absent}
 use Rattle.state.specs.Areas.{area_named, area_closed, user_count}
 use Rattle.plain.specs.Table.{Table, table_find, table_put, table_remove}
 use Rattle.plain.specs.Unit.{Plain, File, AreaUser, with_tables}
@@ -72,8 +71,17 @@ pub record Ordinary (image : List ℕ) (state : State) (o : Unit) (name : Name) 
 -- Descriptor j is that of the name.
 pub record Live (image : List ℕ) (state : State) (o : Unit) (name : Name) (n j : ℕ) (area : Area) : Type 0 where
   pub ordinary : Ordinary image state o name n
-  pub found : area_named n state ≡ At j
+  pub found : area_named n state ≡ Some j
   pub its : area ≡ area_at state j
+
+-- of the message in hand
+pub ordinary : {image : List ℕ} {state : State} {o : Unit} {name stored : Name} {b : Bool} → Meant image state o (unit_in name) → NameIs stored (named name) → b ≡ is_system (packed stored) → b ≡ false
+    → Ordinary image state o name (packed stored)
+ordinary meant is system f = record { meant = meant; is = is.packed; other = sym system ∙ f }
+
+pub live : {image : List ℕ} {state : State} {o : Unit} {name : Name} {n j : ℕ} {area : Area} → Ordinary image state o name n → area_named n state ≡ Some j → area ≡ area_at state j
+    → Live image state o name n j area
+live ordinary found its = record { ordinary = ordinary; found = found; its = its }
 
 pub removes_system : {image : List ℕ} {state : State} {o : Unit} {name : Name} {n : ℕ} → Meant image state o (unit_in name) → n ≡ named name → is_system n ≡ true
     → RemovesArea image o state name image (record { result = 0x0A00; state = state })
@@ -82,19 +90,19 @@ removes_system {name = name} meant is h = record {
 }
 
 module _ {image : List ℕ} {state : State} {o : Unit} {name : Name} {n : ℕ} (s : Ordinary image state o name n) where
-  ordinary : is_system (named name) ≡ false
-  ordinary = ap is_system (sym s.is) ∙ s.other
+  not_system : is_system (named name) ≡ false
+  not_system = ap is_system (sym s.is) ∙ s.other
 
-  pub removes_none : area_named n state ≡ Absent → RemovesArea image o state name image (record { result = 0; state = state })
+  pub removes_none : area_named n state ≡ None → RemovesArea image o state name image (record { result = 0; state = state })
   removes_none h = record {
     all = λ p g rep num. record {
       step = λ lent.
           let gone = same_absent state p rep.areas (named name) (ap (λ (m : ℕ). area_named m state) (sym s.is) ∙ h) in
-          writes (remove_none p name lent (meant_known s.meant rep) ordinary gone) (dummy_remove refl refl refl);
+          writes (remove_none p name lent (meant_known s.meant rep) not_system gone) (dummy_remove refl refl refl);
     };
   }
 
-  pub area_inside : {j : ℕ} → area_named n state ≡ At j → j < 8
+  pub area_inside : {j : ℕ} → area_named n state ≡ Some j → j < 8
   area_inside {j} found = omega (arith, named_inside state n j found, s.meant.standing.represents.areas.shaped.eight)
 
 module _ {image : List ℕ} {state : State} {o : Unit} {name : Name} {n j : ℕ} {area : Area} (s : Live image state o name n j area) where
@@ -104,7 +112,7 @@ module _ {image : List ℕ} {state : State} {o : Unit} {name : Name} {n j : ℕ}
   mine : {p : Plain} → Represents image state p → T (known p (unit_in name))
   mine rep = meant_known s.ordinary.meant rep
 
-  here : area_named (named name) state ≡ At j
+  here : area_named (named name) state ≡ Some j
   here = ap (λ (m : ℕ). area_named m state) (sym s.ordinary.is) ∙ s.found
 
   there : {p : Plain} → Represents image state p → table_find (named name) p.areas ≡ some users
@@ -118,19 +126,19 @@ module _ {image : List ℕ} {state : State} {o : Unit} {name : Name} {n j : ℕ}
   pub removes_used : user_count area ≢ 0 → RemovesArea image o state name image (record { result = 0; state = state })
   removes_used h = record {
     all = λ p g rep num. record {
-      step = λ lent. writes (remove_used p name lent (mine rep) (ordinary s.ordinary) users (there rep) (λ z. h (sym (count_is rep) ∙ z))) (dummy_remove refl refl refl);
+      step = λ lent. writes (remove_used p name lent (mine rep) (not_system s.ordinary) users (there rep) (λ z. h (sym (count_is rep) ∙ z))) (dummy_remove refl refl refl);
     };
   }
 
   file_of : {p : Plain} → Good p → Represents image state p → (f : File) × (table_find (named name) p.files ≡ some f)
   file_of g rep = let a = g.areas (named name) users (there rep) in (a.file, a.entered)
 
-  module _ {r : Found} (finds : FindsName image o n r) where
+  module _ {r : Option Place} (finds : FindsName image o n r) where
     sought : Sought image state o name n r
     sought = record { meant = s.ordinary.meant; is = s.ordinary.is; finds = finds }
 
     -- the name of an open area is entered
-    pub removes_lost : {after : List ℕ} → r ≡ place.Nothing → RemovesArea image o state name after (record { result = 0; state = state })
+    pub removes_lost : {after : List ℕ} → r ≡ None → RemovesArea image o state name after (record { result = 0; state = state })
     removes_lost e = record {
       all = λ p g rep num.
           let f = file_of g rep in
@@ -138,7 +146,7 @@ module _ {image : List ℕ} {state : State} {o : Unit} {name : Name} {n j : ℕ}
           absurd (some≢none (sym entered ∙ (found sought g rep num).nothing e));
     }
 
-    module _ {at : Place} (e : r ≡ place.At at) where
+    module _ {at : Place} (e : r ≡ Some at) where
       can_from : {p : Plain} → Good p → Represents image state p → NumbersOf o p → (f : File) × CanBookFrom image o at area.index.0 area.length p (named name) f
       can_from {p} g rep num =
           let f = file_of g rep in (
@@ -163,7 +171,7 @@ module _ {image : List ℕ} {state : State} {o : Unit} {name : Name} {n j : ℕ}
           step = λ lent.
               let c = (can_from g rep num).1 in
               let none_there : length users ≡ 0 = count_is rep ∙ vacant in
-              writes (remove_done p name lent (mine rep) (ordinary s.ordinary) users (there rep) none_there _ c.file)
+              writes (remove_done p name lent (mine rep) (not_system s.ordinary) users (there rep) none_there _ c.file)
               (books (record {
                 f = _;
                 file = c.file;

@@ -1,14 +1,15 @@
 -- Area create and remove: the state that they leave, and what is booked.
-use Rattle.std.specs.Prelude.{◌≡◌, List, [], ℕ, ◌<◌, length}
+use Rattle.std.specs.Prelude.{◌≡◌, List, [], ℕ, ◌<◌, length, Result, Some, None}
 use Rattle.std.proofs.Math.Option.{some}
 use Rattle.types.specs.declared.Name.{Name}
+use Rattle.types.specs.declared.Refusal.{Refusal}
 use Rattle.types.specs.declared.State.{State}
+use Rattle.types.specs.Words.{result_word, left_of}
 use Rattle.disc.specs.Names.{named}
 use Rattle.disc.specs.Entries.{place_count, name_at, index_sector}
 use Rattle.names.specs.NameIs.{NameIs}
 use Rattle.catalog.specs.declared.Place.{Place}
 use Rattle.catalog.specs.declared.Unit.{Unit}
-use Rattle.state.specs.declared.Found.TheVariants.{At, Absent}
 use Rattle.state.specs.Areas.{area_named, vacant_area_of, area_opened, area_closed}
 use Rattle.plain.specs.Table.{table_find, table_put, table_remove}
 use Rattle.plain.specs.Unit.{Plain, File, sys_of, with_tables, with_areas}
@@ -20,7 +21,14 @@ use Rattle.refine.specs.Writes.{booked_image}
 use Rattle.refine.specs.Leaves.{Replies}
 use Rattle.lookup.specs.Unit.{NumbersOf, unit_places}
 use Rattle.lookup.specs.Find.{NameAt}
-use Rattle.areas.specs.declared.AreaDone.{AreaDone}
+
+-- A message's result word, and the state after it.
+pub record AreaDone : Type 0 where
+  pub result : ℕ
+  pub state : State
+
+abbrev pub area_done : State → Result State Refusal → AreaDone
+area_done state done = record { result = result_word done; state = left_of state done }
 
 -- ---- Create area
 
@@ -29,9 +37,9 @@ use Rattle.areas.specs.declared.AreaDone.{AreaDone}
 pub record AreaMade (p : Plain) (state : State) (n : ℕ) (next : State) (q : Plain) : Type 0 where
   pub f : File
   pub file : table_find n p.files ≡ some f
-  pub absent : area_named n state ≡ Absent
+  pub absent : area_named n state ≡ None
   pub j : ℕ
-  pub vacant : vacant_area_of state ≡ At j
+  pub vacant : vacant_area_of state ≡ Some j
   pub name : Name
   pub is : NameIs name n
   pub unit : q ≡ with_areas p (table_put n [] p.areas)
@@ -85,7 +93,7 @@ pub record AreaBooked (p : Plain) (image : List ℕ) (state : State) (n : ℕ) (
   pub inside : t < place_count p.H p.layers
   pub stands : name_at (unit_places image p) t ≡ n
   pub j : ℕ
-  pub found : area_named n state ≡ At j
+  pub found : area_named n state ≡ Some j
   pub unit : q ≡ with_tables p p.layers p.sys (table_put n (book_live f) p.files) (table_remove n p.areas)
   pub left : next ≡ area_closed state j
   pub written : after ≡ booked_image p (sys_of p) image t n f

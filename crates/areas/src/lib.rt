@@ -4,55 +4,32 @@
 
 ghost use Rattle.disc.specs.Names.{unit_in};
 ghost use Rattle.lookup.specs.Unit.{Meant};
-ghost use Rattle.areas.specs.Areas.{CanBook, Booked, CreatesArea, RemovesArea};
+ghost use Rattle.areas.specs.Areas.{area_done, CanBook, Booked, CreatesArea, RemovesArea};
 
-use catalog::{Found, Place, Unit};
-use types::{Name, Sector, State};
+use catalog::{Place, Unit};
+use types::{Name, Refusal, Sector, State};
 
-// The result word, and the state after the message.
-#[derive(Clone, Copy)]
-pub struct AreaDone {
-    pub result: u16,
-    pub state: State,
-}
-
-// Create area of the name in a message that means this unit. The image is only read.
-pub fn create_area(image: &[u16], unit: Unit, state: State, name: Name) -> AreaDone
+// Create area of the name in a message that means this unit: the state after it. The image is only read.
+pub fn create_area(image: &[u16], unit: Unit, state: State, name: Name) -> Result<State, Refusal>
     requires { Meant image.now state unit (unit_in name) }
-    ensures { CreatesArea image.now unit state name result }
+    ensures { CreatesArea image.now unit state name (area_done state result) }
 {
     let n = names::stored(name);
-    let Found::At(place) = lookup::find_name(image, unit, n) else {
-        return AreaDone {
-            result: 0x4800,
-            state: state,
-        };
+    let Some(place) = lookup::find_name(image, unit, n) else {
+        return Err(Refusal::NoArea);
     };
     if names::is_system(n) {
-        return AreaDone {
-            result: 0x0A00,
-            state: state,
-        };
+        return Err(Refusal::AreaIllegal);
     }
     if lookup::is_open(state, n) {
-        return AreaDone {
-            result: 0,
-            state: state,
-        };
+        return Ok(state);
     }
-    let state::Found::At(j) = state::vacant_area_of(state) else {
-        return AreaDone {
-            result: 0x0900,
-            state: state,
-        };
+    let Some(j) = state::vacant_area_of(state) else {
+        return Err(Refusal::AreaFull);
     };
     let length = catalog::entry_word(image, place, 7);
-    let index = catalog::entry_word(image, place, 8);
-    let next = state::open_area(state, j, n, Sector(index), length);
-    AreaDone {
-        result: 0,
-        state: next,
-    }
+    let index = Sector(catalog::entry_word(image, place, 8));
+    Ok(state::open_area(state, j, n, index, length))
 }
 
 // Books a live length and the slices of an index block in the entry of their file.
@@ -60,8 +37,7 @@ fn book(image: &mut [u16], unit: Unit, place: Place, index: Sector, length: u16)
     requires { CanBook image.old unit place index.0 length }
     ensures { Booked image.old unit place index.0 length image.new }
 {
-    let block = lookup::file_block(image, index);
-    let total = index::slice_total(block, unit.slice);
+    let total = index::slice_total(lookup::file_block(image, index), unit.slice);
     let mut entry = [0u16; 16];
     catalog::read_entry(image, place, &mut entry);
     entry[7] = length;
@@ -70,42 +46,31 @@ fn book(image: &mut [u16], unit: Unit, place: Place, index: Sector, length: u16)
     catalog::write_entry(image, place, &entry);
 }
 
-// Remove area of the name in a message that means this unit.
-pub fn remove_area(image: &mut [u16], unit: Unit, state: State, name: Name) -> AreaDone
+// Remove area of the name in a message that means this unit: the state after it.
+pub fn remove_area(
+    image: &mut [u16],
+    unit: Unit,
+    state: State,
+    name: Name,
+) -> Result<State, Refusal>
     requires { Meant image.old state unit (unit_in name) }
-    ensures { RemovesArea image.old unit state name image.new result }
+    ensures { RemovesArea image.old unit state name image.new (area_done state result) }
 {
     let n = names::stored(name);
     if names::is_system(n) {
-        return AreaDone {
-            result: 0x0A00,
-            state: state,
-        };
+        return Err(Refusal::AreaIllegal);
     }
-    let state::Found::At(j) = state::find_area(state, n) else {
-        return AreaDone {
-            result: 0,
-            state: state,
-        };
+    let Some(j) = state::find_area(state, n) else {
+        return Ok(state);
     };
     let area = state::area_at(state, j);
     if state::user_count(area) != 0 {
-        return AreaDone {
-            result: 0,
-            state: state,
-        };
+        return Ok(state);
     }
     // An open area's name is entered.
-    let Found::At(place) = lookup::find_name(image, unit, n) else {
-        return AreaDone {
-            result: 0,
-            state: state,
-        };
+    let Some(place) = lookup::find_name(image, unit, n) else {
+        return Ok(state);
     };
     book(image, unit, place, area.index, area.length);
-    let next = state::close_area(state, j);
-    AreaDone {
-        result: 0,
-        state: next,
-    }
+    Ok(state::close_area(state, j))
 }

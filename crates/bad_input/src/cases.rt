@@ -1,121 +1,72 @@
 // The cases, read line by line.
 
-ghost use Rattle.std.specs.Prelude.{◌<◌, ◌≤◌, length};
-
 use crate::report::show;
-use crate::setup::{Setup, usual, with_word};
+use crate::setup::Setup;
 use crate::unit::{Disc, build};
 use std::io::{self, Write};
 
-// Where a byte stands first from a place on; the text's length if it does not.
-fn find(text: &[u8], from: usize, byte: u8) -> usize
-    requires { from ≤ length text.now }
-    ensures { (from ≤ result) × (result ≤ length text.now) }
-{
-    let mut i = from;
-    while i < text.len() {
-        if text[i] == byte {
-            return i;
-        }
-        i += 1;
-    }
-    i
+// A text before and after the first such byte.
+fn split_at_byte(text: &[u8], byte: u8) -> Option<(&[u8], &[u8])> {
+    let at = text.iter().position(|b| *b == byte)?;
+    Some((&text[..at], &text[at + 1..]))
 }
 
 // A digit of base 16; 0 for another byte.
-fn digit(byte: u8) -> u32
-    ensures { result < 16 }
-{
-    if byte < 48 {
-        return 0;
+fn digit(byte: u8) -> u16 {
+    match byte {
+        b'0'..=b'9' => (byte - b'0') as u16,
+        b'A'..=b'F' => (byte - b'A') as u16 + 10,
+        _ => 0,
     }
-    if byte < 58 {
-        return byte as u32 - 48;
-    }
-    if byte < 65 {
-        return 0;
-    }
-    if byte < 71 {
-        return byte as u32 - 55;
-    }
-    0
 }
 
 // The number that digits of a base say, carry out of 16 bits dropped.
-fn digits(text: &[u8], from: usize, to: usize, base: u32) -> u16
-    requires { (to ≤ length text.now) × (base ≤ 16) }
-{
-    let mut value: u32 = 0;
-    let mut i = from;
-    while i < to {
-        value = (value * base + digit(text[i])) % 65536;
-        i += 1;
-    }
-    value as u16
+fn digits(text: &[u8], base: u16) -> u16 {
+    text.iter().fold(0u16, |value, byte| {
+        value.wrapping_mul(base).wrapping_add(digit(*byte))
+    })
 }
 
-// The number in a part of the text.
-fn number(text: &[u8], from: usize, to: usize) -> u16
-    requires { to ≤ length text.now }
-{
-    if to <= from {
-        return 0;
+// The number that a text says.
+// By hand: std's `from_str_radix` refuses what these lines may have, an empty text, other bytes, and a number above FFFFh.
+fn number(text: &[u8]) -> u16 {
+    match text {
+        [hex @ .., b'h'] => digits(hex, 16),
+        _ => digits(text, 10),
     }
-    if text[to - 1] == b'h' {
-        return digits(text, from, to - 1, 16);
-    }
-    digits(text, from, to, 10)
 }
 
 // One PLACE.WORD=VALUE; another text sets nothing.
-fn edit(image: &mut Disc, setup: Setup, text: &[u8]) -> Setup {
-    let dot = find(text, 0, b'.');
-    let equals = find(text, dot, b'=');
-    if equals == text.len() {
-        return setup;
-    }
-    let place = number(text, 0, dot);
-    let word = number(text, dot + 1, equals);
-    let value = number(text, equals + 1, text.len());
-    with_word(image, setup, place, word, value)
+fn edit(image: &mut Disc, setup: &mut Setup, text: &[u8]) {
+    let Some((place, others)) = split_at_byte(text, b'.') else {
+        return;
+    };
+    let Some((word, value)) = split_at_byte(others, b'=') else {
+        return;
+    };
+    setup.set_word(image, number(place), number(word), number(value));
 }
 
-// What a line sets, from a place on.
-fn edits(image: &mut Disc, text: &[u8], from: usize) -> Setup
-    requires { from ≤ length text.now }
-{
-    let mut setup = usual();
-    let mut at = from;
-    while at < text.len() {
-        let end = find(text, at, b' ');
-        setup = edit(image, setup, &text[at..end]);
-        if end == text.len() {
-            return setup;
-        }
-        at = end + 1;
-    }
-    setup
-}
-
-// One case.
+// One case: its name, and behind ':' what it sets.
 fn case<W: Write>(image: &mut Disc, text: &[u8], out: &mut W) -> io::Result<()> {
-    let colon = find(text, 0, b':');
+    let (name, edits) = split_at_byte(text, b':').unwrap_or((text, b""));
+    let mut setup = Setup::usual();
     build(image);
-    let setup = edits(image, text, colon);
-    out.write_all(&text[..colon])?;
-    show(image, setup.count as usize, setup.state, setup.unit, out)
+    for text in edits.split(|byte| *byte == b' ') {
+        edit(image, &mut setup, text);
+    }
+    out.write_all(name)?;
+    show(image, &setup, out)
 }
 
-// All cases.
+// All cases; behind the last line's end there is none.
 pub fn run<W: Write>(image: &mut Disc, text: &[u8], out: &mut W) -> io::Result<()> {
-    let mut at: usize = 0;
-    while at < text.len() {
-        let end = find(text, at, b'\n');
-        case(image, &text[at..end], out)?;
-        if end == text.len() {
-            return Ok(());
-        }
-        at = end + 1;
+    if text.is_empty() {
+        return Ok(());
+    }
+    let lines = text.strip_suffix(b"\n").unwrap_or(text);
+    for line in lines.split(|byte| *byte == b'\n') {
+        case(image, line, out)?;
     }
     Ok(())
 }

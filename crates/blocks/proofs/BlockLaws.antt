@@ -1,4 +1,5 @@
 -- What the image says of a file: its attributes, the sectors of its blocks, and their words.
+use Rattle.std.specs.Prelude.{Option, Some}
 use mathlib.Core.Path.{◌≡◌, sym, ap, ◌∙◌}
 use mathlib.Core.List.{List, ◌++◌}
 use mathlib.Core.Option.{some}
@@ -15,8 +16,6 @@ use Rattle.index.specs.Block.{whole_index, joint_sector}
 use Rattle.index.proofs.BlockLaws.{holds-whole_index}
 use Rattle.index.proofs.ReadLaws.{read_sector}
 use Rattle.catalog.specs.declared.Place.{Place}
-use Rattle.catalog.specs.declared.Found.{Found}
-use Rattle.catalog.specs.declared.Found.TheVariants.{At, Nothing}
 use Rattle.catalog.specs.declared.Unit.{Unit}
 use Rattle.catalog.specs.Catalog.{entry_word}
 use Rattle.plain.specs.Table.{table_find}
@@ -34,11 +33,8 @@ use Rattle.blocks.specs.Blocks.{entry_attributes, AttributesOf, BlockFrom, SomeB
 
 -- ---- attributes
 
-module _ {image : List ℕ} {o : Unit} {n : ℕ} {found : Found} (finds : FindsName image o n found) where
-  pub attributes_none : found ≡ Nothing → AttributesOf image o n 0
-  attributes_none e = record { all = λ p on num. sym (ap entry_attributes ((finds.all p on num).nothing e)) }
-
-  pub attributes_some : {place : Place} {r : ℕ} → found ≡ At place → r ≡ entry_word image place 6 → AttributesOf image o n r
+module _ {image : List ℕ} {o : Unit} {n : ℕ} {found : Option Place} (finds : FindsName image o n found) where
+  pub attributes_some : {place : Place} {r : ℕ} → found ≡ Some place → r ≡ entry_word image place 6 → AttributesOf image o n r
   attributes_some {place} e w = record {
     all = λ p on num.
         let a = (finds.all p on num).at place e in

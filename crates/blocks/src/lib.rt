@@ -8,15 +8,16 @@ ghost use Rattle.disc.specs.Names.{packed};
 ghost use Rattle.lookup.specs.Unit.{Searchable};
 ghost use Rattle.blocks.specs.Blocks.{AttributesOf, SomeBlock, BlockSectorOf, BlockRead, BlockReplaced};
 
-use catalog::{Found, Unit};
+use catalog::Unit;
 use types::{Block, Name, Sector};
 
 // The attributes of a name as it is stored; 0 if it is not entered.
+// 0 and not `None`: the clause (specs/Blocks `entry_attributes`) has 0 there.
 pub fn attributes_of(image: &[u16], unit: Unit, name: Name) -> u16
     requires { Searchable image.now unit }
     ensures { AttributesOf image.now unit (packed name) result }
 {
-    let Found::At(place) = lookup::find_name(image, unit, name) else {
+    let Some(place) = lookup::find_name(image, unit, name) else {
         return 0;
     };
     catalog::entry_word(image, place, 6)

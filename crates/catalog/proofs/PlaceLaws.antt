@@ -1,4 +1,5 @@
 -- The places of a catalog by number, and what the searches find in a catalog that lies in given slices.
+use Rattle.std.specs.Prelude.{Some, None}
 use mathlib.Core.Path.{◌≡◌, sym, ap, ap₂, ◌∙◌}
 use mathlib.Core.Bool.{Bool}
 use mathlib.Core.List.{List}
@@ -16,7 +17,6 @@ use Rattle.index.proofs.ReadLaws.{read_sector}
 use Rattle.sound.specs.Places.{Unused}
 use Rattle.catalog.specs.declared.Catalog.{Catalog}
 use Rattle.catalog.specs.declared.Place.{Place}
-use Rattle.catalog.specs.declared.Found.TheVariants.{At, Nothing}
 use Rattle.catalog.specs.Catalog.{key_sector, slot_word, entry_word, slot_named, slot_unused, place_from, place_named, place_unused}
 use Rattle.catalog.proofs.SearchLaws.{place_first, no_place, name_decides, unused_decides}
 
@@ -135,7 +135,7 @@ module _ (image : List ℕ) (c : Catalog) (F s : ℕ) (slices : List ℕ) (d : L
     abbrev H : ℕ
     H = c.keys
 
-    first_with : (p : Place) → place_from test (key_sector image c k) c.layers 0 ≡ At p → FirstWith Q (block_sector F s slices c.from) c.keys c.layers k p
+    first_with : (p : Place) → place_from test (key_sector image c k) c.layers 0 ≡ Some p → FirstWith Q (block_sector F s slices c.from) c.keys c.layers k p
     first_with p found =
         let f = place_first test (key_sector image c k) c.layers 0 p found in
         let n = place_number H k f.layer p.slot in
@@ -154,7 +154,7 @@ module _ (image : List ℕ) (c : Catalog) (F s : ℕ) (slices : List ℕ) (d : L
           slot = sym (number_slot H k f.layer p.slot f.slot);
         }
 
-    none_with : place_from test (key_sector image c k) c.layers 0 ≡ Nothing → NoneWith Q c.keys c.layers k
+    none_with : place_from test (key_sector image c k) c.layers 0 ≡ None → NoneWith Q c.keys c.layers k
     none_with missed = record {
       lacks = λ t x e q.
           let o = place_of_key H c.layers k t (omega arith) x e in
@@ -167,16 +167,16 @@ module _ (image : List ℕ) (c : Catalog) (F s : ℕ) (slices : List ℕ) (d : L
     key_low : key_of c.keys n < c.keys
     key_low = mod-lt _ keys
 
-    pub named_at : (p : Place) → place_named image c n ≡ At p → FirstWith (λ t. name_at P t ≡ n) (block_sector F s slices c.from) c.keys c.layers (key_of c.keys n) p
+    pub named_at : (p : Place) → place_named image c n ≡ Some p → FirstWith (λ t. name_at P t ≡ n) (block_sector F s slices c.from) c.keys c.layers (key_of c.keys n) p
     named_at = first_with (slot_named image n) (λ t. name_at P t ≡ n) (key_of c.keys n) key_low (λ l i x y. named _ l i key_low x y n)
 
-    pub named_nothing : place_named image c n ≡ Nothing → NoneWith (λ t. name_at P t ≡ n) c.keys c.layers (key_of c.keys n)
+    pub named_nothing : place_named image c n ≡ None → NoneWith (λ t. name_at P t ≡ n) c.keys c.layers (key_of c.keys n)
     named_nothing = none_with (slot_named image n) (λ t. name_at P t ≡ n) (key_of c.keys n) key_low (λ l i x y. named _ l i key_low x y n)
 
   -- "An entry takes the first unused place": the places of the key before it, or all of them, are used
   module _ (k : ℕ) (low : k < c.keys) where
-    pub unused_at : (p : Place) → place_unused image c k ≡ At p → FirstWith (Unused P) (block_sector F s slices c.from) c.keys c.layers k p
+    pub unused_at : (p : Place) → place_unused image c k ≡ Some p → FirstWith (Unused P) (block_sector F s slices c.from) c.keys c.layers k p
     unused_at = first_with (slot_unused image) (Unused P) k low (λ l i x y. unused k l i low x y)
 
-    pub unused_nothing : place_unused image c k ≡ Nothing → NoneWith (Unused P) c.keys c.layers k
+    pub unused_nothing : place_unused image c k ≡ None → NoneWith (Unused P) c.keys c.layers k
     unused_nothing = none_with (slot_unused image) (Unused P) k low (λ l i x y. unused k l i low x y)

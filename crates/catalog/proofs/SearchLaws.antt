@@ -1,4 +1,5 @@
 -- What the searches find: the first slot of a sector and the first place of a key that pass a test; and what the tests decide.
+use Rattle.std.specs.Prelude.{Option, Some, None}
 use mathlib.Core.Path.{◌≡◌, refl, sym, ap, ◌∙◌}
 use mathlib.Core.Bool.{Bool, true, false, ◌&&◌, cond}
 use mathlib.Core.List.{List}
@@ -13,8 +14,6 @@ use Rattle.disc.specs.Decide.{Decides}
 use Rattle.disc.proofs.Compare.{same_or}
 use Rattle.disc.proofs.DecideLaws.{holds, fails}
 use Rattle.catalog.specs.declared.Place.{Place}
-use Rattle.catalog.specs.declared.Found.{Found}
-use Rattle.catalog.specs.declared.Found.TheVariants.{At, Nothing}
 use Rattle.catalog.specs.Catalog.{place_at, slot_word, slot_named, zero_run, slot_unused, slot_from, first_slot, slot_or, place_from}
 
 -- ---- slots
@@ -62,10 +61,10 @@ module _ (test : ℕ → ℕ → Bool) (sectors : ℕ → ℕ) where
     passed : 16 ≤ i → (m v : ℕ) → v < 16 → m ≡ l → test (sectors m) v ≡ false
     passed h m v x e = rw e (f.before v (omega arith) (omega arith))
 
-    first_step : (rest : Found) (p : Place) → (rest ≡ At p → FirstPlace test sectors n (suc l) p) → slot_or (sectors l) i rest ≡ At p → FirstPlace test sectors (suc n) l p
+    first_step : (rest : Option Place) (p : Place) → (rest ≡ Some p → FirstPlace test sectors n (suc l) p) → slot_or (sectors l) i rest ≡ Some p → FirstPlace test sectors (suc n) l p
     first_step rest p ih e = go (ltb i 16) refl e
       where
-        go : (b : Bool) → ltb i 16 ≡ b → cond b (At (place_at (sectors l) i)) rest ≡ At p → FirstPlace test sectors (suc n) l p
+        go : (b : Bool) → ltb i 16 ≡ b → cond b (Some (place_at (sectors l) i)) rest ≡ Some p → FirstPlace test sectors (suc n) l p
         go true t e =
             let h : i < 16 = ltb-true i 16 t in
             let same : place_at (sectors l) i ≡ p = cc in
@@ -91,22 +90,22 @@ module _ (test : ℕ → ℕ → Bool) (sectors : ℕ → ℕ) where
               before = λ m v a x y. same_or m l (passed (ltb-false i 16 t) m v x) (λ d. r.before m v (omega arith) x y);
             }
 
-    none_step : (rest : Found) → (rest ≡ Nothing → NoPlace test sectors n (suc l)) → slot_or (sectors l) i rest ≡ Nothing → NoPlace test sectors (suc n) l
+    none_step : (rest : Option Place) → (rest ≡ None → NoPlace test sectors n (suc l)) → slot_or (sectors l) i rest ≡ None → NoPlace test sectors (suc n) l
     none_step rest ih e = go (ltb i 16) refl e
       where
-        go : (b : Bool) → ltb i 16 ≡ b → cond b (At (place_at (sectors l) i)) rest ≡ Nothing → NoPlace test sectors (suc n) l
+        go : (b : Bool) → ltb i 16 ≡ b → cond b (Some (place_at (sectors l) i)) rest ≡ None → NoPlace test sectors (suc n) l
         go true t e = absurd (let z : ◌≡◌ {A = ℕ} 0 1 = cc in omega arith)
         go false t e =
             let r = ih e in
             record { fails = λ m v a b x. same_or m l (passed (ltb-false i 16 t) m v x) (λ d. r.fails m v (omega arith) (omega arith) x) }
 
-  pub place_first : (n l : ℕ) (p : Place) → place_from test sectors n l ≡ At p → FirstPlace test sectors n l p
+  pub place_first : (n l : ℕ) (p : Place) → place_from test sectors n l ≡ Some p → FirstPlace test sectors n l p
   unfolding place_from
   place_first zero l p e = absurd (let z : ◌≡◌ {A = ℕ} 0 1 = cc in omega arith)
   place_first (suc n) l p e =
       first_step n l (first_slot (test (sectors l))) (slot_first (test (sectors l)) 16 0) (place_from test sectors n (suc l)) p (place_first n (suc l) p) e
 
-  pub no_place : (n l : ℕ) → place_from test sectors n l ≡ Nothing → NoPlace test sectors n l
+  pub no_place : (n l : ℕ) → place_from test sectors n l ≡ None → NoPlace test sectors n l
   unfolding place_from
   no_place zero l e = record { fails = λ m v a b x. absurd (omega arith) }
   no_place (suc n) l e =

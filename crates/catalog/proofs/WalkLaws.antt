@@ -1,7 +1,9 @@
 -- The walks along the words of a slot, the slots of a sector and the layers of a key: one step of each, and its end. Then the
 -- words of a place.
+use Rattle.std.specs.Prelude.{Option, Some, None}
 use mathlib.Core.Path.{◌≡◌, refl, sym, ap, ◌∙◌}
-use mathlib.Core.Bool.{Bool, true, false}
+use mathlib.Core.Bool.{Bool, true, false, cond}
+use lib.Dec.{ltb}
 use mathlib.Core.List.{List, ◌++◌}
 use mathlib.Core.Logic.{◌≢◌}
 use Prim.Native.Nat.{ℕ, suc, ◌+◌, ◌-◌, ◌*◌, ◌≤◌, ◌<◌}
@@ -10,14 +12,12 @@ use native.Mathlib.Numerals.{add-one}
 use native.Mathlib.Omega.{arith}
 use lib.ListN.{length, get_or, take, drop}
 use lib.Seq.{get_or-take, get_or-drop}
-use borrow.Author.Tests.{eq-eqb, ne_eqb, lt-ltb, le-ltb}
+use borrow.Author.Tests.{eq-eqb, ne_eqb, lt-ltb, le-ltb, ltb-true, ltb-false}
 use Rattle.disc.specs.Words.{word}
 use Rattle.words.specs.Store.{store}
 use Rattle.words.proofs.StoreLaws.{store_front, length_part}
 use Rattle.catalog.specs.declared.Place.{Place}
-use Rattle.catalog.specs.declared.Found.{Found}
-use Rattle.catalog.specs.declared.Found.TheVariants.{At, Nothing}
-use Rattle.catalog.specs.Catalog.{place_at, place_start, entry_word, entry_at, zero_run, slot_unused, slot_from, first_slot, place_from}
+use Rattle.catalog.specs.Catalog.{place_at, place_start, entry_word, entry_at, zero_run, slot_unused, slot_from, first_slot, slot_answer, place_from}
 
 step : {j n : ℕ} → j < n → n - j ≡ suc (n - (j + 1))
 step h = omega arith
@@ -79,27 +79,42 @@ module _ (test : ℕ → Bool) (i : ℕ) where
       let s : slot_from test (16 - i) i ≡ i = rw z in
       sym e ∙ sym s ∙ inv
 
+-- what an answer says of the slot that was found
+pub slot_told : (k i : ℕ) → slot_answer k ≡ Some i → (i ≡ k) × (i < 16)
+slot_told k i e = go (ltb k 16) refl e
+  where
+    go : (b : Bool) → ltb k 16 ≡ b → cond b (Some k) None ≡ Some i → (i ≡ k) × (i < 16)
+    go true t e = let same : i ≡ k = cc in (same, omega (arith, ltb-true k 16 t))
+    go false t e = absurd (let z : ◌≡◌ {A = ℕ} 0 1 = cc in omega arith)
+
+pub none_told : (k : ℕ) → slot_answer k ≡ None → 16 ≤ k
+none_told k e = go (ltb k 16) refl e
+  where
+    go : (b : Bool) → ltb k 16 ≡ b → cond b (Some k) None ≡ None → 16 ≤ k
+    go true t e = absurd (let z : ◌≡◌ {A = ℕ} 0 1 = cc in omega arith)
+    go false t e = ltb-false k 16 t
+
 -- ---- the layers of a key
 
 module _ (test : ℕ → ℕ → Bool) (sectors : ℕ → ℕ) (n l : ℕ) where
-  pub place_here : {f : Found} (q i : ℕ) → place_from test sectors (n - l) l ≡ f → l < n → q ≡ sectors l → i ≡ first_slot (test q) → i < 16 → At (place_at q i) ≡ f
+  pub place_here : {f : Option Place} (q i : ℕ) → place_from test sectors (n - l) l ≡ f → l < n → q ≡ sectors l → i ≡ first_slot (test q) → i < 16 → Some (place_at q i) ≡ f
   unfolding place_from
   place_here q i inv h e f x =
-      let s : place_from test sectors (n - l) l ≡ At (place_at q i) = rw (step h, ← e, ← f, lt-ltb i 16 x) in
+      let s : place_from test sectors (n - l) l ≡ Some (place_at q i) = rw (step h, ← e, ← f, lt-ltb i 16 x) in
       sym s ∙ inv
 
-  pub place_next : {f : Found} (q i : ℕ) → place_from test sectors (n - l) l ≡ f → l < n → q ≡ sectors l → i ≡ first_slot (test q) → 16 ≤ i
+  pub place_next : {f : Option Place} (q i : ℕ) → place_from test sectors (n - l) l ≡ f → l < n → q ≡ sectors l → i ≡ first_slot (test q) → 16 ≤ i
       → place_from test sectors (n - (l + 1)) (l + 1) ≡ f
   unfolding place_from
   place_next q i inv h e f x =
       let s : place_from test sectors (n - l) l ≡ place_from test sectors (n - (l + 1)) (l + 1) = rw (step h, ← e, ← f, le-ltb i 16 x, add-one l) in
       sym s ∙ inv
 
-  pub place_none : {f : Found} → place_from test sectors (n - l) l ≡ f → n ≤ l → Nothing ≡ f
+  pub place_none : {f : Option Place} → place_from test sectors (n - l) l ≡ f → n ≤ l → None ≡ f
   unfolding place_from
   place_none inv h =
       let z : n - l ≡ 0 = omega arith in
-      let s : place_from test sectors (n - l) l ≡ Nothing = rw z in
+      let s : place_from test sectors (n - l) l ≡ None = rw z in
       sym s ∙ inv
 
 -- ---- the words of a place

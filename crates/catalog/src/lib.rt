@@ -3,12 +3,12 @@
 
 #![tactic(auto)]
 
-ghost use Rattle.std.specs.Prelude.{◌≡◌, ◌++◌, ◌+◌, ◌*◌, ◌≤◌, ◌<◌, length, take, drop};
+ghost use Rattle.std.specs.Prelude.{◌≡◌, Bool, ℕ, Option, ◌++◌, ◌+◌, ◌*◌, ◌≤◌, ◌<◌, length, take, drop};
 ghost use Rattle.disc.specs.Names.{packed};
 ghost use Rattle.disc.specs.Entries.{entry_from, system_entry};
 ghost use Rattle.words.specs.Store.{store, zero_words};
 ghost use Rattle.catalog.specs.Catalog.{sys_value, key_sector, place_start, entry_word, entry_at};
-ghost use Rattle.catalog.specs.Catalog.{slot_named, slot_unused, first_slot, NamePlace, UnusedPlace};
+ghost use Rattle.catalog.specs.Catalog.{slot_named, slot_unused, first_slot, slot_answer, place_from, NamePlace, UnusedPlace};
 
 use types::{Name, Sector};
 
@@ -37,13 +37,6 @@ pub struct Place {
     pub slot: u16,
 }
 
-// Where a search found what it looked for.
-#[derive(Clone, Copy)]
-pub enum Found {
-    At(Place),
-    Nothing,
-}
-
 // SYS as a catalog.
 pub fn sys(keys: u16, layers: u16) -> Catalog
     ensures { result ≡ sys_value keys layers }
@@ -51,8 +44,8 @@ pub fn sys(keys: u16, layers: u16) -> Catalog
     Catalog {
         index: Sector(6),
         from: 0,
-        keys: keys,
-        layers: layers,
+        keys,
+        layers,
     }
 }
 
@@ -78,7 +71,7 @@ fn is_named_slot(image: &[u16], q: Sector, slot: u16, name: Name) -> bool
     names::same_name(Name(first, second, third), name)
 }
 
-// The same in a sector that the image has whole.
+// The same in a sector that the image has whole, which asks for no bounds: apart for speed.
 fn is_named_within(image: &[u16], q: Sector, slot: u16, name: Name) -> bool
     requires { (q.0 * 256 + 256 ≤ length image.now) × (slot < 16) }
     ensures { result ≡ slot_named image.now (packed name) q.0 slot }
@@ -90,43 +83,28 @@ fn is_named_within(image: &[u16], q: Sector, slot: u16, name: Name) -> bool
     names::same_name(Name(image[at], image[at + 1], image[at + 2]), name)
 }
 
-// The first slot of sector q with the name, 16 if there is none; where the image may end before the sector does.
-fn slot_past(image: &[u16], q: Sector, name: Name) -> u16
-    ensures { result ≡ first_slot (slot_named image.now (packed name) q.0) }
+// The first of a sector's 16 slots that passes the test.
+fn first_slot<F: Fn(u16) -> bool>(test: F) -> Option<u16>
+    requires { (i : ℕ) → i < 16 → F.pre test i }
+    ensures { (t : ℕ → Bool) → ((i : ℕ) (b : Bool) → i < 16 → F.post test i b → b ≡ t i) → result ≡ slot_answer (first_slot t) }
 {
-    let mut i: u16 = 0;
-    while i < 16 {
-        if is_named_slot(image, q, i, name) {
-            return i;
+    for i in 0..16 {
+        if test(i) {
+            return Some(i);
         }
-        i += 1;
     }
-    16
+    None
 }
 
-// The same in a sector that the image has whole: most of a search is this loop, and it asks for no index's bounds.
-fn slot_within(image: &[u16], q: Sector, name: Name) -> u16
-    requires { q.0 * 256 + 256 ≤ length image.now }
-    ensures { result ≡ first_slot (slot_named image.now (packed name) q.0) }
-{
-    let mut i: u16 = 0;
-    while i < 16 {
-        if is_named_within(image, q, i, name) {
-            return i;
-        }
-        i += 1;
-    }
-    16
-}
-
-// The first slot of sector q with the name, 16 if there is none.
-pub fn slot_named(image: &[u16], q: Sector, name: Name) -> u16
-    ensures { result ≡ first_slot (slot_named image.now (packed name) q.0) }
+// The first slot of sector q with the name. In a sector that the image has whole no index is asked for its bounds: most of a search is
+// this loop.
+pub fn slot_named(image: &[u16], q: Sector, name: Name) -> Option<u16>
+    ensures { result ≡ slot_answer (first_slot (slot_named image.now (packed name) q.0)) }
 {
     if image.len() < q.0 as usize * 256 + 256 {
-        return slot_past(image, q, name);
+        return first_slot(|i| is_named_slot(image, q, i, name));
     }
-    slot_within(image, q, name)
+    first_slot(|i| is_named_within(image, q, i, name))
 }
 
 // Whether a slot of sector q has 16 zero words.
@@ -134,68 +112,55 @@ pub fn is_unused_slot(image: &[u16], q: Sector, slot: u16) -> bool
     ensures { result ≡ slot_unused image.now q.0 slot }
 {
     let at = slot as usize * 16;
-    let mut w: usize = 0;
-    while w < 16 {
+    for w in 0..16 {
         if words::word(image, q, at + w) != 0 {
             return false;
         }
-        w += 1;
     }
     true
 }
 
-// The first unused slot of sector q, 16 if there is none.
-pub fn unused_slot(image: &[u16], q: Sector) -> u16
-    ensures { result ≡ first_slot (slot_unused image.now q.0) }
+// The first unused slot of sector q.
+pub fn unused_slot(image: &[u16], q: Sector) -> Option<u16>
+    ensures { result ≡ slot_answer (first_slot (slot_unused image.now q.0)) }
 {
-    let mut i: u16 = 0;
-    while i < 16 {
-        if is_unused_slot(image, q, i) {
-            return i;
+    first_slot(|i| is_unused_slot(image, q, i))
+}
+
+// The first place of a key in whose sector the search finds a slot, layer by layer.
+fn first_place<F: Fn(Sector) -> Option<u16>>(
+    image: &[u16],
+    c: Catalog,
+    key: u16,
+    slot_in: F,
+) -> Option<Place>
+    requires { F.IsAlwaysCallable slot_in }
+    ensures { (t : ℕ → ℕ → Bool) → ((q : Sector) (r : Option ℕ) → F.post slot_in q r → r ≡ slot_answer (first_slot (t q.0)))
+        → result ≡ place_from t (key_sector image.now c key) c.layers 0 }
+{
+    for layer in 0..c.layers {
+        let sector = key_sector(image, c, key, layer);
+        if let Some(slot) = slot_in(sector) {
+            return Some(Place { sector, slot });
         }
-        i += 1;
     }
-    16
+    None
 }
 
 // The place of a name.
-pub fn find(image: &[u16], c: Catalog, name: Name) -> Found
+pub fn find(image: &[u16], c: Catalog, name: Name) -> Option<Place>
     requires { 1 ≤ c.keys }
     ensures { NamePlace image.now c (packed name) result }
 {
     let key = numbers::key(name, c.keys);
-    let mut layer: u16 = 0;
-    while layer < c.layers {
-        let q = key_sector(image, c, key, layer);
-        let slot = slot_named(image, q, name);
-        if slot < 16 {
-            return Found::At(Place {
-                sector: q,
-                slot: slot,
-            });
-        }
-        layer += 1;
-    }
-    Found::Nothing
+    first_place(image, c, key, |q| slot_named(image, q, name))
 }
 
 // The first unused place of a key.
-pub fn first_unused(image: &[u16], c: Catalog, key: u16) -> Found
+pub fn first_unused(image: &[u16], c: Catalog, key: u16) -> Option<Place>
     ensures { UnusedPlace image.now c key result }
 {
-    let mut layer: u16 = 0;
-    while layer < c.layers {
-        let q = key_sector(image, c, key, layer);
-        let slot = unused_slot(image, q);
-        if slot < 16 {
-            return Found::At(Place {
-                sector: q,
-                slot: slot,
-            });
-        }
-        layer += 1;
-    }
-    Found::Nothing
+    first_place(image, c, key, |q| unused_slot(image, q))
 }
 
 // Word w of a place.

@@ -1,4 +1,5 @@
 -- The answers of Change on the plain unit, by what the searches of SYS and of the state found.
+use Rattle.std.specs.Prelude.{Option, Some, None}
 use mathlib.Core.Path.{◌≡◌, refl, sym, ◌∙◌, subst}
 use mathlib.Core.Bool.{true, false}
 use mathlib.Core.List.{List}
@@ -10,11 +11,10 @@ use lib.ListN.{length}
 use borrow.Author.Tests.{le-leb, lt-leb}
 use Rattle.types.specs.declared.Name.{Name}
 use Rattle.types.specs.declared.State.{State}
-use Rattle.disc.specs.Names.{named, unit_in, is_system}
+use Rattle.disc.specs.Names.{packed, named, unit_in, is_system}
 use Rattle.disc.specs.Attributes.{gives_entry_only}
+use Rattle.names.specs.NameIs.{NameIs}
 use Rattle.catalog.specs.declared.Place.{Place}
-use Rattle.catalog.specs.declared.Found.{Found}
-use Rattle.catalog.specs.declared.Found.TheVariants.{At, Nothing}
 use Rattle.catalog.specs.declared.Unit.{Unit}
 use Rattle.plain.specs.Table.{table_find}
 use Rattle.plain.specs.Unit.{Plain, File, entry}
@@ -23,6 +23,8 @@ use Rattle.plain.specs.Catalog.{attributes_in, new_name, change_file, step_chang
 use Rattle.plain.proofs.QuestionLaws.{given_law, true_yes, asks_yes, asks_no, given_none, given_some}
 use Rattle.plain.proofs.UnitLaws.{system_none, ordinary_files}
 use Rattle.refine.proofs.LeavesLaws.{leaves_as, leaves_map, refuses, decided-map}
+use Rattle.lookup.specs.Unit.{Meant}
+use Rattle.lookup.specs.Find.{FindsName}
 use Rattle.lookup.specs.Files.{name_open}
 use Rattle.lookup.proofs.MeantLaws.{meant_known}
 use Rattle.lookup.proofs.MessageLaws.{Sought, system_is, is_open_lem, found, name_at_lem, file_at_lem, SoughtFile, closed_file_lem}
@@ -55,13 +57,22 @@ module _ (p : Plain) (name : Name) (lent : List ℕ) (mine : T (known p (unit_in
 
 -- ---- by what was found
 
-module _ {image : List ℕ} {state : State} {o : Unit} {name : Name} {n : ℕ} {r : Found} (s : Sought image state o name n r) {lent : List ℕ} where
-  pub changes_none : r ≡ Nothing → Changes image o state name lent image 0x5000
+-- the message in hand and what its search found; the file of the name, which has no area process
+pub sought : {image : List ℕ} {state : State} {o : Unit} {name stored : Name} {r : Option Place} → Meant image state o (unit_in name) → NameIs stored (named name) → FindsName image o (packed stored) r
+    → Sought image state o name (packed stored) r
+sought meant is finds = record { meant = meant; is = is.packed; finds = finds }
+
+abbrev pub sought_file : {image : List ℕ} {state : State} {o : Unit} {name : Name} {n : ℕ} {r : Option Place} {place : Place} → Sought image state o name n r → r ≡ Some place
+    → is_system n ≡ false → name_open n state ≡ false → SoughtFile image state o name place
+sought_file sought at ordinary shut = record { n = _; r = _; sought = sought; at = at; ordinary = ordinary; shut = shut }
+
+module _ {image : List ℕ} {state : State} {o : Unit} {name : Name} {n : ℕ} {r : Option Place} (s : Sought image state o name n r) {lent : List ℕ} where
+  pub changes_none : r ≡ None → Changes image o state name lent image 0x5000
   changes_none e = record {
     all = λ p g rep num. record { step = refuses (λ z. omega arith) (change_none p name lent (meant_known s.meant rep) ((found s g rep num).nothing e)) refl };
   }
 
-  module _ {place : Place} (e : r ≡ At place) where
+  module _ {place : Place} (e : r ≡ Some place) where
     pub changes_short : length lent < 16 → Changes image o state name lent image 0x1200
     changes_short h = record {
       all = λ p g rep num. record { step = refuses (λ z. omega arith) (change_short p name lent (meant_known s.meant rep) (name_at_lem s g rep num e).entered h) refl };

@@ -1,25 +1,17 @@
 -- Optional and tail of an entry, and of the first 16 words lent.
 use mathlib.Core.Path.{◌≡◌, refl, sym, ap, ◌∙◌}
-use mathlib.Core.List.{List, [], ◌∷◌, ◌++◌, append-nil}
-use Prim.Native.Nat.{ℕ, zero, suc, ◌+◌, ◌≤◌}
+use mathlib.Core.List.{List, [], ◌∷◌}
+use Prim.Native.Nat.{ℕ, zero, suc, ◌+◌}
 use native.Mathlib.Omega.{arith}
-use lib.ListN.{length, take, drop, drop_of_length-le}
-use lib.Seq.{take-take, take_all, take_at, length-take-le}
+use lib.ListN.{length, take, drop}
+use lib.Seq.{take-take, take_all, take_at}
 use Rattle.disc.specs.Entries.{entry_words}
-use Rattle.words.specs.Store.{store}
-use Rattle.words.proofs.StoreLaws.{store_front}
 
 drop-take : (k n total : ℕ) (l : List ℕ) (m : ℕ) → total ≡ k + n → take m (drop k (take total l)) ≡ take m (take n (drop k l))
 drop-take zero n total l m e = let z : total ≡ n = omega arith in ap (λ (x : ℕ). take m (take x l)) z
 drop-take (suc k) n zero l m e = absurd (omega arith)
 drop-take (suc k) n (suc total) [] m e = ap (take m) (sym (take_all n [] (omega arith)))
 drop-take (suc k) n (suc total) (x ∷ l) m e = drop-take k n total l m (omega arith)
-
--- the first 16 words, stored over others
-pub lent_stored : (l lent : List ℕ) → length l ≡ 16 → 16 ≤ length lent → store l 0 (take 16 (drop 0 lent)) ≡ take 16 lent
-lent_stored l lent size h =
-    let e : length (take 16 lent) ≡ 16 = length-take-le 16 lent h in
-    store_front l (take 16 lent) (omega arith) ∙ ap (λ (r : List ℕ). take 16 lent ++ r) (drop_of_length-le l {i = length (take 16 lent)} (omega arith)) ∙ append-nil (take 16 lent)
 
 module _ (lent : List ℕ) where
   pub lent_optional : take 3 (drop 3 (take 16 lent)) ≡ take 3 (drop 3 lent)

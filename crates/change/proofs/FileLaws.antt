@@ -73,11 +73,17 @@ pub record Known (image : List ℕ) (o : Unit) (n : ℕ) (place : Place) (lent :
 
 -- Every question is answered yes.
 pub record Allowed (image : List ℕ) (o : Unit) (lent : List ℕ) (now : Standing) (w : Wanted) (layers : ℕ) : Type 0 where
-  pub answer : ℕ
-  pub judged : Judges image o now w layers answer
-  pub zero : answer ≡ 0
+  pub judged : Judges image o now w layers 0
   pub long : 16 ≤ length lent
   pub words : Words lent
+
+pub known : {image : List ℕ} {o : Unit} {n : ℕ} {place : Place} {lent : List ℕ} {now : Standing} {w : Wanted} {layers : ℕ} → Stands image o place now → WantedOf o.slice n now lent w
+    → LayersFor image o n w layers → Known image o n place lent now w layers
+known stands wanted layered = record { stands = stands; wanted = wanted; layered = layered }
+
+pub all_yes : {image : List ℕ} {o : Unit} {lent : List ℕ} {now : Standing} {w : Wanted} {layers : ℕ} → Judges image o now w layers 0 → 16 ≤ length lent → Words lent
+    → Allowed image o lent now w layers
+all_yes judged long words = record { judged = judged; long = long; words = words }
 
 module _ {image : List ℕ} {o : Unit} {n : ℕ} {place : Place} {lent : List ℕ} {now : Standing} {w : Wanted} {layers : ℕ}
     (known : Known image o n place lent now w layers) where
@@ -126,7 +132,7 @@ module _ {image : List ℕ} {o : Unit} {n : ℕ} {place : Place} {lent : List �
 
     module _ (ok : Allowed image o lent now w layers) where
       asked : ChangeAsked p n (new_name n lent) (size_then f lent) (attributes_then f lent) f lent
-      asked = change_yes p n m (size_then f lent) (attributes_then f lent) f lent (sym (answer_is ok.judged) ∙ ok.zero)
+      asked = change_yes p n m (size_then f lent) (attributes_then f lent) f lent (sym (answer_is ok.judged))
 
       -- ---- the writes on the unit q, with SYS as it was or grown
 

@@ -13,7 +13,6 @@ use Rattle.plain.specs.Questions.{Outcome}
 use Rattle.plain.specs.Taking.{Taking, taking, enough}
 use Rattle.plain.specs.Catalog.{slices_after, change_file}
 use Rattle.refine.proofs.Ground.{ground, part_file}
-use Rattle.lookup.specs.Unit.{UnitOn}
 use Rattle.grow.specs.Room.{AskedOf, CanAsk, RoomFor}
 use Rattle.grow.proofs.BlockLaws.{sys_in}
 use Rattle.change.specs.declared.rewrite.Standing.{Standing}
@@ -26,9 +25,6 @@ not_not true = refl
 not_not false = refl
 
 module _ {image : List ℕ} {o : Unit} {now : Standing} {w : Wanted} {layers : ℕ} {p : Plain} {n m : ℕ} {f : File} (a : AskedAs image o now w layers p n m f) where
-  pub asked_on : UnitOn image o
-  asked_on = record { unit = p; on = a.stands.on; numbers = a.stands.numbers }
-
   abbrev count : ℕ
   count = slices_after p.s w.size f
 

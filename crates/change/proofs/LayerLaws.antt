@@ -1,6 +1,8 @@
 -- SYS's layers after a Change, and whether the new name is entered, by what the searches found.
+use Rattle.std.specs.Prelude.{Option, Some, None}
+use Rattle.std.specs.Option as option
 use mathlib.Core.Path.{◌≡◌, refl, sym, ap, ◌∙◌}
-use mathlib.Core.Bool.{Bool, true, false, ◌&&◌, cond}
+use mathlib.Core.Bool.{Bool, true, false, true≢false, not, ◌&&◌, cond}
 use mathlib.Core.List.{List}
 use mathlib.Core.Logic.{◌≢◌}
 use mathlib.Core.Option.{some}
@@ -13,8 +15,6 @@ use Rattle.disc.specs.Names.{key_of, packed}
 use Rattle.disc.specs.Slices.{one_if_same}
 use Rattle.disc.proofs.Compare.{Tri, less, same, more, tri, tri_same}
 use Rattle.catalog.specs.declared.Place.{Place}
-use Rattle.catalog.specs.declared.Found.{Found}
-use Rattle.catalog.specs.declared.Found.TheVariants.{At, Nothing}
 use Rattle.catalog.specs.declared.Unit.{Unit}
 use Rattle.plain.specs.Table.{Row, table_find, table_remove, is_some}
 use Rattle.plain.specs.Unit.{Plain, File, entry, sys_of}
@@ -66,6 +66,14 @@ module _ (p : Plain) (n m : ℕ) (f : File) (found : table_find n p.files ≡ so
 
 -- ---- by what the search found
 
+pub none_is : (r : Option Place) {b : Bool} → option.is_some r ≡ not b → b ≡ true → r ≡ None
+none_is (Some place) h t = absurd (true≢false (h ∙ ap not t))
+none_is None h t = refl
+
+pub some_is : (r : Option Place) {b : Bool} → option.is_some r ≡ not b → b ≡ false → (place : Place) × (r ≡ Some place)
+some_is (Some place) h f = (place, refl)
+some_is None h f = absurd (true≢false (sym (h ∙ ap not f)))
+
 pub some_layers : {image : List ℕ} {o : Unit} → UnitOn image o → (1 ≤ o.catalog.keys) × (o.catalog.layers + 1 < 65536)
 some_layers h =
     let p = h.unit in
@@ -109,8 +117,8 @@ module _ (image : List ℕ) (o : Unit) (n : ℕ) (w : Wanted) where
         differ : (p : Plain) → NumbersOf o p → key_of p.H n ≢ key_of p.H m
         differ p num q = d (own_is p num ∙ q ∙ sym (key_is p num))
 
-        module _ {r : Found} (finds : FindsUnused image o k r) where
-          pub layers_found : {place : Place} → r ≡ At place → LayersFor image o n w o.catalog.layers
+        module _ {r : Option Place} (finds : FindsUnused image o k r) where
+          pub layers_found : {place : Place} → r ≡ Some place → LayersFor image o n w o.catalog.layers
           layers_found {place} at = record {
             all = λ p f on num found.
                 let u = (finds.all p (on_catalog on) num).at place at in
@@ -118,7 +126,7 @@ module _ (image : List ℕ) (o : Unit) (n : ℕ) (w : Wanted) where
                 moving p (num.catalog.layers ∙ layers_room p n m f found (differ p num) room);
           }
 
-          pub layers_more : r ≡ Nothing → LayersFor image o n w (o.catalog.layers + 1)
+          pub layers_more : r ≡ None → LayersFor image o n w (o.catalog.layers + 1)
           layers_more at = record {
             all = λ p f on num found.
                 let full : 16 * p.layers ≤ places_taken p.H (key_of p.H m) (sys_of p) p.files = rw (key_is p num) at ((finds.all p (on_catalog on) num).nothing at) in
@@ -128,16 +136,17 @@ module _ (image : List ℕ) (o : Unit) (n : ℕ) (w : Wanted) where
 
   -- ---- whether the new name is entered
 
-  pub taken_kept : w.moves ≡ false → TakenBy image o w false
-  taken_kept e = record { all = λ p on num. sym (ap (λ (b : Bool). b && is_some (entry p m)) e) }
-
-  module _ (e : w.moves ≡ true) {r : Found} (finds : FindsName image o (packed w.name) r) where
-    pub taken_at : {place : Place} → r ≡ At place → TakenBy image o w true
+  module _ (e : w.moves ≡ true) {r : Option Place} (finds : FindsName image o (packed w.name) r) where
+    taken_at : {place : Place} → r ≡ Some place → TakenBy image o w true
     taken_at {place} at = record {
       all = λ p on num. sym (ap (λ (b : Bool). b && is_some (entry p m)) e ∙ ap is_some ((finds.all p (on_catalog on) num).at place at).entered);
     }
 
-    pub taken_not : r ≡ Nothing → TakenBy image o w false
-    taken_not at = record {
-      all = λ p on num. sym (ap (λ (b : Bool). b && is_some (entry p m)) e ∙ ap is_some ((finds.all p (on_catalog on) num).nothing at));
-    }
+    pub taken_by : {b : Bool} → b ≡ option.is_some r → TakenBy image o w b
+    taken_by {b} = go r refl
+      where
+        go : (x : Option Place) → r ≡ x → b ≡ option.is_some x → TakenBy image o w b
+        go (Some place) at q = rw q (taken_at at)
+        go None at q = rw q (record {
+          all = λ p on num. sym (ap (λ (b : Bool). b && is_some (entry p m)) e ∙ ap is_some ((finds.all p (on_catalog on) num).nothing at));
+        })

@@ -3,7 +3,6 @@ pub mod EntryLaws
 pub mod MoveLaws
 pub mod RewriteLaws
 pub mod AnswerLaws
-pub mod WantedLaws
 pub mod StandLaws
 pub mod LayerLaws
 pub mod JudgeLaws

@@ -1,7 +1,8 @@
 -- A place emptied and another one taken: what each write asks for, and the image that is left.
+use Rattle.std.specs.Prelude.{Option, Some, None}
 use mathlib.Core.Path.{◌≡◌, ap, ap₂, ◌∙◌}
 use mathlib.Core.List.{List}
-use Prim.Native.Nat.{ℕ, ◌+◌, ◌*◌, ◌%◌, ◌≤◌, ◌<◌}
+use Prim.Native.Nat.{ℕ, ◌+◌, ◌*◌, ◌%◌, ◌≤◌}
 use native.Mathlib.Omega.{arith}
 use lib.ListN.{length, take}
 use lib.Seq.{take_all}
@@ -9,13 +10,11 @@ use Rattle.disc.specs.Catalog.{place_sector}
 use Rattle.words.specs.Store.{store, zero_words}
 use Rattle.words.proofs.StoreLaws.{length_store}
 use Rattle.catalog.specs.declared.Place.{Place}
-use Rattle.catalog.specs.declared.Found.{Found}
-use Rattle.catalog.specs.declared.Found.TheVariants.{At, Nothing}
 use Rattle.catalog.specs.declared.Unit.{Unit}
 use Rattle.catalog.specs.Catalog.{place_start}
 use Rattle.plain.specs.Unit.{Plain, sys_of}
 use Rattle.refine.specs.Writes.{store_place, empty_place}
-use Rattle.lookup.specs.Unit.{CatalogOn, Searchable}
+use Rattle.lookup.specs.Unit.{CatalogOn}
 use Rattle.lookup.specs.Find.{PlaceIs, UnusedAt, UnusedFound, FindsUnused}
 use Rattle.lookup.proofs.FindLaws.{place_room}
 use Rattle.change.specs.Move.{CanMoveFrom, MovedFrom}
@@ -35,18 +34,11 @@ module _ {image : List ℕ} {o : Unit} {place : Place} {k : ℕ} {p : Plain} {t 
     on : CatalogOn cleared p
     on = rw cleared_is can.emptied
 
-    pub move_search : Searchable cleared o × (k < o.catalog.keys)
-    move_search = (record { unit = p; on = on; numbers = can.numbers }, omega (arith, can.low, can.numbers.catalog.keys))
-
-    module _ {r : Found} (finds : FindsUnused cleared o k r) where
+    module _ {r : Option Place} (finds : FindsUnused cleared o k r) where
       found : UnusedFound cleared p (sys_of p) p.files k r
       found = finds.all p on can.numbers
 
-      -- the key has a place
-      pub move_there : r ≡ Nothing → ⊥
-      move_there e = omega (arith, found.nothing e, can.fits)
-
-      module _ {free : Place} (e : r ≡ At free) where
+      module _ {free : Place} (e : r ≡ Some free) where
         at : UnusedAt cleared p (sys_of p) p.files k free
         at = found.at free e
 

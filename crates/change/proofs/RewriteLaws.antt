@@ -99,13 +99,13 @@ module _ {image : List ℕ} {o : Unit} {now : Standing} {w : Wanted} {lent : Lis
 
   -- ---- the words from which optional and tail come
 
-  module _ {source : List ℕ} (told : source ≡ cond (bit 11 now.attributes) (entry_at image now.place) (take 16 lent)) where
+  module _ {source : List ℕ} {b : Bool} (told : source ≡ cond b (entry_at image now.place) (take 16 lent)) (read : b ≡ bit 11 now.attributes) where
     abbrev old : List ℕ
     old = file_entry p.F p.s n f
 
     source_is : source ≡ cond (permanent f.attributes) old (take 16 lent)
     source_is =
-        told ∙ ap₂ (λ (b : Bool) (l : List ℕ). cond b l (take 16 lent)) (ap permanent s₀.attributes)
+        told ∙ ap₂ (λ (c : Bool) (l : List ℕ). cond c l (take 16 lent)) (read ∙ ap permanent s₀.attributes)
         (entry_at_lem (on_catalog s₀.on) s₀.at ∙ file_entry_lem s₀.on.good s₀.at f s₀.file)
 
     source_optional : take 3 (drop 3 source) ≡ cond (permanent f.attributes) f.optional (optional_in lent)
@@ -176,14 +176,14 @@ module _ {image : List ℕ} {o : Unit} {now : Standing} {w : Wanted} {lent : Lis
 
     -- ---- the entry
 
-    module _ {source : List ℕ} (told : source ≡ cond (bit 11 now.attributes) (entry_at image now.place) (take 16 lent)) {index : ℕ} (at : index ≡ joint_sector block 0 0) {words : List ℕ}
+    module _ {source : List ℕ} {b : Bool} (told : source ≡ cond b (entry_at image now.place) (take 16 lent)) (read : b ≡ bit 11 now.attributes) {index : ℕ} (at : index ≡ joint_sector block 0 0) {words : List ℕ}
         (put : words ≡ entry_words (packed w.name) (take 3 (drop 3 source)) w.attributes w.size index (o.slice * w.slices) (take 6 (drop 10 source))) where
       words_are : words ≡ file_entry p.F p.s m f'
       words_are =
           put
-          ∙ ap₂ (λ (k : ℕ) (l : List ℕ). entry_words k l w.attributes w.size index (o.slice * w.slices) (take 6 (drop 10 source))) can.name.packed (source_optional told)
+          ∙ ap₂ (λ (k : ℕ) (l : List ℕ). entry_words k l w.attributes w.size index (o.slice * w.slices) (take 6 (drop 10 source))) can.name.packed (source_optional told read)
           ∙ ap₂ (λ (i s : ℕ). entry_words m f'.optional w.attributes w.size i (s * w.slices) (take 6 (drop 10 source))) (at ∙ index_is) num.slice
-          ∙ ap (λ (l : List ℕ). entry_words m f'.optional w.attributes w.size (index_sector p.F p.s w.slices f'.slices) (p.s * w.slices) l) (source_tail told)
+          ∙ ap (λ (l : List ℕ). entry_words m f'.optional w.attributes w.size (index_sector p.F p.s w.slices f'.slices) (p.s * w.slices) l) (source_tail told read)
 
       words-length : length words ≡ 16
       words-length = ap length words_are ∙ changes_entry changes m
@@ -281,7 +281,3 @@ module _ {image : List ℕ} {o : Unit} {now : Standing} {w : Wanted} {lent : Lis
           pub moved_rewrites : {after : List ℕ} → after ≡ counted_free stored o.slice → Rewrites image p can.stands.at.number n m f (file_then p f w lent) after
           unfolding renamed_image
           moved_rewrites e = moved differs taken_place.u first_unused (e ∙ ap₂ counted_free moved_is num.slice)
-
-  -- H is at least 1
-  pub some_key : 1 ≤ o.catalog.keys
-  some_key = omega (arith, gr.limits.keys_low, num.catalog.keys)

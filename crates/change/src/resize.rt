@@ -18,9 +18,10 @@ fn reslice(image: &mut [u16], unit: Unit, block: IndexBlock, had: u16, has: u16)
     ensures { Resliced image.old unit block.words had has image.new result.words }
 {
     if has <= had {
-        return slices::give_back(image, block, unit.first, unit.slice, has, had);
+        slices::give_back(image, block, unit, has, had)
+    } else {
+        slices::take_more(image, block, unit, has - had)
     }
-    slices::take_more(image, block, unit.first, unit.slice, unit.slices, has - had)
 }
 
 // The file whose index block is given, with the sectors and slices that it had and is to have; the sectors that join are zeroed.
@@ -35,9 +36,8 @@ pub fn resize(
     ensures { Resized image.old unit block.words had has image.new result.words }
 {
     let after = reslice(image, unit, block, had.slices, has.slices);
-    if has.size <= had.size {
-        return after;
+    if had.size < has.size {
+        slices::zero_sectors(image, after, had.size + 1, has.size - had.size);
     }
-    slices::zero_sectors(image, after, had.size + 1, has.size - had.size);
     after
 }

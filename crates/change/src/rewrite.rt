@@ -1,16 +1,14 @@
 // The writes of Change: a file's slices and blocks, and its entry in its own place or, under another name, in one of the new key.
 
 ghost use Rattle.std.specs.Prelude.{◌≡◌, cond, ◌+◌, ◌≤◌, length, take};
-ghost use Rattle.disc.specs.Names.{packed};
-ghost use Rattle.disc.specs.Entries.{entry_from};
 ghost use Rattle.catalog.specs.Catalog.{place_start, entry_at};
 ghost use Rattle.change.specs.Move.{CanMove, Moved};
 ghost use Rattle.change.specs.Rewrite.{CanRewrite, Rewritten};
 
 use crate::resize::{Extent, resize};
-use catalog::{Found, Place, Unit};
+use catalog::{Place, Unit};
 use index::IndexBlock;
-use types::{Block, Name, Sector};
+use types::{Block, Name};
 
 // A file as it stands: the place of its entry, its attributes, length and number of slices, its index block.
 #[derive(Clone, Copy)]
@@ -32,46 +30,30 @@ pub struct Wanted {
     pub slices: u16,
 }
 
-// The 16 words of an entry.
-#[derive(Clone, Copy)]
-struct Entry {
-    words: [u16; 16],
-}
-
 // The words from which optional and tail are taken: the entry in the place, or the first 16 lent.
-fn source_words(image: &[u16], place: Place, stays: bool, lent: &[u16]) -> Entry
+fn source_words(image: &[u16], place: Place, stays: bool, lent: &[u16]) -> [u16; 16]
     requires { (16 ≤ length lent.now) × (place_start place + 16 ≤ length image.now) }
-    ensures { result.words ≡ cond stays (entry_at image.now place) (take 16 lent.now) }
+    ensures { result ≡ cond stays (entry_at image.now place) (take 16 lent.now) }
 {
     let mut own = [0u16; 16];
     if stays {
         catalog::read_entry(image, place, &mut own);
-        return Entry { words: own };
+    } else {
+        own.copy_from_slice(&lent[..16]);
     }
-    words::copy_words(lent, 0, &mut own, 0, 16);
-    Entry { words: own }
-}
-
-// The entry of the file as it is to be, with optional and tail from the words given.
-fn new_entry(source: Entry, w: Wanted, index: Sector, reserved: u16) -> Entry
-    requires { length source.words ≡ 16 }
-    ensures { result.words ≡ entry_from (packed w.name) w.attributes w.size index.0 reserved source.words }
-{
-    let old = source.words;
-    let own = catalog::entry_words(w.name, w.attributes, w.size, index, reserved, &old);
-    Entry { words: own }
+    own
 }
 
 // Empties a place, and stores the entry in the first place of the key that is unused then. There is one.
-fn move_entry(image: &mut [u16], unit: Unit, place: Place, key: u16, entry: Entry)
-    requires { CanMove image.old unit place key entry.words }
-    ensures { Moved image.old unit place key entry.words image.new }
+fn move_entry(image: &mut [u16], unit: Unit, place: Place, key: u16, entry: [u16; 16])
+    requires { CanMove image.old unit place key entry }
+    ensures { Moved image.old unit place key entry image.new }
 {
     catalog::clear_place(image, place);
-    let Found::At(free) = lookup::find_unused(image, unit, key) else {
+    let Some(free) = lookup::find_unused(image, unit, key) else {
         return;
     };
-    catalog::write_entry(image, free, &entry.words);
+    catalog::write_entry(image, free, &entry);
 }
 
 // The file as it stands becomes the file as it is to be. For a permanent file optional and tail stay.
@@ -90,18 +72,13 @@ pub fn rewrite(image: &mut [u16], unit: Unit, f: Standing, w: Wanted, lent: &[u1
     };
     let block = resize(image, unit, f.block, had, has);
     let index = index::block_sector(block, 0, Block(0));
-    let entry = new_entry(source, w, index, unit.slice * w.slices);
+    let reserved = unit.slice * w.slices;
+    let entry = catalog::entry_words(w.name, w.attributes, w.size, index, reserved, &source);
     if w.moves {
-        move_entry(
-            image,
-            unit,
-            f.place,
-            numbers::key(w.name, unit.catalog.keys),
-            entry,
-        );
-        slices::count_free(image, unit.slice);
-        return;
+        let key = numbers::key(w.name, unit.catalog.keys);
+        move_entry(image, unit, f.place, key, entry);
+    } else {
+        catalog::write_entry(image, f.place, &entry);
     }
-    catalog::write_entry(image, f.place, &entry.words);
     slices::count_free(image, unit.slice);
 }

@@ -7,49 +7,33 @@ use lib.Dec.{T}
 use Rattle.disc.specs.Numbers.{negative}
 use Rattle.disc.specs.Names.{legal_name}
 use Rattle.disc.specs.Attributes.{legal_attributes, gives_entry_only}
-use Rattle.disc.proofs.DecideLaws.{true≢false, was_true, was_false}
+use Rattle.disc.proofs.DecideLaws.{true≢false}
 use Rattle.plain.specs.Unit.{Plain}
 use Rattle.plain.specs.Questions.{Outcome, asks, replies}
 use Rattle.plain.specs.Catalog.{new_file}
 use Rattle.plain.proofs.QuestionLaws.{and_left, and_right}
 use Rattle.create.specs.Create.{legal_new}
 
-and_no : (x y : Bool) → x ≡ false → false ≡ x && y
-and_no x y e = sym (ap (λ (b : Bool). b && y) e)
+-- what a test joined by `&&` leaves: where the first part holds, the second, else the first
+pub and_then : {x y a v w : Bool} → a ≡ x → a ≡ true → v ≡ w → w ≡ y → v ≡ x && y
+and_then {y = y} e h f g = f ∙ g ∙ sym (ap (λ (b : Bool). b && y) (sym e ∙ h))
 
-and_yes : (x y r : Bool) → x ≡ true → r ≡ y → r ≡ x && y
-and_yes x y r e q = q ∙ sym (ap (λ (b : Bool). b && y) e)
+pub and_else : {x a v : Bool} (y : Bool) → a ≡ x → a ≡ false → v ≡ a → v ≡ x && y
+and_else y e h f = f ∙ h ∙ sym (ap (λ (b : Bool). b && y) (sym e ∙ h))
+
+regroup : (a b c d : Bool) → ((a && b) && c) && d ≡ a && (b && (c && d))
+regroup false b c d = refl
+regroup true false c d = refl
+regroup true true c d = refl
 
 module _ (n size attributes : ℕ) where
   abbrev rest : Bool
   rest = legal_attributes attributes && not (gives_entry_only attributes)
 
-  -- ---- the tests one after the other
-
-  module _ {a : Bool} (name : a ≡ legal_name n) where
-    pub name_illegal : not a ≡ true → false ≡ legal_new n size attributes
-    unfolding legal_new
-    name_illegal h = and_no (legal_name n) (not (negative size) && rest) (was_false name h)
-
-    module _ (legal : not a ≡ false) where
-      after_name : {r : Bool} → r ≡ not (negative size) && rest → r ≡ legal_new n size attributes
-      unfolding legal_new
-      after_name {r} = and_yes (legal_name n) (not (negative size) && rest) r (was_true name legal)
-
-      module _ {b : Bool} (short : b ≡ negative size) where
-        pub size_illegal : b ≡ true → false ≡ legal_new n size attributes
-        size_illegal h = after_name (and_no (not (negative size)) rest (ap not (sym short ∙ h)))
-
-        module _ (positive : b ≡ false) where
-          after_size : {r : Bool} → r ≡ rest → r ≡ legal_new n size attributes
-          after_size {r} q = after_name (and_yes (not (negative size)) rest r (ap not (sym short ∙ positive)) q)
-
-          module _ {c : Bool} (allowed : c ≡ legal_attributes attributes) where
-            pub attributes_illegal : not c ≡ true → false ≡ legal_new n size attributes
-            attributes_illegal h = after_size (and_no (legal_attributes attributes) (not (gives_entry_only attributes)) (was_false allowed h))
-
-            pub bit_decides : {d : Bool} → not c ≡ false → d ≡ gives_entry_only attributes → not d ≡ legal_new n size attributes
-            bit_decides h q = after_size (and_yes (legal_attributes attributes) (not (gives_entry_only attributes)) _ (was_true allowed h) (ap not q))
+  -- the four tests, one after the other
+  pub legal_by : {v : Bool} → v ≡ ((legal_name n && not (negative size)) && legal_attributes attributes) && not (gives_entry_only attributes) → v ≡ legal_new n size attributes
+  unfolding legal_new
+  legal_by e = e ∙ regroup (legal_name n) (not (negative size)) (legal_attributes attributes) (not (gives_entry_only attributes))
 
   -- ---- the questions
 

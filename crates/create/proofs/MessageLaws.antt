@@ -1,11 +1,11 @@
 -- Create and Set: the answers before the file is made, and the messages' own questions.
+use Rattle.std.specs.Prelude.{Option, Some, None}
 use mathlib.Core.Path.{◌≡◌, refl, sym, ap, ◌∙◌, subst}
 use mathlib.Core.Bool.{Bool, true, false, not}
 use mathlib.Core.List.{List}
 use mathlib.Core.Option.{some}
 use Prim.Native.Nat.{ℕ, ◌≤◌, ◌<◌}
 use native.Mathlib.Omega.{arith}
-use native.Mathlib.Nat.{mod-lt}
 use lib.Dec.{T}
 use lib.ListN.{length, replicate}
 use borrow.Author.Tests.{le-leb, lt-leb}
@@ -14,8 +14,6 @@ use Rattle.disc.specs.Words.{Words}
 use Rattle.disc.specs.Names.{key_of, named, unit_in}
 use Rattle.disc.proofs.DecideLaws.{was_true, was_false}
 use Rattle.catalog.specs.declared.Place.{Place}
-use Rattle.catalog.specs.declared.Found.{Found}
-use Rattle.catalog.specs.declared.Found.TheVariants.{At, Nothing}
 use Rattle.catalog.specs.declared.Unit.{Unit}
 use Rattle.plain.specs.Unit.{Plain, entry, sys_of}
 use Rattle.plain.specs.Questions.{replies}
@@ -23,7 +21,7 @@ use Rattle.plain.specs.Catalog.{optional_in, attributes_in, size_in, tail_in, ne
 use Rattle.plain.proofs.QuestionLaws.{asks_yes, asks_no}
 use Rattle.refine.specs.OnDisc.{OnDisc}
 use Rattle.refine.proofs.LeavesLaws.{leaves_as, refuses}
-use Rattle.lookup.specs.Unit.{NumbersOf, UnitOn, MeantOn}
+use Rattle.lookup.specs.Unit.{NumbersOf, MeantOn}
 use Rattle.lookup.specs.Find.{UnusedFound, FindsName, FindsUnused}
 use Rattle.lookup.proofs.UnitLaws.{on_catalog}
 use Rattle.lookup.proofs.MeantLaws.{meant_on_known}
@@ -40,7 +38,7 @@ module _ (image : List ℕ) (o : Unit) (n size attributes : ℕ) {b : Bool} (jud
     };
   }
 
-  module _ (yes : not b ≡ false) {found : Found} (finds : FindsName image o n found) where
+  module _ (yes : not b ≡ false) {found : Option Place} (finds : FindsName image o n found) where
     legal : T (legal_new n size attributes)
     legal = subst T (sym (was_true judged yes)) tt
 
@@ -52,14 +50,14 @@ module _ (image : List ℕ) (o : Unit) (n size attributes : ℕ) {b : Bool} (jud
         let ok : Legal n size attributes = legal_all n size attributes legal in
         asks_yes _ _ _ ok.name ∙ asks_yes _ _ _ ok.short ∙ asks_yes _ _ _ ok.allowed ∙ asks_yes _ _ _ ok.given ∙ asks_no _ _ _ (rw h tt)
 
-    pub refused_name : (words : List ℕ) {place : Place} → found ≡ At place → NewFileMade image o n size attributes words image 0x1010
+    pub refused_name : (words : List ℕ) {place : Place} → found ≡ Some place → NewFileMade image o n size attributes words image 0x1010
     refused_name words {place} e = record {
       all = λ p on_disc num. record {
         step = λ lent. refuses (λ z. omega arith) (name_used words lent ((finds.all p (on_catalog on_disc) num).at place e).entered) refl;
       };
     }
 
-    module _ (new : found ≡ Nothing) {words : List ℕ} (long : 16 ≤ length words) (lent : Words words) where
+    module _ (new : found ≡ None) {words : List ℕ} (long : 16 ≤ length words) (lent : Words words) where
       asked : {p : Plain} → OnDisc image p → NumbersOf o p → AskedFrom image o n size attributes words p
       asked {p} on_disc num = record {
         on = on_disc;
@@ -70,23 +68,16 @@ module _ (image : List ℕ) (o : Unit) (n size attributes : ℕ) {b : Bool} (jud
         lent = lent;
       }
 
-      module _ {key : ℕ} {place_found : Found} (q : key ≡ key_of o.catalog.keys n) (unused : FindsUnused image o key place_found) where
+      module _ {key : ℕ} {place_found : Option Place} (q : key ≡ key_of o.catalog.keys n) (unused : FindsUnused image o key place_found) where
         unused_own : {p : Plain} → OnDisc image p → NumbersOf o p → UnusedFound image p (sys_of p) p.files (key_of p.H n) place_found
         unused_own {p} on_disc num =
             subst (λ (x : ℕ). UnusedFound image p (sys_of p) p.files x place_found) (q ∙ ap (λ (h : ℕ). key_of h n) num.catalog.keys) (unused.all p (on_catalog on_disc) num)
 
-        pub place_from_lem : {p : Plain} {place : Place} → place_found ≡ At place → OnDisc image p → NumbersOf o p → CanPlaceFrom image o place n size attributes words p
+        pub place_from_lem : {p : Plain} {place : Place} → place_found ≡ Some place → OnDisc image p → NumbersOf o p → CanPlaceFrom image o place n size attributes words p
         place_from_lem {place = place} e on_disc num = record { asked = asked on_disc num; at = (unused_own on_disc num).at place e }
 
-        pub grow_for : {p : Plain} → place_found ≡ Nothing → OnDisc image p → NumbersOf o p → CanGrowForFrom image o n size attributes words p
+        pub grow_for : {p : Plain} → place_found ≡ None → OnDisc image p → NumbersOf o p → CanGrowForFrom image o n size attributes words p
         grow_for e on_disc num = record { asked = asked on_disc num; full = (unused_own on_disc num).nothing e }
-
--- a key is one of the unit's
-pub key_below : {image : List ℕ} {o : Unit} {key : ℕ} (n : ℕ) → UnitOn image o → key ≡ key_of o.catalog.keys n → key < o.catalog.keys
-key_below {o = o} n opened q =
-    let some_key : 1 ≤ o.catalog.keys = omega (arith, opened.numbers.catalog.keys, opened.on.good.limits.keys_low) in
-    let small : key_of o.catalog.keys n < o.catalog.keys = mod-lt _ some_key in
-    omega (arith, q)
 
 -- ---- the messages
 

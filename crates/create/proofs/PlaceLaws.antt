@@ -1,6 +1,9 @@
 -- A new file once its name is known to be new: questions 7 and 8 on the plain unit, and the file made in its place, in the unit or in the
 -- unit in which SYS has grown first.
+use Rattle.std.specs.Prelude.{Option, Some, None, Result}
 use mathlib.Core.Path.{◌≡◌, refl, sym, ap, ◌∙◌, subst}
+use Rattle.std.specs.Result.{IsErrAnd}
+use Rattle.std.proofs.lemmas.Result.{err_from_is_err_and}
 use mathlib.Core.Bool.{not}
 use mathlib.Core.List.{List, []}
 use Prim.Native.Nat.{ℕ, suc, ◌+◌, ◌≤◌, ◌<◌}
@@ -10,13 +13,13 @@ use native.Mathlib.Numerals.{add-one}
 use lib.Dec.{T}
 use lib.ListN.{length}
 use borrow.Author.Tests.{le-leb}
+use Rattle.types.specs.declared.Refusal.{Refusal}
+use Rattle.types.specs.Words.{refusal_word, result_word}
 use Rattle.disc.specs.Numbers.{need}
 use Rattle.disc.specs.Names.{key_of}
 use Rattle.words.specs.Store.{zero_words}
 use Rattle.index.proofs.BlockLaws.{whole_index_none}
 use Rattle.catalog.specs.declared.Place.{Place}
-use Rattle.catalog.specs.declared.Found.{Found}
-use Rattle.catalog.specs.declared.Found.TheVariants.{At, Nothing}
 use Rattle.catalog.specs.declared.Unit.{Unit}
 use Rattle.plain.specs.Table.{Table, table_put, is_some}
 use Rattle.plain.specs.Unit.{Plain, File, entry, sys_of}
@@ -40,6 +43,10 @@ use Rattle.grow.proofs.RoomLaws.{enough_yes, enough_no}
 use Rattle.grow.proofs.GrowLaws.{grown_on}
 use Rattle.create.specs.Create.{stays, grows, NewFileStep, AskedFrom, CanPlaceFrom, CanGrowForFrom, CanWriteFrom, FileWritten}
 use Rattle.create.proofs.FileLaws.{three, six, legal}
+
+-- what leaves with a refusal has its word
+pub word_kept : {T : Type 0} (refusal : Refusal) (r : Result T Refusal) → IsErrAnd r (λ x. x ≡ refusal) → result_word r ≡ refusal_word refusal
+word_kept refusal r h = let e = err_from_is_err_and r h in ap result_word e.1 ∙ ap refusal_word e.2
 
 -- Questions 7 and 8, with SYS at l layers.
 abbrev room_outcome : Plain → ℕ → ℕ → ℕ → ℕ → List ℕ → List ℕ → List ℕ → Outcome
@@ -166,7 +173,7 @@ module _ {image : List ℕ} {o : Unit} {n size attributes : ℕ} {words : List �
         part_sectors p gr p.sys (sys_ground gr).part,
       )
 
-  pub some_key : 1 ≤ o.catalog.keys
+  some_key : 1 ≤ o.catalog.keys
   some_key = omega (arith, num.catalog.keys, can.asked.on.good.limits.keys_low)
 
   module _ {none : List ℕ} {k r : ℕ} (e : none ≡ zero_words 256) (count : k ≡ need o.slice size) (answer : RoomFor image o (o.catalog.layers + 1) none k r) where
@@ -199,16 +206,16 @@ module _ {image : List ℕ} {o : Unit} {n size attributes : ℕ} {words : List �
             let small : key_of o.catalog.keys n < o.catalog.keys = mod-lt _ some_key in
             (record { unit = grown_unit p; on = on_catalog on'; numbers = grown.1 }, omega (arith, q, grown.1.catalog.keys, num.catalog.keys))
 
-        module _ {key : ℕ} {found : Found} (q : key ≡ key_of o.catalog.keys n) (finds : FindsUnused middle o' key found) where
+        module _ {key : ℕ} {found : Option Place} (q : key ≡ key_of o.catalog.keys n) (finds : FindsUnused middle o' key found) where
           unused : UnusedFound middle (grown_unit p) (sys_of (grown_unit p)) (grown_unit p).files (key_of p.H n) found
           unused =
               subst (λ (x : ℕ). UnusedFound middle (grown_unit p) (sys_of (grown_unit p)) (grown_unit p).files x found) (q ∙ ap (λ (h : ℕ). key_of h n) num.catalog.keys) (finds.all (grown_unit p) (on_catalog on') grown.1)
 
           -- the new layer has unused places
-          pub never_full : found ≡ Nothing → ⊥
+          pub never_full : found ≡ None → ⊥
           never_full h = omega (arith, unused.nothing h, can.asked.on.good.catalog.chains (key_of p.H n))
 
-          module _ {place : Place} (h : found ≡ At place) where
+          module _ {place : Place} (h : found ≡ Some place) where
             pub grown_write : CanWriteFrom middle o' place n size attributes words (grown_unit p)
             grown_write = record {
               place_for = record {

@@ -1,4 +1,5 @@
 -- A refused message to an area process: the image stays, and the state but for the sender's position.
+use Rattle.std.specs.Prelude.{Some, None, Option as Maybe}
 use mathlib.Core.Path.{◌≡◌, refl, sym, ap, ◌∙◌, subst}
 use mathlib.Core.Bool.{Bool, true, false, not, ◌&&◌, cond}
 use mathlib.Core.List.{List}
@@ -19,8 +20,6 @@ use Rattle.types.specs.State.{area_at}
 use Rattle.disc.specs.Names.{named, unit_in}
 use Rattle.disc.proofs.Compare.{same_or}
 use Rattle.disc.proofs.DecideLaws.{true≢false}
-use Rattle.state.specs.declared.Found.{Found}
-use Rattle.state.specs.declared.Found.TheVariants.{At, Absent}
 use Rattle.state.specs.declared.Kind.TheVariants.{Exclusive}
 use Rattle.state.specs.Areas.{set_area, area_named, entry_of, any_other, reserved}
 use Rattle.plain.specs.Table.{table_find}
@@ -67,9 +66,9 @@ module _ {image : List ℕ} {state : State} {p : Plain} (g : Good p) (r : Repres
   never : {C : Type 0} {o : Plain} {l : List ℕ} → x ≡ replies o 0 l → C
   never e = absurd (nz (ap (λ (y : Outcome). y.answer.result) e))
 
-  module _ (j : ℕ) (here : area_named (named name) state ≡ At j) (f : File) (file : table_find (named name) p.files ≡ some f) where
+  module _ (j : ℕ) (here : area_named (named name) state ≡ Some j) (f : File) (file : table_find (named name) p.files ≡ some f) where
     module _ (d : sender ≢ 0) where
-      module _ (u : ℕ) (w : entry_of sender (area_at state j) ≡ At u) where
+      module _ (u : ℕ) (w : entry_of sender (area_at state j) ≡ Some u) where
         seat : Seat image state p (named name) j sender u f
         seat = record { good = g; represents = r; named = here; nonzero = d; entry = w; file = file }
 
@@ -103,15 +102,15 @@ module _ {image : List ℕ} {state : State} {p : Plain} (g : Good p) (r : Repres
         user_left (Other operation) e = everything (unit_is e) refl
 
       -- "Release and all else: sender a user?"
-      entry_left : (operation : Operation) (found : Found) → entry_of sender (area_at state j) ≡ found → x ≡ operation_step p (named name) sender (area_users state j) operation none lent
+      entry_left : (operation : Operation) (found : Maybe ℕ) → entry_of sender (area_at state j) ≡ found → x ≡ operation_step p (named name) sender (area_users state j) operation none lent
           → Keeps operation (operation_state p f state j sender operation a 0 found)
       unfolding operation_state
-      entry_left operation (At u) w e = user_left u w operation
+      entry_left operation (Some u) w e = user_left u w operation
           (e ∙ operation_user p (named name) sender (area_users state j) operation lent (area_user state j u) f (sender_found r.areas (named name) j here sender d u w) file)
-      entry_left operation Absent w e =
+      entry_left operation None w e =
           everything (unit_is (e ∙ operation_stranger p (named name) sender (area_users state j) operation lent (sender_absent r.areas (named name) j here sender d w))) refl
 
-      reserve_left : (operation : Operation) (count : ℕ) (found : Found) → x ≡ operation_step p (named name) sender (area_users state j) operation (some (suc count)) lent
+      reserve_left : (operation : Operation) (count : ℕ) (found : Maybe ℕ) → x ≡ operation_step p (named name) sender (area_users state j) operation (some (suc count)) lent
           → Keeps operation (operation_state p f state j sender operation a (suc count) found)
       unfolding operation_state
       reserve_left operation count found e =
@@ -145,13 +144,13 @@ module _ {image : List ℕ} {state : State} {p : Plain} (g : Good p) (r : Repres
     asked_left operation e false b false y true k =
         operation_left (λ z. true≢false (sym (eq-eqb sender 0 z) ∙ y)) operation (e ∙ area_asked p name sender operation lent mine live (exclusive ∙ b) y k)
 
-  found_left : (operation : Operation) → x ≡ step_area p name sender operation lent → (found : Found) → area_named (named name) state ≡ found → (o : Option File) → table_find (named name) p.files ≡ o
+  found_left : (operation : Operation) → x ≡ step_area p name sender operation lent → (found : Maybe ℕ) → area_named (named name) state ≡ found → (o : Option File) → table_find (named name) p.files ≡ o
       → Keeps operation (message_state p state sender operation a found o)
   unfolding message_state
-  found_left operation e Absent h o file = everything (unit_is (e ∙ area_shut p name sender operation lent mine (same_absent state p r.areas (named name) h))) refl
-  found_left operation e (At j) h none file =
+  found_left operation e None h o file = everything (unit_is (e ∙ area_shut p name sender operation lent mine (same_absent state p r.areas (named name) h))) refl
+  found_left operation e (Some j) h none file =
       absurd (let entered = (area_file g (named name) (area_found r.areas (named name) j h)).1 in let z : ◌≡◌ {A = ℕ} 0 1 = cc in omega arith)
-  found_left operation e (At j) h (some f) file =
+  found_left operation e (Some j) h (some f) file =
       asked_left j h f file operation e (any_other Exclusive sender (area_at state j)) refl (eqb sender 0) refl (is_known operation) refl
 
   pub refused_state : (operation : Operation) → x ≡ step_area p name sender operation lent

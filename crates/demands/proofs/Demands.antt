@@ -20,8 +20,7 @@ use Rattle.refine.specs.Represents.{Represents}
 use Rattle.refine.specs.Demands.{Performed, AcceptedState, Demand3}
 use Rattle.refine.proofs.SoundRepresents.{sound_represents, represents_sound}
 use Rattle.first_question.specs.Known.{Known}
-use Rattle.format.specs.declared.Formatted.{Formatted}
-use Rattle.format.specs.Format.{FormatAnswer, not_lent, not_allowed, written}
+use Rattle.format.specs.Format.{Formatted, FormatAnswer, not_lent, not_allowed, written}
 use Rattle.format.proofs.FormatUnit.{format_sound}
 use Rattle.perform.specs.Perform.{Performs, unknown, unsound, obeyed}
 use Rattle.perform.proofs.ObeyLaws.{init_done_lem}

@@ -1,4 +1,5 @@
 -- What each message's contract says determines the image and the state: two images or states that it allows are equal.
+use Rattle.std.specs.Prelude.{Some}
 use mathlib.Core.Path.{◌≡◌, sym, ap, ap₂, ◌∙◌, subst}
 use mathlib.Core.List.{List, []}
 use mathlib.Core.Logic.{◌≢◌}
@@ -30,7 +31,6 @@ use Rattle.refine.proofs.StateLaws.{same_absent}
 use Rattle.refine.proofs.SoundRepresents.{sound_represents}
 use Rattle.names.specs.NameIs.{NameIs}
 use Rattle.names.proofs.NameIsLaws.{name_is_unique}
-use Rattle.state.specs.declared.Found.TheVariants.{At}
 use Rattle.state.specs.Areas.{area_closed}
 use Rattle.lookup.specs.Unit.{unit_places}
 use Rattle.lookup.specs.Find.{FirstUnused}
@@ -42,7 +42,7 @@ use Rattle.change.specs.Rewrite.{Rewrites, stayed, moved}
 use Rattle.areas.specs.Areas.{AreaMade, AreaCreated, dummy_create, made, AreaBooked, AreaRemoved, dummy_remove, books}
 use Rattle.change.specs.Change as change
 use Rattle.change.proofs.ChangeUnit.{change_grown_lem}
-use Rattle.format.specs.declared.Formatted.{Formatted}
+use Rattle.format.specs.Format.{Formatted}
 use Rattle.perform.specs.Perform.{performed, Wrote, Untouched, Performs, unknown, unsound, obeyed}
 
 -- ---- places
@@ -62,7 +62,7 @@ file_positive {p} g n {f} e z = omega (arith, find_above n 0 f p.files g.catalog
 
 -- ---- two replies to one message
 
-at_one : {i j : ℕ} → At i ≡ At j → i ≡ j
+at_one : {i j : ℕ} → Some i ≡ Some j → i ≡ j
 at_one e = cc
 
 module _ {p : Plain} {o : Outcome} {lent : List ℕ} {m n : ℕ} (same : m ≡ n) {A B : Type 0} {P Q : Plain → Type 0} {C : Type 0} where

@@ -17,8 +17,7 @@ use Rattle.sound.specs.Sound.{SoundUnit}
 use Rattle.refine.specs.Represents.{Represents}
 use Rattle.refine.specs.Demands.{Performed}
 use Rattle.refine.proofs.SoundRepresents.{sound_represents}
-use Rattle.format.specs.declared.Formatted.{Formatted}
-use Rattle.format.specs.Format.{lent_keys, lent_slice, lent_first, lent_sectors, formatted_by, Formattable, FormatAnswer, not_lent, not_allowed}
+use Rattle.format.specs.Format.{lent_keys, lent_slice, lent_first, lent_sectors, formatted_by, Formattable, Formatted, FormatAnswer, not_lent, not_allowed}
 use Rattle.format.specs.Format as format
 use Rattle.perform.specs.Perform.{Wrote, Untouched, Obeyed, Performs, unknown, unsound, obeyed}
 use Rattle.demands.specs.Reserved.{reserved_words, SameReserved, SameOthers, SameButReserved, ReservedSectors}

@@ -1,5 +1,5 @@
 -- The letter's demands, as types over the contracts of the one call and of Format. Demand 3 is `Rattle.refine.specs.Demands.Demand3`.
-use Rattle.std.specs.Prelude.{◌≡◌, List, ◌≢◌, ◌⊎◌, ◌↔◌, ℕ}
+use Rattle.std.specs.Prelude.{◌≡◌, List, ◌≢◌, ◌⊎◌, ◌↔◌, ℕ, Some}
 use Rattle.types.specs.declared.Name.{Name}
 use Rattle.types.specs.declared.State.{State}
 use Rattle.types.specs.declared.Operation.{Operation}
@@ -8,7 +8,6 @@ use Rattle.types.specs.declared.Message.TheVariants.{Init, AreaMessage}
 use Rattle.types.specs.State.{area_at}
 use Rattle.disc.specs.Words.{Words}
 use Rattle.disc.specs.Names.{named}
-use Rattle.state.specs.declared.Found.TheVariants.{At}
 use Rattle.state.specs.Areas.{area_named, entry_of}
 use Rattle.plain.specs.Unit.{Plain}
 use Rattle.plain.specs.Step.{Call, Reply, step}
@@ -20,8 +19,7 @@ use Rattle.refine.specs.Represents.{Represents}
 use Rattle.refine.specs.Demands.{Performed, Contract, Run, AcceptedState, Demand3After, Demand3}
 use Rattle.area_users.specs.AreaUsers.{at_position}
 use Rattle.first_question.specs.Known.{unknown_word, unsound_word, Known}
-use Rattle.format.specs.declared.Formatted.{Formatted}
-use Rattle.format.specs.Format.{FormatAnswer}
+use Rattle.format.specs.Format.{Formatted, FormatAnswer}
 use Rattle.perform.specs.Perform.{Untouched, Obeyed, Performs}
 use Rattle.demands.specs.FormatContract.{FormatContract}
 use Rattle.demands.specs.Listing.{ListedByName}
@@ -41,8 +39,8 @@ pub record ReadFrom (image : List ℕ) (state : State) (p : Plain) : Type 0 wher
 pub record PositionIs (state : State) (name : Name) (sender k : ℕ) (next : State) : Type 0 where
   pub j : ℕ
   pub u : ℕ
-  pub is_open : area_named (named name) state ≡ At j
-  pub is_user : entry_of sender (area_at state j) ≡ At u
+  pub is_open : area_named (named name) state ≡ Some j
+  pub is_user : entry_of sender (area_at state j) ≡ Some u
   pub left : next ≡ at_position state j u k
 
 -- "No word of .. state .. changes, save the sender's position where document 01 says so": Position and transput 5 and 7 leave the

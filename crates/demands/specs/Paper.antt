@@ -13,8 +13,7 @@ use Rattle.examples.specs.Paper.{paper_unit, pass, six_calls, seven_calls, eight
 use Rattle.sound.specs.State.{Shaped}
 use Rattle.refine.specs.Represents.{Represents}
 use Rattle.refine.specs.Demands.{Performed, Run}
-use Rattle.format.specs.declared.Formatted.{Formatted}
-use Rattle.format.specs.Format.{FormatAnswer}
+use Rattle.format.specs.Format.{Formatted, FormatAnswer}
 use Rattle.perform.specs.Perform.{Performs}
 
 -- Format's record for unit 0 and "H = 1, s = 2, N = 20, F = 10", with "free = N - F, top = N" and any two words more.

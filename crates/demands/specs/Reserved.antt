@@ -6,7 +6,7 @@ use Rattle.disc.specs.Words.{Words}
 use Rattle.disc.specs.Kit.{sys_index_sector}
 use Rattle.sound.specs.Sound.{SoundUnit}
 use Rattle.refine.specs.Demands.{Performed, Contract}
-use Rattle.format.specs.declared.Formatted.{Formatted}
+use Rattle.format.specs.Format.{Formatted}
 use Rattle.demands.specs.FormatContract.{FormatContract}
 
 -- The words of sectors 0 to 5: those in front of "sector 6 .. the index block of SYS", words 0 to 1,535.

@@ -1,5 +1,6 @@
 -- The letter's demands, proved of the contracts of `ruzkemp_perform` and `ruzkemp_format`: by the demands of the calls below, and the laws
 -- of the mirror.
+use Rattle.std.specs.Prelude.{Option, Some}
 use mathlib.Core.Path.{◌≡◌, refl, sym, ap, ◌∙◌, subst}
 use mathlib.Core.List.{List}
 use mathlib.Core.Logic.{◌≢◌, ◌⊎◌, inl, inr, ⊎_elim}
@@ -17,14 +18,11 @@ use Rattle.sound.specs.Sound.{SoundUnit}
 use Rattle.refine.specs.Demands.{Performed, AcceptedState}
 use Rattle.refine.proofs.StateLaws.{named_inside}
 use Rattle.first_question.specs.Known.{Known}
-use Rattle.format.specs.declared.Formatted.{Formatted}
-use Rattle.format.specs.Format.{Refused, FormatAnswer, not_lent, not_allowed, written}
+use Rattle.format.specs.Format.{Refused, Formatted, FormatAnswer, not_lent, not_allowed, written}
 use Rattle.perform.specs.Perform.{Untouched}
 use Rattle.demands.specs.Demands.{Answered, StateLeft}
 use Rattle.demands.specs.Demands as demands
 use Rattle.demands.proofs.Demands.{demand_1, demand_2, demand_3}
-use Rattle.export.specs.declared.Asked.{Asked}
-use Rattle.export.specs.declared.Asked.TheVariants as asked
 use Rattle.export.specs.declared.UnitAnswer.{UnitAnswer}
 use Rattle.export.specs.declared.UnitMessage.{UnitMessage}
 use Rattle.export.specs.declared.UnitState.{UnitState}
@@ -51,7 +49,7 @@ every_answered (then c rest) = then (unit_answered c) (every_answered rest)
 
 -- the mirror that a refused call leaves
 module _ {state next : UnitState} (shape : Arrays state) (mirror : next ≡ remirrored state (state_of next)) where
-  mirror_left : {p q : Plain} {m : Message} → StateLeft p q (state_of state) (state_of next) m → MirrorLeft state next (asked.Call m)
+  mirror_left : {p q : Plain} {m : Message} → StateLeft p q (state_of state) (state_of next) m → MirrorLeft state next (Some m)
   mirror_left (demands.everything _ same) = unit.everything (same_state_lem state shape next mirror same)
   mirror_left (demands.but_position moves to is) =
       let inside : is.j < 8 = named_inside (state_of state) _ is.j is.is_open in
@@ -70,7 +68,7 @@ module _ {image : List ℕ} {state : UnitState} {lent : List ℕ} {r : UnitPerfo
     same_mirror = unit.everything (same_state_lem state c.arrays r.state c.mirror u.same_state);
   }
 
-  call_refused : (message : UnitMessage) → asked_of message ≡ asked.Call m → r.answer.result ≢ 0 → Answered image (state_of state) m lent (performed_of r) → UnitRefused image state message lent r
+  call_refused : (message : UnitMessage) → asked_of message ≡ Some m → r.answer.result ≢ 0 → Answered image (state_of state) m lent (performed_of r) → UnitRefused image state message lent r
   call_refused message e nz (demands.unknown _ u) = untouched u message
   call_refused message e nz (demands.unsound _ _ u) = untouched u message
   call_refused message e nz (demands.refused _ _ p _ _ l) = record {
@@ -78,7 +76,7 @@ module _ {image : List ℕ} {state : UnitState} {lent : List ℕ} {r : UnitPerfo
     entries = l.entries;
     same_image = l.same_image;
     same_lent = l.same_lent;
-    same_mirror = subst (λ (a : Asked). MirrorLeft state r.state a) (sym e) (mirror_left c.arrays c.mirror l.same_state);
+    same_mirror = subst (λ (a : Option Message). MirrorLeft state r.state a) (sym e) (mirror_left c.arrays c.mirror l.same_state);
   }
   call_refused message e nz (demands.done _ _ p _ z _) = absurd (nz z)
 

@@ -75,6 +75,10 @@ same_eight : {A : Type 0} (d : A) (l : List A) (h : ℕ → A) → length l ≡ 
     → h 0 ∷ h 1 ∷ h 2 ∷ h 3 ∷ h 4 ∷ h 5 ∷ h 6 ∷ h 7 ∷ [] ≡ l
 same_eight d l h e same = ext_get_or d _ l (sym e) (λ i b. eight_at h d i b ∙ same i b)
 
+pub eight_are : {A : Type 0} (d : A) (l : List A) → length l ≡ 8
+    → l ≡ get_or l 0 d ∷ get_or l 1 d ∷ get_or l 2 d ∷ get_or l 3 d ∷ get_or l 4 d ∷ get_or l 5 d ∷ get_or l 6 d ∷ get_or l 7 d ∷ []
+eight_are d l e = sym (same_eight d l (λ (i : ℕ). get_or l i d) e (λ i b. refl))
+
 -- ---- the mirror left stands for the state
 
 area_back : (before : AreaState) (a : Area) → length a.users ≡ 3 → area_of (remirrored_area before a) ≡ a
@@ -99,7 +103,7 @@ mirrored before m s e same = let back : state_of m ≡ s = ap state_of same ∙ 
 
 -- ---- where the state is the one before, so is the mirror
 
-abbrev past_mirror : AreaState
+abbrev pub past_mirror : AreaState
 past_mirror = record { live = 0; name = []; index = 0; length = 0; users = [] }
 
 abbrev no_user : UserState

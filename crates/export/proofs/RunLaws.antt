@@ -1,4 +1,5 @@
 -- A list of C calls is a list of calls of the one call and of Format, but for the numbers that no call has: these change nothing.
+use Rattle.std.specs.Prelude.{Option, Some, None}
 use mathlib.Core.Path.{◌≡◌, ap, subst}
 use mathlib.Core.List.{List, [], ◌∷◌}
 use Prim.Native.Nat.{ℕ}
@@ -13,8 +14,6 @@ use Rattle.format.specs.Format.{FormatAnswer}
 use Rattle.perform.specs.Perform.{Performs}
 use Rattle.demands.specs.Demands.{Later}
 use Rattle.demands.specs.Demands as demands
-use Rattle.export.specs.declared.Asked.{Asked}
-use Rattle.export.specs.declared.Asked.TheVariants as asked
 use Rattle.export.specs.declared.UnitMessage.{UnitMessage}
 use Rattle.export.specs.declared.UnitState.{UnitState}
 use Rattle.export.specs.Mirror.{state_of}
@@ -23,13 +22,13 @@ use Rattle.export.specs.Runs.{UnitCall, UnitReply, UnitRun, empty, then, UnitLat
 use Rattle.export.specs.Runs as runs
 
 -- a number is one call's, or no call's
-pub no_call : {a : Asked} {m : Message} {A : Type 0} → a ≡ asked.Call m → a ≡ asked.NoSuchCall → A
+pub no_call : {a : Option Message} {m : Message} {A : Type 0} → a ≡ Some m → a ≡ None → A
 no_call e f = let z : ◌≡◌ {A = ℕ} 0 1 = cc in absurd (omega arith)
 
-one_call : {a : Asked} {m n : Message} → a ≡ asked.Call m → a ≡ asked.Call n → m ≡ n
+one_call : {a : Option Message} {m n : Message} → a ≡ Some m → a ≡ Some n → m ≡ n
 one_call e f = cc
 
-pub called_as : {image lent : List ℕ} {state : UnitState} {message : UnitMessage} {m : Message} {r : UnitPerformed} → UnitPerforms image state message lent r → asked_of message ≡ asked.Call m
+pub called_as : {image lent : List ℕ} {state : UnitState} {message : UnitMessage} {m : Message} {r : UnitPerformed} → UnitPerforms image state message lent r → asked_of message ≡ Some m
     → UnitCalled image state m lent r
 called_as {image} {lent} {state} {message} {m} {r} (call n e c) f = subst (λ (x : Message). UnitCalled image state x lent r) (one_call e f) c
 called_as (no_such_call e c) f = no_call f e

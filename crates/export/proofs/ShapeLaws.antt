@@ -1,14 +1,13 @@
 -- A mirror that the code holds has the arrays that its types declare.
-use mathlib.Core.Path.{◌≡◌, sym, ◌∙◌}
-use mathlib.Core.List.{List, [], ◌∷◌, map}
+use mathlib.Core.Path.{◌≡◌}
+use mathlib.Core.List.{List, [], ◌∷◌}
 use Prim.Native.Nat.{ℕ, zero, suc, ◌<◌}
 use native.Mathlib.Omega.{arith}
-use lib.ListN.{length, get_or, length-map}
+use lib.ListN.{length, get_or}
 use mir.Val.{Val}
 use denote.Shadow.{shadow}
 use denote.Array.{each}
 use denote.Laws.{Is}
-use denote.Struct.Declared.{field}
 use denote.Struct.Laws as LL
 use Rattle.export.specs.declared.AreaState.{AreaState}
 use Rattle.export.specs.declared.UnitState.{UnitState}

@@ -1,5 +1,5 @@
 -- The calls of a C program: what a message of twelve words asks for, the answer, and what comes of a call and of Format.
-use Rattle.std.specs.Prelude.{◌≡◌, cond, List, ℕ, get_or, eqb}
+use Rattle.std.specs.Prelude.{◌≡◌, cond, List, ℕ, get_or, eqb, Option, Some, None}
 use Rattle.types.specs.declared.Name.{Name}
 use Rattle.types.specs.declared.Answer.{Answer}
 use Rattle.types.specs.declared.Operation.{Operation}
@@ -9,10 +9,7 @@ use Rattle.types.specs.declared.Message.TheVariants.{Init, Set, Create, LookUp, 
 use Rattle.types.specs.declared.Message.TheVariants.{CreateArea, RemoveArea, AreaMessage, UnitDescription, Listing}
 use Rattle.refine.specs.Demands.{Performed}
 use Rattle.perform.specs.Perform.{performed, Performs}
-use Rattle.format.specs.declared.Formatted.{Formatted}
-use Rattle.format.specs.Format.{FormatAnswer}
-use Rattle.export.specs.declared.Asked.{Asked}
-use Rattle.export.specs.declared.Asked.TheVariants as asked
+use Rattle.format.specs.Format.{Formatted, FormatAnswer}
 use Rattle.export.specs.declared.UnitMessage.{UnitMessage}
 use Rattle.export.specs.declared.UnitAnswer.{UnitAnswer}
 use Rattle.export.specs.declared.UnitState.{UnitState}
@@ -30,22 +27,22 @@ operation_of operation number bytes block =
     cond (eqb operation 3) (Transput number bytes block) (Other number))))
 
 -- What a message asks for, by the number of its call; a number above 10 is no call's.
-abbrev pub numbered : ℕ → UnitMessage → Asked
+abbrev pub numbered : ℕ → UnitMessage → Option Message
 numbered call m =
-    cond (eqb call 0) (asked.Call (Init m.unit)) (
-    cond (eqb call 1) (asked.Call (Set (name_of m.name))) (
-    cond (eqb call 2) (asked.Call (Create (name_of m.name) m.size m.attributes)) (
-    cond (eqb call 3) (asked.Call (LookUp (name_of m.name))) (
-    cond (eqb call 4) (asked.Call (Change (name_of m.name))) (
-    cond (eqb call 5) (asked.Call (Remove (name_of m.name))) (
-    cond (eqb call 6) (asked.Call (CreateArea (name_of m.name))) (
-    cond (eqb call 7) (asked.Call (RemoveArea (name_of m.name))) (
+    cond (eqb call 0) (Some (Init m.unit)) (
+    cond (eqb call 1) (Some (Set (name_of m.name))) (
+    cond (eqb call 2) (Some (Create (name_of m.name) m.size m.attributes)) (
+    cond (eqb call 3) (Some (LookUp (name_of m.name))) (
+    cond (eqb call 4) (Some (Change (name_of m.name))) (
+    cond (eqb call 5) (Some (Remove (name_of m.name))) (
+    cond (eqb call 6) (Some (CreateArea (name_of m.name))) (
+    cond (eqb call 7) (Some (RemoveArea (name_of m.name))) (
     cond (eqb call 8)
-    (asked.Call (AreaMessage (name_of m.name) m.sender (operation_of m.operation m.number m.bytes m.block))) (
-    cond (eqb call 9) (asked.Call (UnitDescription m.unit m.bytes)) (
-    cond (eqb call 10) (asked.Call (Listing m.unit)) asked.NoSuchCall))))))))))
+    (Some (AreaMessage (name_of m.name) m.sender (operation_of m.operation m.number m.bytes m.block))) (
+    cond (eqb call 9) (Some (UnitDescription m.unit m.bytes)) (
+    cond (eqb call 10) (Some (Listing m.unit)) None))))))))))
 
-abbrev pub asked_of : UnitMessage → Asked
+abbrev pub asked_of : UnitMessage → Option Message
 asked_of m = numbered m.call m
 
 abbrev pub answer_of : UnitAnswer → Answer
@@ -83,8 +80,8 @@ pub record NotCalled (image : List ℕ) (state : UnitState) (lent : List ℕ) (r
 
 -- What comes of a message.
 pub data UnitPerforms (image : List ℕ) (state : UnitState) (message : UnitMessage) (lent : List ℕ) (r : UnitPerformed) : Type 0 where
-  call : (m : Message) → asked_of message ≡ asked.Call m → UnitCalled image state m lent r → UnitPerforms image state message lent r
-  no_such_call : asked_of message ≡ asked.NoSuchCall → NotCalled image state lent r → UnitPerforms image state message lent r
+  call : (m : Message) → asked_of message ≡ Some m → UnitCalled image state m lent r → UnitPerforms image state message lent r
+  no_such_call : asked_of message ≡ None → NotCalled image state lent r → UnitPerforms image state message lent r
 
 -- What Format leaves: image, mirror and result word; the result word with the state that the mirror stands for.
 pub record UnitFormatted : Type 0 where

@@ -1,6 +1,6 @@
 -- The letter's demands, as types over the contracts of the C entry points: for every call and for lists of calls. They speak of the state
 -- that a mirror stands for, and of every word of the mirror.
-use Rattle.std.specs.Prelude.{◌≡◌, List, ◌≢◌, ◌⊎◌, ◌↔◌, ℕ, ◌<◌}
+use Rattle.std.specs.Prelude.{◌≡◌, List, ◌≢◌, ◌⊎◌, ◌↔◌, ℕ, ◌<◌, Option, Some, None}
 use Rattle.types.specs.declared.Name.{Name}
 use Rattle.types.specs.declared.Operation.{Operation}
 use Rattle.types.specs.declared.Message.{Message}
@@ -8,7 +8,6 @@ use Rattle.types.specs.declared.Message.TheVariants.{Init, AreaMessage}
 use Rattle.types.specs.State.{area_at}
 use Rattle.disc.specs.Words.{Words}
 use Rattle.disc.specs.Names.{named}
-use Rattle.state.specs.declared.Found.TheVariants.{At}
 use Rattle.state.specs.Areas.{area_named, entry_of}
 use Rattle.plain.specs.Step.{Call, Reply}
 use Rattle.plain.specs.Claims.{Moves}
@@ -17,8 +16,6 @@ use Rattle.refine.specs.Demands.{AcceptedState, Demand3After}
 use Rattle.first_question.specs.Known.{Known}
 use Rattle.format.specs.Format.{FormatAnswer}
 use Rattle.demands.specs.Demands.{Answered}
-use Rattle.export.specs.declared.Asked.{Asked}
-use Rattle.export.specs.declared.Asked.TheVariants as asked
 use Rattle.export.specs.declared.UnitState.{UnitState}
 use Rattle.export.specs.declared.UnitMessage.{UnitMessage}
 use Rattle.export.specs.Mirror.{state_of, remirrored, positioned}
@@ -28,11 +25,11 @@ use Rattle.export.specs.Runs.{UnitContract, UnitFormatContract, UnitCall, UnitRe
 -- ---- demand 1
 
 -- Which words of the mirror a refused call changes: none, "save the sender's position where document 01 says so".
-pub data MirrorLeft (state next : UnitState) : Asked → Type 0 where
-  everything : {a : Asked} → next ≡ state → MirrorLeft state next a
+pub data MirrorLeft (state next : UnitState) : Option Message → Type 0 where
+  everything : {a : Option Message} → next ≡ state → MirrorLeft state next a
   but_position : {name : Name} {sender : ℕ} {operation : Operation} → Moves operation → (j u k : ℕ)
-      → area_named (named name) (state_of state) ≡ At j → entry_of sender (area_at (state_of state) j) ≡ At u → next ≡ positioned state j u k
-      → MirrorLeft state next (asked.Call (AreaMessage name sender operation))
+      → area_named (named name) (state_of state) ≡ Some j → entry_of sender (area_at (state_of state) j) ≡ Some u → next ≡ positioned state j u k
+      → MirrorLeft state next (Some (AreaMessage name sender operation))
 
 -- "No word of image, state or lent record changes, save the sender's position"; "returned byte counts are 0".
 pub record UnitRefused (image : List ℕ) (state : UnitState) (message : UnitMessage) (lent : List ℕ) (r : UnitPerformed) : Type 0 where
@@ -45,13 +42,13 @@ pub record UnitRefused (image : List ℕ) (state : UnitState) (message : UnitMes
 -- One of the calls is answered as demand 1 says, and of the mirror every word stays that stands for the same value; a number that no call
 -- has is answered FFFFh, and nothing changes.
 pub data UnitAnswered (image : List ℕ) (state : UnitState) (message : UnitMessage) (lent : List ℕ) (r : UnitPerformed) : Type 0 where
-  call : (m : Message) → asked_of message ≡ asked.Call m → Answered image (state_of state) m lent (performed_of r)
+  call : (m : Message) → asked_of message ≡ Some m → Answered image (state_of state) m lent (performed_of r)
       → r.state ≡ remirrored state (state_of r.state) → UnitAnswered image state message lent r
-  no_such_call : asked_of message ≡ asked.NoSuchCall → NotCalled image state lent r → UnitAnswered image state message lent r
+  no_such_call : asked_of message ≡ None → NotCalled image state lent r → UnitAnswered image state message lent r
 
 pub record UnitDemand1 (C : UnitContract) (F : UnitFormatContract) : Type 0 where
   -- the numbers of the calls are 0 to 10
-  pub numbers : (message : UnitMessage) → (10 < message.call) ↔ (asked_of message ≡ asked.NoSuchCall)
+  pub numbers : (message : UnitMessage) → (10 < message.call) ↔ (asked_of message ≡ None)
   pub call : {image : List ℕ} {state : UnitState} {message : UnitMessage} {lent : List ℕ} {r : UnitPerformed}
       → C image state message lent r → UnitAnswered image state message lent r
   -- so every call of a list
@@ -75,14 +72,14 @@ pub record UnitDemand1 (C : UnitContract) (F : UnitFormatContract) : Type 0 wher
 pub record UnitDemand2 (C : UnitContract) (F : UnitFormatContract) : Type 0 where
   -- "Init, on a known unit with no area process, accepts exactly the images that meet document 01's rules of a sound unit"
   pub exactly : {image : List ℕ} {state : UnitState} {message : UnitMessage} {unit : ℕ} {lent : List ℕ} {r : UnitPerformed}
-      → C image state message lent r → asked_of message ≡ asked.Call (Init unit) → Known (state_of state) (Init unit)
+      → C image state message lent r → asked_of message ≡ Some (Init unit) → Known (state_of state) (Init unit)
       → (r.answer.result ≡ 0) ↔ SoundUnit image (state_of state)
   -- and no other unit
   pub only : {image : List ℕ} {state : UnitState} {message : UnitMessage} {unit : ℕ} {lent : List ℕ} {r : UnitPerformed}
-      → C image state message lent r → asked_of message ≡ asked.Call (Init unit) → r.answer.result ≡ 0 → Known (state_of state) (Init unit)
+      → C image state message lent r → asked_of message ≡ Some (Init unit) → r.answer.result ≡ 0 → Known (state_of state) (Init unit)
   -- on accepting it leaves the image, and the state with which demand 3's list begins
   pub accepted : {image : List ℕ} {state : UnitState} {message : UnitMessage} {unit : ℕ} {lent : List ℕ} {r : UnitPerformed}
-      → C image state message lent r → asked_of message ≡ asked.Call (Init unit) → r.answer.result ≡ 0
+      → C image state message lent r → asked_of message ≡ Some (Init unit) → r.answer.result ≡ 0
       → (r.image ≡ image) × AcceptedState (state_of r.state) × SoundUnit r.image (state_of r.state)
   -- "and every image that Format .. writes meets them again"
   pub format : {image : List ℕ} {state : UnitState} {bytes : ℕ} {lent : List ℕ} {r : UnitFormatted}
@@ -113,7 +110,7 @@ pub record UnitDemand3 (C : UnitContract) : Type 0 where
   -- the same said of an accepted Init, without a word about the state that it left
   pub after_init : {image end : List ℕ} {state stop : UnitState} {message : UnitMessage} {unit : ℕ} {words : List ℕ}
       {r : UnitPerformed} {calls : List UnitCall} {replies : List UnitReply}
-      → C image state message words r → asked_of message ≡ asked.Call (Init unit) → r.answer.result ≡ 0 → UnitLentWords calls
+      → C image state message words r → asked_of message ≡ Some (Init unit) → r.answer.result ≡ 0 → UnitLentWords calls
       → UnitRun C r.image r.state calls replies end stop
       → UnitDemand3After r.image r.state calls replies end stop
 

@@ -1,10 +1,9 @@
 -- Lists of calls of a C program, by the contracts of `ruzkemp_perform` and `ruzkemp_format`: each call gets image and mirror as the one
 -- before left them.
-use Rattle.std.specs.Prelude.{◌≡◌, List, [], ◌∷◌, ℕ}
+use Rattle.std.specs.Prelude.{◌≡◌, List, [], ◌∷◌, ℕ, Some, None}
 use Rattle.types.specs.declared.Message.{Message}
 use Rattle.disc.specs.Words.{Words}
 use Rattle.plain.specs.Step.{Call, Reply}
-use Rattle.export.specs.declared.Asked.TheVariants as asked
 use Rattle.export.specs.declared.UnitState.{UnitState}
 use Rattle.export.specs.declared.UnitMessage.{UnitMessage}
 use Rattle.export.specs.declared.UnitAnswer.{UnitAnswer}
@@ -53,9 +52,9 @@ pub data StandFor : List UnitCall → List UnitReply → List Call → List Repl
   empty : StandFor [] [] [] []
   call : {c : UnitCall} {r : UnitReply} {m : Message} {calls : List UnitCall} {replies : List UnitReply} {plain : List Call}
       {answered : List Reply}
-      → asked_of c.message ≡ asked.Call m → StandFor calls replies plain answered
+      → asked_of c.message ≡ Some m → StandFor calls replies plain answered
       → StandFor (c ∷ calls) (r ∷ replies) (record { message = m; lent = c.lent } ∷ plain)
       (record { answer = answer_of r.answer; lent = r.lent } ∷ answered)
   no_such_call : {c : UnitCall} {r : UnitReply} {calls : List UnitCall} {replies : List UnitReply} {plain : List Call} {answered : List Reply}
-      → asked_of c.message ≡ asked.NoSuchCall → r.answer ≡ no_such_answer → r.lent ≡ c.lent → StandFor calls replies plain answered
+      → asked_of c.message ≡ None → r.answer ≡ no_such_answer → r.lent ≡ c.lent → StandFor calls replies plain answered
       → StandFor (c ∷ calls) (r ∷ replies) plain answered

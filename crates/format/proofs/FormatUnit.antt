@@ -15,8 +15,7 @@ use Rattle.refine.specs.Represents.{Represents}
 use Rattle.refine.specs.Format.{fresh_unit}
 use Rattle.refine.proofs.Format.{format_good, format_represents}
 use Rattle.refine.proofs.SoundRepresents.{represents_sound}
-use Rattle.format.specs.declared.Formatted.{Formatted}
-use Rattle.format.specs.Format.{lent_keys, lent_slice, lent_first, lent_sectors, uninitialized, FormatAnswer, not_lent, not_allowed, written}
+use Rattle.format.specs.Format.{lent_keys, lent_slice, lent_first, lent_sectors, uninitialized, Formatted, FormatAnswer, not_lent, not_allowed, written}
 
 -- the unit that Format makes, by its record
 abbrev pub unit_by : State → List ℕ → Plain
@@ -36,3 +35,9 @@ format_unit {image} {state} {lent = lent} words lent_words shaped (written l f w
 pub format_sound : {image : List ℕ} {state : State} {bytes : ℕ} {lent after : List ℕ} {r : Formatted} → Words image → Words lent → Shaped state
     → FormatAnswer image state bytes lent after r → r.result ≡ 0 → SoundUnit after r.state
 format_sound words lent_words shaped answer zero = let u = format_unit words lent_words shaped answer zero in represents_sound u.0 u.1
+
+-- whatever Format answers, the state that it leaves has the arrays of the state before it
+pub format_shaped : {image : List ℕ} {state : State} {bytes : ℕ} {lent after : List ℕ} {r : Formatted} → Shaped state → FormatAnswer image state bytes lent after r → Shaped r.state
+format_shaped shaped (not_lent short refused) = rw refused.kept shaped
+format_shaped shaped (not_allowed l other refused) = rw refused.kept shaped
+format_shaped shaped (written l f w) = rw w.left (record { eight = shaped.eight; three = shaped.three })

@@ -1,5 +1,4 @@
 pub mod MapLaws
 pub mod BlockLaws
-pub mod PlaceLaws
 pub mod WriteLaws
 pub mod FormatUnit

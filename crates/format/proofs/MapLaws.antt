@@ -6,10 +6,14 @@ use native.Mathlib.Nat.{add-zero, add-mul, mul_assoc, pow-succ', le-mul_of_pos_r
 use native.Mathlib.Numerals.{add-one}
 use native.Mathlib.Omega.{arith}
 use lib.Pow.{pow_pos}
+use lib.Dec.{leb, ltb}
 use lib.ListN.{length}
+use mir.Val.{bool_byte}
+use borrow.Author.Tests.{le-leb, lt-leb, le-ltb}
 use Rattle.disc.specs.Stretches.{span}
 use Rattle.disc.specs.Kit.{map_sector}
 use Rattle.disc.specs.Map.{map_bits, map_word}
+use Rattle.disc.proofs.Compare.{below_or}
 use Rattle.disc.proofs.SliceLaws.{in_unit_in, in_unit_no}
 use Rattle.disc.proofs.SpanLaws.{span_in, span_past}
 use Rattle.map.proofs.MapWordLaws.{free_bit, map_word_lt}
@@ -21,14 +25,20 @@ use Rattle.format.proofs.BlockLaws.{block_full}
 
 -- ---- a bit: SYS has the first slices, and the unit's others are free
 
-pub bit_used : (used m k : ℕ) → 1 ≤ k → k ≤ used → 0 ≡ free_bit m (span 1 used) k
-bit_used used m k a b = rw (span_in used 1 k a (omega arith)) (omega arith)
+pub bit_used : (used m k : ℕ) → 1 ≤ k → k ≤ used → bool_byte (ltb used k) ≡ free_bit m (span 1 used) k
+bit_used used m k a b = rw (le-ltb used k b, span_in used 1 k a (omega arith)) (omega arith)
 
-pub bit_past : (used m k : ℕ) → m < k → 0 ≡ free_bit m (span 1 used) k
+bit_past : (used m k : ℕ) → m < k → 0 ≡ free_bit m (span 1 used) k
 bit_past used m k h = rw (in_unit_no m k h) (omega arith)
 
-pub bit_free : (used m k : ℕ) → 1 ≤ k → used < k → k ≤ m → 1 ≡ free_bit m (span 1 used) k
+bit_free : (used m k : ℕ) → 1 ≤ k → used < k → k ≤ m → 1 ≡ free_bit m (span 1 used) k
 bit_free used m k a b c = rw (in_unit_in m k a c, span_past used 1 k (omega arith)) (omega arith)
+
+-- a slice that SYS does not have: whether it is one of the unit's
+pub bit_tested : (used m k : ℕ) → 1 ≤ k → used < k → bool_byte (leb k m) ≡ free_bit m (span 1 used) k
+bit_tested used m k a b = below_or m k
+    (λ h. rw (lt-leb k m h) (bit_past used m k h))
+    (λ h. rw (le-leb k m h) (bit_free used m k a b h))
 
 -- ---- a word
 
@@ -53,6 +63,10 @@ module _ (m : ℕ) (held : List ℕ) (w : ℕ) where
           let g : 16 * w + 1 + (b + 1) ≡ suc k = omega arith in
           let before : x * 2 ^ suc n + (free_bit m held k * 2 ^ n + map_bits m held n (suc k)) ≡ map_word m held w = rw f at d.sum in
           rw g (omega (arith, before, add-mul (x * 2) (free_bit m held k) (2 ^ n), mul_assoc x 2 (2 ^ n), ap (λ (y : ℕ). x * y) (pow-succ' 2 n)))
+
+  -- a turn of the loop, whose bit is that of the slice in the word's place
+  pub bits_next : (b x : ℕ) → b < 16 → BitsDone m held w b x → {k v : ℕ} → k ≡ 16 * w + b + 1 → v ≡ free_bit m held k → BitsDone m held w (b + 1) (x * 2 + v)
+  bits_next b x h d {k} e f = let g : k ≡ 16 * w + 1 + b = omega arith in rw (f, g) (bits_more b x h d)
 
   pub bits_fit : (b x : ℕ) → BitsDone m held w b x → x < 65536
   bits_fit b x d = omega (arith, le-mul_of_pos_right {m = 2 ^ (16 - b)} x (pow_pos (16 - b)), d.sum, map_word_lt m held w)

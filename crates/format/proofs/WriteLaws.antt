@@ -19,13 +19,11 @@ use Rattle.refine.specs.Format.{store_block, sys_slices, fresh_free, map_index, 
 use Rattle.refine.proofs.Format.{length_sys, free_slices_lem, data_sectors, sys_end}
 use Rattle.refine.proofs.FormatImage.{key_lt, length_system}
 
--- the sector of a key lies in the image
-pub key_inside : (H s F N : ℕ) → Limits H s F N → (n k : ℕ) → k ≡ key_of H n → F + k < N
-key_inside H s F N lim n k e = omega (arith, sys_end H s F N lim, key_lt H n lim.keys_low)
-
--- and is where the code has it
-pub key_sector_lem : (H s F N : ℕ) → Limits H s F N → (n k : ℕ) → k ≡ key_of H n → {q : ℕ} → q ≡ (F + k) % 65536 → q ≡ F + k
-key_sector_lem H s F N lim n k e f = let h = key_inside H s F N lim n k e in f ∙ mod-eq_of_lt (omega (arith, lim.sectors))
+-- the sector of a key is where the code has it, and lies in the image
+pub key_sector_lem : (H s F N : ℕ) → Limits H s F N → (n k : ℕ) → k ≡ key_of H n → {q : ℕ} → q ≡ (F + k) % 65536 → (q ≡ F + k) × (F + k < N)
+key_sector_lem H s F N lim n k e f =
+    let inside : F + k < N = omega (arith, sys_end H s F N lim, key_lt H n lim.keys_low) in
+    (f ∙ mod-eq_of_lt (omega (arith, lim.sectors)), inside)
 
 -- the sectors of some of the unit's slices are a word
 pub part_fits : (H s F N : ℕ) → Limits H s F N → {x : ℕ} → x ≤ slice_count s F N → Fits w16 (s * x)

@@ -1,13 +1,14 @@
 -- Format: its record, its questions, and what it leaves: "18 bytes and at least 9 words lent? 1080h; unit known, no area
 -- process, limits met, free = N - F, top = N, image length 256 times N? 1200h."
-use Rattle.std.specs.Prelude.{◌≡◌, false, List, ℕ, ◌*◌, ◌-◌, ◌≤◌, length, get_or}
+use Rattle.std.specs.Prelude.{◌≡◌, false, List, ℕ, ◌*◌, ◌-◌, ◌≤◌, length, get_or, Result}
 use Rattle.types.specs.declared.State.{State}
 use Rattle.types.specs.declared.Message.TheVariants.{Init}
+use Rattle.types.specs.declared.Refusal.{Refusal}
+use Rattle.types.specs.Words.{result_word, left_of}
 use Rattle.disc.specs.Kit.{Limits}
 use Rattle.state.specs.Areas.{with_initialized}
 use Rattle.first_question.specs.Known.{Known}
 use Rattle.refine.specs.Format.{system_sectors, fresh_catalog, formatted}
-use Rattle.format.specs.declared.Formatted.{Formatted}
 
 -- The record's words (source document, 7.2): the unit number, and the unit parameters H, s, N, free, F, top and two more.
 abbrev pub lent_unit : List ℕ → ℕ
@@ -63,6 +64,15 @@ formatted_by image lent =
 -- "It .. leaves the unit uninitialized."
 abbrev pub uninitialized : State → State
 uninitialized state = with_initialized state false
+
+-- The result word, and the state after the call.
+pub record Formatted : Type 0 where
+  pub result : ℕ
+  pub state : State
+
+-- The word 0 and the state that the call hands back; a refusal's word and the state before it.
+abbrev pub after_format : State → Result State Refusal → Formatted
+after_format state done = record { result = result_word done; state = left_of state done }
 
 -- "The first no decides; nothing changes".
 pub record Refused (result : ℕ) (image : List ℕ) (state : State) (after : List ℕ) (r : Formatted) : Type 0 where

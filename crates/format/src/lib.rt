@@ -14,16 +14,9 @@ ghost use Rattle.disc.specs.Map.{map_word};
 ghost use Rattle.disc.specs.Entries.{system_entry};
 ghost use Rattle.words.specs.Store.{store};
 ghost use Rattle.refine.specs.Format.{store_block, map_words};
-ghost use Rattle.format.specs.Format.{Formattable, LentLimits, lent_sectors, system_by, catalog_by, FormatAnswer};
+ghost use Rattle.format.specs.Format.{Formattable, LentLimits, lent_sectors, system_by, catalog_by, after_format, FormatAnswer};
 
-use types::{Message, Name, Sector, Slice, State};
-
-// The result word, and the state after the call.
-#[derive(Clone, Copy)]
-pub struct Formatted {
-    pub result: u16,
-    pub state: State,
-}
+use types::{Message, Name, Refusal, Sector, Slice, State};
 
 // Stores the words as the start of sector q, and zeros behind them.
 fn store_block(image: &mut [u16], q: Sector, block: &[u16])
@@ -40,13 +33,7 @@ fn map_bit(used: u16, slices: u16, k: Slice) -> u16
     requires { 1 ≤ k.0 }
     ensures { result ≡ in_unit slices k.0 * one_if_none (occurrences k.0 (span 1 used)) }
 {
-    if k.0 <= used {
-        return 0;
-    }
-    if slices < k.0 {
-        return 0;
-    }
-    1
+    u16::from(used < k.0 && k.0 <= slices)
 }
 
 // Word w of the map of a unit whose first `used` slices are held: its bits one after the other, the highest first.
@@ -54,11 +41,9 @@ fn map_word(used: u16, slices: u16, w: usize) -> u16
     requires { w < 256 }
     ensures { result ≡ map_word slices (span 1 used) w }
 {
-    let mut word: u16 = 0;
-    let mut b: usize = 0;
-    while b < 16 {
+    let mut word = 0;
+    for b in 0..16 {
         word = word * 2 + map_bit(used, slices, map::slice_at(w, b));
-        b += 1;
     }
     word
 }
@@ -68,10 +53,8 @@ fn write_map(image: &mut [u16], used: u16, slices: u16)
     requires { 2560 ≤ length image.old }
     ensures { image.new ≡ store_block image.old map_sector (map_words slices (span 1 used) 0 256) }
 {
-    let mut w: usize = 0;
-    while w < 256 {
+    for w in 0..256 {
         words::set_word(image, Sector(9), w, map_word(used, slices, w));
-        w += 1;
     }
 }
 
@@ -80,7 +63,7 @@ fn sys_slices(keys: u16, slice: u16) -> u16
     requires { 1 ≤ slice }
     ensures { result ≡ ceil_div keys slice }
 {
-    numbers::ceil_div(keys as u32, slice as u32) as u16
+    keys.div_ceil(slice)
 }
 
 // Writes sectors 6 to 9: the index blocks of SYS and MAP, the kit, and the map. The free sectors are those of the slices
@@ -129,10 +112,7 @@ fn enter(
 fn map_place(taken: u16, key: u16) -> usize
     ensures { result ≡ one_if_same (compare key taken) }
 {
-    if key == taken {
-        return 1;
-    }
-    0
+    usize::from(key == taken)
 }
 
 // Zeroes SYS's sectors and enters SYS, then MAP.
@@ -174,49 +154,27 @@ fn accepts(image: &[u16], state: State, lent: &[u16]) -> bool
     requires { 9 ≤ length lent.now }
     ensures { Decides result (Formattable image.now state lent.now) }
 {
-    if !first_question::known(state, Message::Init { unit: lent[0] }) {
-        return false;
-    }
     let sectors = lent[3];
     let first = Sector(lent[5]);
-    if !kit::within_limits(lent[1], lent[2], first, sectors) {
-        return false;
-    }
-    if lent[4] != sectors - first.0 {
-        return false;
-    }
-    if lent[6] != sectors {
-        return false;
-    }
-    image.len() == sectors as usize * 256
+    first_question::known(state, Message::Init { unit: lent[0] })
+        && kit::within_limits(lent[1], lent[2], first, sectors)
+        && lent[4] == sectors - first.0
+        && lent[6] == sectors
+        && image.len() == sectors as usize * 256
 }
 
-// Format: makes the image that of a fresh unit, as the record of nine words describes it.
-pub fn format(image: &mut [u16], state: State, bytes: u16, lent: &[u16]) -> Formatted
-    ensures { FormatAnswer image.old state bytes lent.now image.new result }
+// Format: makes the image that of a fresh unit, as the record of nine words describes it. Hands back the state after it; a refusal
+// leaves it as it was.
+pub fn format(image: &mut [u16], state: State, bytes: u16, lent: &[u16]) -> Result<State, Refusal>
+    ensures { FormatAnswer image.old state bytes lent.now image.new (after_format state result) }
 {
-    if bytes != 18 {
-        return Formatted {
-            result: 0x1080,
-            state: state,
-        };
-    }
-    if lent.len() < 9 {
-        return Formatted {
-            result: 0x1080,
-            state: state,
-        };
+    if bytes != 18 || lent.len() < 9 {
+        return Err(Refusal::FormatRecord);
     }
     if !accepts(image, state, lent) {
-        return Formatted {
-            result: 0x1200,
-            state: state,
-        };
+        return Err(Refusal::CatalogParameter);
     }
     write_system(image, lent);
     write_catalog(image, lent);
-    Formatted {
-        result: 0,
-        state: state::with_initialized(state, false),
-    }
+    Ok(state::with_initialized(state, false))
 }

@@ -1,4 +1,5 @@
 -- A catalog's growth on the image of a unit, and SYS's: what its steps ask for, and that they leave the grown unit's image.
+use Rattle.std.specs.Prelude.{Option, Some, None}
 use mathlib.Core.Path.{◌≡◌, refl, sym, ap, ap₂, ◌∙◌}
 use mathlib.Core.List.{List, [], ◌++◌}
 use mathlib.Core.Option.{none}
@@ -20,8 +21,6 @@ use Rattle.words.specs.Store.{store}
 use Rattle.words.proofs.StoreLaws.{length_store}
 use Rattle.index.specs.Block.{whole_index, block_at, slice_total}
 use Rattle.catalog.specs.declared.Place.{Place}
-use Rattle.catalog.specs.declared.Found.{Found}
-use Rattle.catalog.specs.declared.Found.TheVariants.{At, Nothing}
 use Rattle.catalog.specs.declared.Unit.{Unit}
 use Rattle.catalog.specs.Catalog.{place_start}
 use Rattle.plain.specs.Unit.{Plain, sys_of, M, held, entry}
@@ -177,14 +176,14 @@ module _ {image : List ℕ} {o : Unit} {p : Plain} {c : Catalog} (can : CanGrowF
 -- ---- SYS's place
 
 module _ {image : List ℕ} {o : Unit} {p : Plain} (can : CanGrowFrom image o p (sys_of p)) where
-  module _ {n : ℕ} {found : Found} (is : n ≡ SYS) (finds : FindsName image o n found) where
+  module _ {n : ℕ} {found : Option Place} (is : n ≡ SYS) (finds : FindsName image o n found) where
     -- SYS is entered
-    pub never_nothing : found ≡ Nothing → ⊥
+    pub never_nothing : found ≡ None → ⊥
     never_nothing e =
         let h : entry p n ≡ none = (finds.all p (on_catalog (on can)) (num can)).nothing e in
         some≢none (sym (entry_sys p) ∙ ap (entry p) (sym is) ∙ h)
 
-    module _ {place : Place} (e : found ≡ At place) where
+    module _ {place : Place} (e : found ≡ Some place) where
       at : NameAt image p n place
       at = (finds.all p (on_catalog (on can)) (num can)).at place e
 

@@ -1,5 +1,5 @@
 -- SYS's growth: "With all 16 times L places taken by other names, SYS first grows by H zeroed sectors."
-use Rattle.std.specs.Prelude.{◌≡◌, List, [], ◌++◌, ℕ, suc, ◌+◌, ◌≤◌, ◌<◌}
+use Rattle.std.specs.Prelude.{◌≡◌, List, [], ◌++◌, ℕ, suc, ◌≤◌, ◌<◌}
 use Rattle.disc.specs.Names.{SYS}
 use Rattle.disc.specs.Stretches.{stretch_count}
 use Rattle.disc.specs.Entries.{name_at}

@@ -3,6 +3,7 @@
 #![tactic(auto)]
 
 ghost use Rattle.std.specs.Prelude.{◌≡◌, ◌+◌, ◌-◌, ◌*◌, ◌≤◌, ◌<◌, length};
+ghost use Rattle.types.specs.Words.{result_word};
 ghost use Rattle.disc.specs.Names.{SYS};
 ghost use Rattle.disc.specs.Entries.{system_entry};
 ghost use Rattle.disc.specs.Catalog.{slices_for};
@@ -12,10 +13,10 @@ ghost use Rattle.catalog.specs.Catalog.{place_start};
 ghost use Rattle.grow.specs.Room.{CanAsk, RoomFor};
 ghost use Rattle.grow.specs.Grow.{CanAddLayer, CanGrow, LayerAdded, with_layers, Grows};
 
-use catalog::{Catalog, Found, Place, Unit};
+use catalog::{Catalog, Place, Unit};
 use index::IndexBlock;
 use slices::Growth;
-use types::Sector;
+use types::{Refusal, Sector};
 
 // The slices of a catalog with so many layers: its H times L blocks, and the sectors before them, / s rounded up.
 fn slices_for(c: Catalog, s: u16, layers: u16) -> u32
@@ -30,38 +31,35 @@ fn slices_more(c: Catalog, s: u16, layers: u16, block: IndexBlock) -> u32
     requires { (1 ≤ s) × (slice_total s block.words 0 < 65536) }
     ensures { result ≡ slices_for c.from s (c.keys * layers) - slice_total s block.words 0 }
 {
-    let all = slices_for(c, s, layers);
-    let had = index::slice_total(block, s) as u32;
-    if all < had {
-        return 0;
-    }
-    all - had
+    slices_for(c, s, layers).saturating_sub(index::slice_total(block, s) as u32)
 }
 
-// Questions 7 and 8 for the catalog with so many layers and a file, whose index block is given, that is to take `more` slices: 0,
-// or the word of the first no.
-pub fn room(image: &[u16], unit: Unit, layers: u16, file: IndexBlock, more: u16) -> u16
+// Questions 7 and 8 for the catalog with so many layers and a file, whose index block is given, that is to take `more` slices.
+pub fn room(
+    image: &[u16],
+    unit: Unit,
+    layers: u16,
+    file: IndexBlock,
+    more: u16,
+) -> Result<(), Refusal>
     requires { CanAsk image.now unit file.words }
-    ensures { RoomFor image.now unit layers file.words more result }
+    ensures { RoomFor image.now unit layers file.words more (result_word result) }
 {
     let block = index::read_block(image, unit.catalog.index);
     let for_catalog = slices_more(unit.catalog, unit.slice, layers, block);
     let free = map::count_free(image) as u32;
     if free < for_catalog + more as u32 {
-        return 0x1100;
+        return Err(Refusal::DiscFull);
     }
     let catalog = Growth {
-        block: block,
+        block,
         more: for_catalog as u16,
     };
-    let growth = Growth {
-        block: file,
-        more: more,
-    };
-    if !slices::fits(image, catalog, growth, unit.first, unit.slice, unit.slices) {
-        return 0x1008;
+    let file = Growth { block: file, more };
+    if !slices::fits(image, catalog, file, unit) {
+        return Err(Refusal::IndexFull);
     }
-    0
+    Ok(())
 }
 
 // Takes the catalog's slices for one layer more, and zeroes the sectors of the layer.
@@ -71,15 +69,7 @@ fn add_layer(image: &mut [u16], unit: Unit)
 {
     let block = index::read_block(image, unit.catalog.index);
     let more = slices_more(unit.catalog, unit.slice, unit.catalog.layers + 1, block) as u16;
-    let longer = slices::take_at(
-        image,
-        unit.catalog.index,
-        block,
-        unit.first,
-        unit.slice,
-        unit.slices,
-        more,
-    );
+    let longer = slices::take_at(image, unit.catalog.index, block, unit, more);
     slices::zero_sectors(
         image,
         longer,
@@ -101,20 +91,12 @@ fn enter_sys(image: &mut [u16], place: Place, index: Sector, size: u16, reserved
 fn with_layers(unit: Unit, layers: u16) -> Unit
     ensures { result ≡ with_layers unit layers }
 {
-    let first = unit.first;
-    let had = unit.catalog;
-    let index = had.index;
-    let catalog = Catalog {
-        index: index,
-        from: had.from,
-        keys: had.keys,
-        layers: layers,
-    };
     Unit {
-        slice: unit.slice,
-        first: first,
-        slices: unit.slices,
-        catalog: catalog,
+        catalog: Catalog {
+            layers,
+            ..unit.catalog
+        },
+        ..unit
     }
 }
 
@@ -123,7 +105,7 @@ pub fn grow(image: &mut [u16], unit: Unit) -> Unit
     requires { CanGrow image.old unit }
     ensures { Grows image.old unit image.new result }
 {
-    let Found::At(place) = lookup::find_name(image, unit, names::sys_name()) else {
+    let Some(place) = lookup::find_name(image, unit, names::sys_name()) else {
         return unit;
     };
     let layers = unit.catalog.layers + 1;

@@ -2,13 +2,16 @@
 use mathlib.Core.Path.{◌≡◌, refl, sym, ap, ◌∙◌}
 use mathlib.Core.Bool.{Bool, true, false}
 use mathlib.Core.List.{List}
-use Prim.Native.Nat.{ℕ, zero, suc, ◌+◌, ◌-◌, ◌/◌, ◌≤◌, ◌<◌}
+use Prim.Native.Nat.{ℕ, zero, suc, ◌+◌, ◌-◌, ◌*◌, ◌/◌, ◌≤◌, ◌<◌}
+use native.Mathlib.Nat.{zero-add}
 use native.Mathlib.Omega.{arith}
 use lib.Dec.{eqb}
+use lib.ListN.{get_or, set}
+use lib.Seq.{get_or-set_other, set-get_or}
 use Rattle.disc.specs.Numbers.{slice_start}
 use Rattle.disc.specs.Pairs.{pair_length, pair_start}
 use Rattle.disc.proofs.Compare.{same_or}
-use Rattle.index.specs.Block.{pair_count, sectors_from, last_slice_of, last_slice, joins_last, joins, stretches_with, lengthened, extended, appended}
+use Rattle.index.specs.Block.{pair_count, sectors_from, last_slice_of, last_slice, joins_last, joins, lengthened, extended, appended}
 
 module _ (F s : ℕ) (l : List ℕ) (q n : ℕ) (count : n ≡ pair_count l q) where
   pub last_none : n ≡ 0 → 0 ≡ last_slice F s l q
@@ -44,12 +47,6 @@ module _ (F s : ℕ) (l : List ℕ) (q n : ℕ) (count : n ≡ pair_count l q) w
         go zero z = let e : false ≡ true = joins_none k z ∙ sym answer ∙ t in let o : ◌≡◌ {A = ℕ} 0 1 = cc in absurd (omega arith)
         go (suc j) z = omega arith
 
-    pub with_joined : b ≡ true → n ≡ stretches_with F s k l q
-    with_joined t = let e : joins F s k l q ≡ true = sym answer ∙ t in rw e count
-
-    pub with_apart : b ≡ false → n + 1 ≡ stretches_with F s k l q
-    with_apart t = let e : joins F s k l q ≡ false = sym answer ∙ t in rw e (ap (λ (m : ℕ). m + 1) count)
-
 -- one pair has no more sectors than all
 pub pair_le : (l : List ℕ) (q n i j : ℕ) → i ≤ j → j < i + n → pair_length l q j ≤ sectors_from l q n i
 unfolding sectors_from
@@ -67,3 +64,14 @@ module _ (F s k : ℕ) (block : List ℕ) (n : ℕ) (count : n ≡ pair_count bl
   pub appended_apart : (start : ℕ) → b ≡ false → start ≡ slice_start F s k → r ≡ extended s start block n → r ≡ appended F s k block
   unfolding appended
   appended_apart start t y made = let e : joins F s k block 0 ≡ false = sym answer ∙ t in made ∙ rw (y, e, count)
+
+-- the length of the last pair is all that changes
+pub lengthened_last : (s : ℕ) (block : List ℕ) (n i : ℕ) → i ≡ 2 * (n - 1) + 1 → set block i (get_or block i 0 + s) ≡ lengthened s block n
+unfolding lengthened
+lengthened_last s block n i e =
+    let j = 2 * (n - 1) + 1 in
+    let more = set block j (get_or block j 0 + s) in
+    let other : get_or more (j + 1) 0 ≡ get_or block (j + 1) 0 = get_or-set_other block j (j + 1) (get_or block j 0 + s) 0 (omega arith) in
+    ap (λ (k : ℕ). set block k (get_or block k 0 + s)) e
+    ∙ sym (ap (λ (x : ℕ). set more (j + 1) x) (sym other) ∙ set-get_or more (j + 1) 0)
+    ∙ simp zero-add (ap (λ (k : ℕ). set more k (get_or block k 0)) (let k : j + 1 ≡ 2 * (n - 1) + 2 = omega arith in k))

@@ -97,7 +97,17 @@ module _ (n : ℕ) (all w : List ℕ) (j : ℕ) where
   fill-length f = ap length (sym f.rest ∙ append-nil f.stored) ∙ f.long
 
 -- the count of a filled block
-pub fill_count : (n : ℕ) (all w : List ℕ) (j : ℕ) → Filling n all w j [] → set w 0 j ≡ whole (length all / 2 ∷ all)
-fill_count n all w j f =
-    let e : length all / 2 ≡ j = ap (λ (k : ℕ). k / 2) (fill-length n all w j f) ∙ mul-div_cancel_left j (omega arith) in
-    ap (λ (u : List ℕ). set u 0 j) (fill_all n all w j f) ∙ whole_count n j all ∙ ap (λ (k : ℕ). whole (k ∷ all)) (sym e)
+pub fill_count : {n : ℕ} {all w : List ℕ} {j : ℕ} {left : List ℕ} (m : ℕ) → Filling n all w j left → Filling m all (set w 0 m) j left
+fill_count {n} {all} {w} m f = record {
+  stored = f.stored;
+  filled = ap (λ (u : List ℕ). set u 0 m) f.filled ∙ whole_count n m f.stored;
+  long = f.long;
+  rest = f.rest;
+  size = simp length-set f.size;
+}
+
+-- a block that has as many pairs as it counts
+pub fill_counted : (all w : List ℕ) (j : ℕ) → Filling j all w j [] → w ≡ whole (length all / 2 ∷ all)
+fill_counted all w j f =
+    let e : length all / 2 ≡ j = ap (λ (k : ℕ). k / 2) (fill-length j all w j f) ∙ mul-div_cancel_left j (omega arith) in
+    fill_all j all w j f ∙ ap (λ (k : ℕ). whole (k ∷ all)) (sym e)

@@ -1,6 +1,7 @@
 -- Index blocks: the whole block of a slice list, and what is read from a block's words and written to them.
 -- A block is read in its sector of the image, or by itself, as sector 0 of its own 256 words.
-use Rattle.std.specs.Prelude.{Bool, false, cond, List, [], ◌∷◌, ◌++◌, ℕ, zero, suc, ◌+◌, ◌-◌, ◌*◌, ◌/◌, ◌%◌, ◌≤◌, ◌<◌, min, eqb, ltb, length, set}
+use Rattle.std.specs.Prelude.{◌≡◌, Option, MatchOption, Bool, false, cond, List, [], ◌∷◌, ◌++◌, ℕ, zero, suc, ◌+◌, ◌-◌, ◌*◌, ◌/◌, ◌%◌, ◌≤◌, ◌<◌, min, eqb, ltb, length, set}
+use Rattle.types.specs.declared.Sector.{Sector}
 use Rattle.disc.specs.Numbers.{slice_start}
 use Rattle.disc.specs.Words.{word}
 use Rattle.disc.specs.Stretches.{index_words}
@@ -61,6 +62,12 @@ joint_sector l q b = sector_from l q (pair_count l q) 0 b
 -- The slice with number j in file order, counted from 0: that of the joined sector s times j.
 abbrev pub slice_number : ℕ → ℕ → ℕ → List ℕ → ℕ → ℕ
 slice_number F s j l q = (joint_sector l q (s * j) - F) / s + 1
+
+-- The first sector and the length of the last pair, if there is one.
+abbrev pub LastPair : List ℕ → ℕ → Option (Sector × ℕ) → Type 0
+LastPair l q r =
+    MatchOption r (pair_count l q ≡ 0)
+    (λ p. (1 ≤ pair_count l q) × (p.0.0 ≡ pair_start l q (pair_count l q - 1)) × (p.1 ≡ pair_length l q (pair_count l q - 1)))
 
 -- Whether slice k starts where the last of n pairs ends.
 unfoldable pub joins_last : ℕ → ℕ → ℕ → List ℕ → ℕ → ℕ → Bool

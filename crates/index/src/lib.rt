@@ -2,11 +2,11 @@
 
 #![tactic(auto)]
 
-ghost use Rattle.std.specs.Prelude.{◌≡◌, ◌+◌, ◌-◌, ◌*◌, ◌≤◌, ◌<◌, min, length};
+ghost use Rattle.std.specs.Prelude.{◌≡◌, ◌+◌, ◌-◌, ◌*◌, ◌≤◌, ◌<◌, length};
 ghost use Rattle.disc.specs.Pairs.{pair_length, pair_start};
 ghost use Rattle.words.specs.Store.{store, zero_words};
 ghost use Rattle.index.specs.Block.{pair_count, block_at, sector_total, slice_total, last_slice, joint_sector};
-ghost use Rattle.index.specs.Block.{joins, stretches_with, with_pair, lengthened, appended, Appendable, cut_to};
+ghost use Rattle.index.specs.Block.{joins, stretches_with, with_pair, appended, Appendable, cut_to, LastPair};
 ghost use Rattle.index.specs.Along.{Along, Reaches};
 
 use types::{Block, Sector, Slice};
@@ -21,16 +21,14 @@ pub struct IndexBlock {
 pub fn empty_block() -> IndexBlock
     ensures { result.words ≡ zero_words 256 }
 {
-    let words = [0u16; 256];
-    IndexBlock { words: words }
+    IndexBlock { words: [0; 256] }
 }
 
 // The count of descriptions of the block in sector q, at most 127.
 pub fn pair_count(image: &[u16], q: Sector) -> u16
     ensures { result ≡ pair_count image.now q.0 }
 {
-    let n = words::word(image, q, 0);
-    if n < 127 { n } else { 127 }
+    words::word(image, q, 0).min(127)
 }
 
 // The length in sectors of pair j of the block in sector q.
@@ -49,6 +47,14 @@ pub fn pair_start(image: &[u16], q: Sector, j: usize) -> Sector
     Sector(words::word(image, q, 2 * j + 2))
 }
 
+// The first sector and the length of the last pair of the block in sector q, if it has a pair.
+fn last_pair(image: &[u16], q: Sector) -> Option<(Sector, u16)>
+    ensures { LastPair image.now q.0 result }
+{
+    let j = pair_count(image, q).checked_sub(1)? as usize;
+    Some((pair_start(image, q, j), pair_length(image, q, j)))
+}
+
 // Stores another pair j in the words of a block.
 fn set_pair(words: &mut [u16], j: usize, size: u16, start: Sector)
     requires { (j < 127) × (256 ≤ length words.old) }
@@ -63,20 +69,17 @@ pub fn read_block(image: &[u16], q: Sector) -> IndexBlock
     ensures { result.words ≡ block_at image.now q.0 }
 {
     let n = pair_count(image, q);
-    let none = empty_block();
-    let mut words = none.words;
-    words[0] = n;
-    let mut j: usize = 0;
-    while j < n as usize {
+    let mut block = empty_block();
+    block.words[0] = n;
+    for j in 0..n as usize {
         set_pair(
-            &mut words,
+            &mut block.words,
             j,
             pair_length(image, q, j),
             pair_start(image, q, j),
         );
-        j += 1;
     }
-    IndexBlock { words: words }
+    block
 }
 
 // The sectors of all stretches of the block in sector q.
@@ -84,11 +87,9 @@ pub fn sector_total_at(image: &[u16], q: Sector) -> u32
     ensures { result ≡ sector_total image.now q.0 }
 {
     let n = pair_count(image, q) as usize;
-    let mut total: u32 = 0;
-    let mut j = 0;
-    while j < n {
+    let mut total = 0;
+    for j in 0..n {
         total += pair_length(image, q, j) as u32;
-        j += 1;
     }
     total
 }
@@ -101,35 +102,30 @@ pub fn slice_total_at(image: &[u16], q: Sector, s: u16) -> u16
     (sector_total_at(image, q) / s as u32) as u16
 }
 
-// The last slice of the block in sector q, 0 if there is none.
+// The last slice of the block in sector q; 0 if there is none, which is its formula's value (`last_slice`), so that it is no `Option`.
 pub fn last_slice_at(image: &[u16], q: Sector, first: Sector, s: u16) -> Slice
     requires { 2 ≤ s }
     ensures { result.0 ≡ last_slice first.0 s image.now q.0 }
 {
-    let n = pair_count(image, q) as usize;
-    if n == 0 {
+    let Some((start, length)) = last_pair(image, q) else {
         return Slice(0);
-    }
-    let length = pair_length(image, q, n - 1);
-    let start = pair_start(image, q, n - 1);
+    };
     numbers::last_slice_of(first, s, start, length)
 }
 
-// The sector that comes `joined` sectors after the first of the joined stretches of the block in sector q, 0 past their end.
+// The sector that comes `joined` sectors after the first of the joined stretches of the block in sector q; 0 past their end, the
+// formula's value (`joint_sector`).
 pub fn sector_at(image: &[u16], q: Sector, joined: u32) -> Sector
     ensures { result.0 ≡ joint_sector image.now q.0 joined }
 {
     let n = pair_count(image, q) as usize;
     let mut rest = joined;
-    let mut j = 0;
-    while j < n {
+    for j in 0..n {
         let length = pair_length(image, q, j) as u32;
         if rest < length {
-            let start = pair_start(image, q, j);
-            return numbers::sector_after(start, rest as u16);
+            return numbers::sector_after(pair_start(image, q, j), rest as u16);
         }
         rest -= length;
-        j += 1;
     }
     Sector(0)
 }
@@ -150,24 +146,21 @@ pub fn sector_along(words: &[u16], pair: usize, before: u32, joined: u32) -> Rea
 {
     let n = pair_count(words, Sector(0)) as usize;
     let mut rest = joined - before;
-    let mut j = pair;
-    while j < n {
+    for j in pair..n {
         let length = pair_length(words, Sector(0), j) as u32;
         if rest < length {
             let start = pair_start(words, Sector(0), j);
-            let sector = numbers::sector_after(start, rest as u16);
             return Reached {
-                sector: sector,
+                sector: numbers::sector_after(start, rest as u16),
                 pair: j,
                 before: joined - rest,
             };
         }
         rest -= length;
-        j += 1;
     }
     Reached {
         sector: Sector(0),
-        pair: j,
+        pair: n,
         before: joined - rest,
     }
 }
@@ -184,12 +177,9 @@ fn joins_at(image: &[u16], q: Sector, first: Sector, s: u16, k: Slice) -> bool
     requires { 1 ≤ k.0 }
     ensures { result ≡ joins first.0 s k.0 image.now q.0 }
 {
-    let n = pair_count(image, q) as usize;
-    if n == 0 {
+    let Some((start, length)) = last_pair(image, q) else {
         return false;
-    }
-    let length = pair_length(image, q, n - 1);
-    let start = pair_start(image, q, n - 1);
+    };
     numbers::follows(first, s, start, length, k)
 }
 
@@ -200,46 +190,24 @@ pub fn stretches_with_at(image: &[u16], q: Sector, first: Sector, s: u16, k: Sli
 {
     let n = pair_count(image, q);
     if joins_at(image, q, first, s, k) {
-        return n;
+        n
+    } else {
+        n + 1
     }
-    n + 1
 }
 
-// Lengthens the last of the n pairs in the words of a block by s sectors.
-fn lengthen(words: &mut [u16], n: usize, s: u16)
-    requires { (1 ≤ n) × (n ≤ 127) × (256 ≤ length words.old) × (pair_length words.old 0 (n - 1) + s < 65536) }
-    ensures { words.new ≡ lengthened s words.old n }
-{
-    let size = pair_length(words, Sector(0), n - 1);
-    let start = pair_start(words, Sector(0), n - 1);
-    set_pair(words, n - 1, size + s, start);
-}
-
-// Puts slice k at the end, in the words of a block.
+// Puts slice k at the end, in the words of a block: it lengthens the last pair or makes one more.
 pub fn append_slice(words: &mut [u16], first: Sector, s: u16, k: Slice)
     requires { (256 ≤ length words.old) × Appendable first.0 s k.0 words.old }
     ensures { words.new ≡ appended first.0 s k.0 words.old }
 {
     let n = pair_count(words, Sector(0));
     if joins_at(words, Sector(0), first, s, k) {
-        lengthen(words, n as usize, s);
-        return;
+        words[2 * n as usize - 1] += s;
+    } else {
+        words[0] = n + 1;
+        set_pair(words, n as usize, s, numbers::slice_start(first, s, k));
     }
-    let start = numbers::slice_start(first, s, k);
-    words[0] = n + 1;
-    set_pair(words, n as usize, s, start);
-}
-
-// The sectors of pair j that are among the next `rest`.
-fn kept_sectors(block: IndexBlock, j: usize, rest: u32) -> u16
-    requires { j < 127 }
-    ensures { result ≡ min (pair_length block.words 0 j) rest }
-{
-    let length = pair_length(&block.words, Sector(0), j);
-    if rest < length as u32 {
-        return rest as u16;
-    }
-    length
 }
 
 // The block of the first n slices.
@@ -247,22 +215,19 @@ pub fn cut_block(block: IndexBlock, s: u16, n: u16) -> IndexBlock
     ensures { result.words ≡ cut_to s n block.words }
 {
     let count = pair_count(&block.words, Sector(0));
-    let none = empty_block();
-    let mut words = none.words;
+    let mut cut = empty_block();
     let mut rest = s as u32 * n as u32;
-    let mut j: u16 = 0;
-    while j < count {
+    for j in 0..count {
         if rest == 0 {
             break;
         }
-        let kept = kept_sectors(block, j as usize, rest);
+        let kept = rest.min(pair_length(&block.words, Sector(0), j as usize) as u32);
         let start = pair_start(&block.words, Sector(0), j as usize);
-        set_pair(&mut words, j as usize, kept, start);
-        rest -= kept as u32;
-        j += 1;
+        set_pair(&mut cut.words, j as usize, kept as u16, start);
+        cut.words[0] = j + 1;
+        rest -= kept;
     }
-    words[0] = j;
-    IndexBlock { words: words }
+    cut
 }
 
 // Stores the whole block in sector q.
@@ -273,7 +238,7 @@ pub fn store_block(image: &mut [u16], q: Sector, block: IndexBlock)
     words::store_sector(image, q, &block.words);
 }
 
-// The same questions of a block that is held as a value: its number of slices.
+// The same questions of a block that is held as a value, each in a line: its number of slices.
 pub fn slice_total(block: IndexBlock, s: u16) -> u16
     requires { (1 ≤ s) × (slice_total s block.words 0 < 65536) }
     ensures { result ≡ slice_total s block.words 0 }

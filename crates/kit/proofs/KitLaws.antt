@@ -1,16 +1,23 @@
--- Laws of the kit: whole slices by multiplying back, MAP's index by its words, and the numbers
--- of a sound kit.
+-- Laws of the kit: whole slices by multiplying back, words compared as a part of the image, and the numbers of a sound kit.
 use mathlib.Core.Path.{◌≡◌, refl, sym, ap, ap₂, ◌∙◌}
 use mathlib.Core.List.{List, [], ◌∷◌}
-use Prim.Native.Nat.{ℕ, zero, suc, ◌*◌, ◌/◌, ◌%◌, ◌≤◌, ◌<◌}
+use mathlib.Core.Bool.{Bool, true}
+use Prim.Native.Nat.{ℕ, ◌+◌, ◌*◌, ◌/◌, ◌%◌, ◌≤◌, ◌<◌}
 use native.Mathlib.Nat.{div-add-mod'}
 use native.Mathlib.Omega.{arith}
-use lib.ListN.{length, get_or}
-use Rattle.disc.specs.Numbers.{ceil_div}
+use lib.Dec.{eqb}
+use lib.ListN.{length, take, drop, get_or}
+use lib.Pointwise.{pointwise}
+use Rattle.std.proofs.lemmas.Bool.Decides.{Decides-eqb}
+use Rattle.std.proofs.lemmas.Grind.{same_number_lists}
+use Rattle.std.proofs.lemmas.List.{get_or-take, get_or-drop}
+use Rattle.std.proofs.lemmas.Slice.Eq.{slice_eq-Decides}
+use Rattle.std.proofs.Common.{length-take, length-drop}
+use Rattle.disc.specs.Decide.{Decides}
+use Rattle.disc.proofs.DecideLaws.{true≢false}
 use Rattle.disc.specs.Words.{word, Holds}
 use Rattle.disc.specs.Kit.{kit_sector, map_index_sector}
 use Rattle.disc.specs.Map.{ones_in_map}
-use Rattle.disc.proofs.NumberLaws.{ceil_div_le}
 use Rattle.sound.specs.Parts.{SoundKit}
 use Rattle.kit.specs.declared.Geometry.{Geometry}
 use Rattle.kit.specs.Geometry.{GeometryOf, UnitOf, SoundByKit}
@@ -23,24 +30,31 @@ product_whole d s e = omega (arith, div-add-mod' d s)
 pub whole_product : (d s : ℕ) → d % s ≡ 0 → d / s * s ≡ d
 whole_product d s e = omega (arith, div-add-mod' d s)
 
--- H / s rounded up is at most the number of slices exactly if H is at most the sectors in them
-pub enough : (H s d : ℕ) → 1 ≤ s → d / s * s ≡ d → H ≤ d → ceil_div H s ≤ d / s
-enough H s d pos e h = (ceil_div_le H s (d / s) pos).1 (omega arith)
+-- ---- words compared as a part of the image
 
-pub enough_only : (H s d : ℕ) → 1 ≤ s → ceil_div H s ≤ d / s → H ≤ d
-enough_only H s d pos h = let m = (ceil_div_le H s (d / s) pos).0 h in omega (arith, div-add-mod' d s)
-
--- ---- three words
-
-pub holds_three : (image : List ℕ) (q x y z : ℕ) → word image q 0 ≡ x → word image q 1 ≡ y → word image q 2 ≡ z
-    → Holds image q (x ∷ y ∷ z ∷ [])
-holds_three image q x y z a b c = record { at = at }
+-- `==` of a part of the image and the words v asks whether each word of the part is that of v
+pub part_is : (image v : List ℕ) (at : ℕ) (r : Bool) → at + length v ≤ length image → r ≡ pointwise eqb (take (length v) (drop at image)) v
+    → Decides r ((b : ℕ) → b < length v → get_or image (at + b) 0 ≡ get_or v b 0)
+part_is image v at r room e = record { yes = yes; not = λ f same. true≢false (sym ((slice_eq-Decides Decides-eqb _ _ r e).1 (all same)) ∙ f) }
   where
-    at : (i : ℕ) → i < length (x ∷ y ∷ z ∷ []) → i < 256 → word image q i ≡ get_or (x ∷ y ∷ z ∷ []) i 0
-    at zero h k = a
-    at (suc zero) h k = b
-    at (suc (suc zero)) h k = c
-    at (suc (suc (suc i))) h k = absurd (omega arith)
+    yes : r ≡ true → (b : ℕ) → b < length v → get_or image (at + b) 0 ≡ get_or v b 0
+    yes t b h =
+        let same : take (length v) (drop at image) ≡ v = (slice_eq-Decides Decides-eqb _ _ r e).0 t in
+        sym (get_or-drop at image b 0) ∙ sym (get_or-take (length v) (drop at image) b 0 h) ∙ ap (λ (l : List ℕ). get_or l b 0) same
+
+    long : length (take (length v) (drop at image)) ≡ length v
+    long = simp (length-take, length-drop) (omega arith)
+
+    all : ((b : ℕ) → b < length v → get_or image (at + b) 0 ≡ get_or v b 0) → take (length v) (drop at image) ≡ v
+    all same = same_number_lists _ _ long (λ k h. let l : k < length v = omega (arith, long) in get_or-take (length v) (drop at image) k 0 l ∙ get_or-drop at image k 0 ∙ same k l)
+
+-- the same of a sector that begins with the words v
+pub part_holds : (image v : List ℕ) (q : ℕ) (r : Bool) → q * 256 + length v ≤ length image → length v ≤ 256
+    → r ≡ pointwise eqb (take (length v) (drop (q * 256) image)) v → Decides r (Holds image q v)
+part_holds image v q r room few e = let d = part_is image v (q * 256) r room e in record {
+  yes = λ t. record { at = λ b h k. d.yes t b h };
+  not = λ f p. d.not f (λ b h. p.at b h (omega arith));
+}
 
 -- ---- a sound kit
 
@@ -53,31 +67,3 @@ sound_unit is kit =
       limits = rw (is.keys ∙ k.keys, is.slice ∙ k.slice, is.first ∙ k.first, is.sectors ∙ k.sectors) kit.limits;
       slices = is.slices;
     }
-
--- the rules, said of the geometry that was read
-module _ {image : List ℕ} {g : Geometry} (is : GeometryOf image g) where
-  pub sound_kit : (free : ℕ) → free ≡ ones_in_map image → UnitOf image g → word image kit_sector 5 ≡ g.sectors
-      → Holds image map_index_sector (1 ∷ 1 ∷ 9 ∷ []) → word image kit_sector 3 ≡ g.slice * free → SoundByKit image
-  sound_kit free ones unit top index words = record {
-    size = unit.size ∙ ap (λ (n : ℕ). 256 * n) is.sectors;
-    kit = record {
-      keys = refl;
-      slice = refl;
-      sectors = refl;
-      unused = words ∙ ap₂ (λ (a b : ℕ). a * b) is.slice ones;
-      first = refl;
-      top = top ∙ is.sectors;
-    };
-    limits = rw (← is.keys, ← is.slice, ← is.first, ← is.sectors) unit.limits;
-    map_index = index;
-  }
-
-  pub kit_top : SoundByKit image → word image kit_sector 5 ≡ g.sectors
-  kit_top kit = kit.kit.top ∙ sym is.sectors
-
-  pub kit_free : (free : ℕ) → free ≡ ones_in_map image → SoundByKit image → word image kit_sector 3 ≡ g.slice * free
-  kit_free free ones kit = kit.kit.unused ∙ ap₂ (λ (a b : ℕ). a * b) (sym is.slice) (sym ones)
-
--- the image has sectors 0 to 9
-pub unit_long : {image : List ℕ} {g : Geometry} → UnitOf image g → 2560 ≤ length image
-unit_long unit = omega (arith, unit.size, unit.limits.first, unit.limits.some_data)

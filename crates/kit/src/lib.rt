@@ -26,17 +26,15 @@ const MAP_INDEX: usize = 7 * 256;
 
 const KIT: usize = 8 * 256;
 
-// The number of slices, (N - F) / s; 0 where no slice has a sector or no sector is left.
+// The number of slices, (N - F) / s; 0 where no slice has a sector or no sector is left, which is the formula's
+// value (`slice_count`).
 fn slice_count(slice: u16, first: Sector, sectors: u16) -> u16
     ensures { result ≡ slice_count slice first.0 sectors }
 {
-    if slice == 0 {
-        return 0;
-    }
-    if sectors < first.0 {
-        return 0;
-    }
-    (sectors - first.0) / slice
+    sectors
+        .saturating_sub(first.0)
+        .checked_div(slice)
+        .unwrap_or(0)
 }
 
 // The numbers in the kit of any image; words past the image's end are 0.
@@ -48,9 +46,9 @@ pub fn geometry_of(image: &[u16]) -> Geometry
     let sectors = words::word(image, Sector(8), 2);
     Geometry {
         keys: words::word(image, Sector(8), 0),
-        slice: slice,
-        first: first,
-        sectors: sectors,
+        slice,
+        first,
+        sectors,
         slices: slice_count(slice, first, sectors),
     }
 }
@@ -59,36 +57,14 @@ pub fn geometry_of(image: &[u16]) -> Geometry
 pub fn within_limits(keys: u16, slice: u16, first: Sector, sectors: u16) -> bool
     ensures { Decides result (Limits keys slice first.0 sectors) }
 {
-    if keys == 0 {
-        return false;
-    }
-    if 64 < keys {
-        return false;
-    }
-    if slice < 2 {
-        return false;
-    }
-    if 64 < slice {
-        return false;
-    }
-    if first.0 < 10 {
-        return false;
-    }
-    if sectors <= first.0 {
-        return false;
-    }
-    if 32767 < sectors {
-        return false;
-    }
-    let data = sectors - first.0;
-    let slices = data / slice;
-    if slices * slice != data {
-        return false;
-    }
-    if 4096 < slices {
-        return false;
-    }
-    keys <= data
+    let data = sectors.saturating_sub(first.0);
+    (1..=64).contains(&keys)
+        && (2..=64).contains(&slice)
+        && (10..sectors).contains(&first.0)
+        && sectors <= 32767
+        && data % slice == 0
+        && data / slice <= 4096
+        && keys <= data
 }
 
 // Whether MAP's index block says 1, 1, 9.
@@ -96,13 +72,7 @@ fn map_index(image: &[u16]) -> bool
     requires { 2048 ≤ length image.now }
     ensures { Decides result (Holds image.now 7 (1 ∷ 1 ∷ 9 ∷ [])) }
 {
-    if image[MAP_INDEX] != 1 {
-        return false;
-    }
-    if image[MAP_INDEX + 1] != 1 {
-        return false;
-    }
-    image[MAP_INDEX + 2] == 9
+    image[MAP_INDEX..MAP_INDEX + 3] == [1, 1, 9]
 }
 
 // Whether image length, kit, limits, free sectors and MAP's index are those of a sound unit.
@@ -110,17 +80,9 @@ pub fn kit_sound(image: &[u16]) -> bool
     ensures { Decides result (SoundByKit image.now) }
 {
     let g = geometry_of(image);
-    if !within_limits(g.keys, g.slice, g.first, g.sectors) {
-        return false;
-    }
-    if image.len() != g.sectors as usize * 256 {
-        return false;
-    }
-    if image[KIT + 5] != g.sectors {
-        return false;
-    }
-    if !map_index(image) {
-        return false;
-    }
-    image[KIT + 3] as u32 == g.slice as u32 * map::count_free(image) as u32
+    within_limits(g.keys, g.slice, g.first, g.sectors)
+        && image.len() == g.sectors as usize * 256
+        && image[KIT + 5] == g.sectors
+        && map_index(image)
+        && image[KIT + 3] as u32 == g.slice as u32 * map::count_free(image) as u32
 }

@@ -1,4 +1,5 @@
 -- A file's index block by its index sector, a file by the place of its name, and whether a name is open in the state and in the unit.
+use Rattle.std.specs.Prelude.{Option, Some, None}
 use mathlib.Core.Path.{◌≡◌, refl, sym, ap, ap₂, ◌∙◌}
 use mathlib.Core.List.{List, []}
 use mathlib.Core.Logic.{◌≢◌}
@@ -21,8 +22,6 @@ use Rattle.index.proofs.ReadLaws.{read_block, read_total}
 use Rattle.catalog.specs.declared.Place.{Place}
 use Rattle.catalog.specs.declared.Unit.{Unit}
 use Rattle.catalog.specs.Catalog.{entry_word}
-use Rattle.state.specs.declared.Found.{Found}
-use Rattle.state.specs.declared.Found.TheVariants.{At, Absent}
 use Rattle.state.specs.Areas.{area_named}
 use Rattle.plain.specs.Table.{table_find, is_some}
 use Rattle.plain.specs.Unit.{Plain, File, file_entry}
@@ -143,16 +142,16 @@ module _ {image : List ℕ} {o : Unit} {place : Place} {p : Plain} {n : ℕ} {f 
 pub name_open_lem : {state : State} {p : Plain} → SameAreas state p → (n : ℕ) → name_open n state ≡ is_some (table_find n p.areas)
 name_open_lem {state} {p} r n = go (area_named n state) refl
   where
-    go : (found : Found) → area_named n state ≡ found → is_found found ≡ is_some (table_find n p.areas)
-    go (At j) e = sym (ap is_some (same_found state p r n j e))
-    go Absent e = sym (ap is_some (same_absent state p r n e))
+    go : (found : Option ℕ) → area_named n state ≡ found → is_found found ≡ is_some (table_find n p.areas)
+    go (Some j) e = sym (ap is_some (same_found state p r n j e))
+    go None e = sym (ap is_some (same_absent state p r n e))
 
 pub name_closed : {state : State} {p : Plain} → SameAreas state p → (n : ℕ) → name_open n state ≡ false → table_find n p.areas ≡ none
 name_closed {p = p} r n e = not_some (table_find n p.areas) (false_no (sym (name_open_lem r n) ∙ e))
 
-pub name_absent : (n : ℕ) (state : State) → name_open n state ≡ false → area_named n state ≡ Absent
+pub name_absent : (n : ℕ) (state : State) → name_open n state ≡ false → area_named n state ≡ None
 name_absent n state e = go (area_named n state) refl
   where
-    go : (found : Found) → area_named n state ≡ found → found ≡ Absent
-    go (At j) q = absurd (true≢false (sym (ap is_found q) ∙ e))
-    go Absent q = refl
+    go : (found : Option ℕ) → area_named n state ≡ found → found ≡ None
+    go (Some j) q = absurd (true≢false (sym (ap is_found q) ∙ e))
+    go None q = refl

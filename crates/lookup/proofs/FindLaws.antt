@@ -1,4 +1,5 @@
 -- What a search through the blocks of SYS finds, said of the plain unit: a name's place and entry, or none.
+use Rattle.std.specs.Prelude.{Option, Some, None}
 use mathlib.Core.Path.{◌≡◌, refl, sym, ap, ◌∙◌}
 use mathlib.Core.List.{List}
 use mathlib.Core.Logic.{◌≢◌, ⊎_elim}
@@ -10,12 +11,9 @@ use lib.ListN.{length, get_or}
 use Rattle.disc.specs.Names.{key_of}
 use Rattle.disc.specs.Stretches.{block_sector, sys_from}
 use Rattle.disc.specs.Entries.{place_count, name_at}
-use Rattle.disc.specs.Catalog.{Catalog}
 use Rattle.disc.proofs.Geometry.{quot}
 use Rattle.catalog.specs.declared.Catalog as catalog
 use Rattle.catalog.specs.declared.Place.{Place}
-use Rattle.catalog.specs.declared.Found.{Found}
-use Rattle.catalog.specs.declared.Found.TheVariants.{At, Nothing}
 use Rattle.catalog.specs.Catalog.{place_start, place_named, name_word, area_name_word}
 use Rattle.catalog.specs.Value.{value_of}
 use Rattle.catalog.proofs.PlaceLaws.{LiesIn, FirstWith, found_word, named_at, named_nothing}
@@ -93,14 +91,14 @@ module _ {image : List ℕ} {p : Plain} (on : CatalogOn image p) where
   no_entry n h = never_some (entry p n) (λ x e. let a = at on.sys.places (unit_named on) n x e in h a.place a.inside a.key a.name)
 
   -- the words of the question, by what was found
-  entered_word_lem : {n : ℕ} (word : Found → ℕ) (refusal : ℕ) → ((place : Place) → word (At place) ≡ 0) → word Nothing ≡ refusal → (r : Found)
-      → ((place : Place) → r ≡ At place → NameAt image p n place) → (r ≡ Nothing → entry p n ≡ none) → (lent : List ℕ) → word r ≡ entered_word p n refusal lent
-  entered_word_lem word refusal zero_word none-word (At place) at_place none_there lent =
+  entered_word_lem : {n : ℕ} (word : Option Place → ℕ) (refusal : ℕ) → ((place : Place) → word (Some place) ≡ 0) → word None ≡ refusal → (r : Option Place)
+      → ((place : Place) → r ≡ Some place → NameAt image p n place) → (r ≡ None → entry p n ≡ none) → (lent : List ℕ) → word r ≡ entered_word p n refusal lent
+  entered_word_lem word refusal zero_word none-word (Some place) at_place none_there lent =
       zero_word place ∙ sym (ap (λ (o : Outcome). o.answer.result) (asks_yes _ _ _ (rw (at_place place refl).entered tt)))
-  entered_word_lem word refusal zero_word none-word Nothing at_place none_there lent =
+  entered_word_lem word refusal zero_word none-word None at_place none_there lent =
       none-word ∙ sym (ap (λ (o : Outcome). o.answer.result) (asks_no _ _ _ (rw (none_there refl) tt)))
 
-  finds : {n : ℕ} {r : Found} → ((place : Place) → r ≡ At place → NameAt image p n place) → (r ≡ Nothing → entry p n ≡ none) → NameFound image p n r
+  finds : {n : ℕ} {r : Option Place} → ((place : Place) → r ≡ Some place → NameAt image p n place) → (r ≡ None → entry p n ≡ none) → NameFound image p n r
   finds {n} {r} at_place none_there = record {
     at = at_place;
     nothing = none_there;
@@ -108,10 +106,10 @@ module _ {image : List ℕ} {p : Plain} (on : CatalogOn image p) where
     area_word = entered_word_lem area_name_word 0x4800 (λ place. refl) refl r at_place none_there;
   }
 
-  pub name_found : (n : ℕ) {r : Found} → n ≢ 0 → r ≡ place_named image (unit_sys p) n → NameFound image p n r
+  pub name_found : (n : ℕ) {r : Option Place} → n ≢ 0 → r ≡ place_named image (unit_sys p) n → NameFound image p n r
   name_found n {r} nz e = finds at_place none_there
     where
-      at_place : (place : Place) → r ≡ At place → NameAt image p n place
+      at_place : (place : Place) → r ≡ Some place → NameAt image p n place
       at_place place q =
           let f = named_at image (unit_sys p) p.F p.s p.sys sys_lies n on.good.limits.keys_low place (sym e ∙ q) in
           let is = found_is f in
@@ -125,16 +123,16 @@ module _ {image : List ℕ} {p : Plain} (on : CatalogOn image p) where
             holds = λ w x. found_word image p.F p.s p.sys sys_from f w ∙ s.2 w x;
           }
 
-      none_there : r ≡ Nothing → entry p n ≡ none
+      none_there : r ≡ None → entry p n ≡ none
       none_there q = no_entry n (named_nothing image (unit_sys p) p.F p.s p.sys sys_lies n on.good.limits.keys_low (sym e ∙ q)).lacks
 
   -- unused places have the name 0, which no entry has
-  pub zero_found : (n : ℕ) {r : Found} → n ≡ 0 → r ≡ Nothing → NameFound image p n r
+  pub zero_found : (n : ℕ) {r : Option Place} → n ≡ 0 → r ≡ None → NameFound image p n r
   zero_found n z e = finds (λ place q. absurd (nothing≢at (sym e ∙ q))) (λ q. ap (entry p) z ∙ (unit_named on).zero)
     where
-      nothing≢at : {place : Place} → Nothing ≡ At place → ⊥
+      nothing≢at : {place : Place} → None ≡ Some place → ⊥
       nothing≢at q = let z : ◌≡◌ {A = ℕ} 0 1 = cc in omega arith
 
 -- the words of a name's place are in the image
-pub name_room : {image : List ℕ} {o : Unit} {n : ℕ} {r : Found} {place : Place} → Searchable image o → FindsName image o n r → r ≡ At place → place_start place + 16 ≤ length image
+pub name_room : {image : List ℕ} {o : Unit} {n : ℕ} {r : Option Place} {place : Place} → Searchable image o → FindsName image o n r → r ≡ Some place → place_start place + 16 ≤ length image
 name_room {place = place} h finds e = place_room h.on ((finds.all h.unit h.on h.numbers).at place e).is

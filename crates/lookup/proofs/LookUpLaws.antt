@@ -1,4 +1,5 @@
 -- The answers of Look-up on the plain unit, by what the search of SYS found.
+use Rattle.std.specs.Prelude.{Option, Some, None}
 use mathlib.Core.Path.{◌≡◌, sym, ap, ap₂, ◌∙◌, subst}
 use mathlib.Core.List.{List, ◌++◌}
 use mathlib.Core.Option.{none, some}
@@ -11,8 +12,6 @@ use borrow.Author.Tests.{le-leb, lt-leb}
 use Rattle.types.specs.declared.Name.{Name}
 use Rattle.disc.specs.Names.{named, unit_in}
 use Rattle.catalog.specs.declared.Place.{Place}
-use Rattle.catalog.specs.declared.Found.{Found}
-use Rattle.catalog.specs.declared.Found.TheVariants.{At, Nothing}
 use Rattle.catalog.specs.declared.Unit.{Unit}
 use Rattle.catalog.specs.Catalog.{entry_at}
 use Rattle.catalog.proofs.WalkLaws.{length-entry_at, get_d_entry_at}
@@ -52,15 +51,15 @@ module _ (p : Plain) (name : Name) (lent : List ℕ) (mine : T (known p (unit_in
 
 -- ---- Look-up, by what was found
 
-module _ {image : List ℕ} {o : Unit} {n : ℕ} {r : Found} (name : Name) (lent : List ℕ) (meant : MeantOn image o (unit_in name)) (is : n ≡ named name)
+module _ {image : List ℕ} {o : Unit} {n : ℕ} {r : Option Place} (name : Name) (lent : List ℕ) (meant : MeantOn image o (unit_in name)) (is : n ≡ named name)
     (finds : FindsName image o n r) where
   found : (p : Plain) → OnDisc image p → NumbersOf o p → NameFound image p (named name) r
   found p on num = subst (λ (m : ℕ). NameFound image p m r) is (finds.all p (on_catalog on) num)
 
-  pub looks_none : r ≡ Nothing → LooksUp image o name lent 0x5000 lent
+  pub looks_none : r ≡ None → LooksUp image o name lent 0x5000 lent
   looks_none e = record { all = λ p on num own. look_none p name lent (meant_on_known p meant own) ((found p on num).nothing e) }
 
-  module _ {place : Place} (e : r ≡ At place) where
+  module _ {place : Place} (e : r ≡ Some place) where
     pub looks_short : length lent < 16 → LooksUp image o name lent 0x1200 lent
     looks_short short = record { all = λ p on num own. look_short p name lent (meant_on_known p meant own) ((found p on num).at place e).entered short }
 

@@ -1,4 +1,5 @@
 -- A message by name: what the search of SYS found, said of every unit that image and state represent.
+use Rattle.std.specs.Prelude.{Option, Some}
 use mathlib.Core.Path.{◌≡◌, sym, ap, ◌∙◌, subst}
 use mathlib.Core.Bool.{Bool, true, false}
 use mathlib.Core.List.{List}
@@ -8,8 +9,6 @@ use Rattle.types.specs.declared.Name.{Name}
 use Rattle.types.specs.declared.State.{State}
 use Rattle.disc.specs.Names.{named, unit_in, is_system}
 use Rattle.catalog.specs.declared.Place.{Place}
-use Rattle.catalog.specs.declared.Found.{Found}
-use Rattle.catalog.specs.declared.Found.TheVariants.{At}
 use Rattle.catalog.specs.declared.Unit.{Unit}
 use Rattle.plain.specs.Table.{table_find, is_some}
 use Rattle.plain.specs.Unit.{Plain, File}
@@ -22,12 +21,12 @@ use Rattle.lookup.specs.Files.{ClosedFile, SomeClosedFile, name_open}
 use Rattle.lookup.proofs.FileLaws.{found_file, name_open_lem, name_closed}
 
 -- Question 1 is answered yes, and the search for the name ended with r.
-pub record Sought (image : List ℕ) (state : State) (o : Unit) (name : Name) (n : ℕ) (r : Found) : Type 0 where
+pub record Sought (image : List ℕ) (state : State) (o : Unit) (name : Name) (n : ℕ) (r : Option Place) : Type 0 where
   pub meant : Meant image state o (unit_in name)
   pub is : n ≡ named name
   pub finds : FindsName image o n r
 
-module _ {image : List ℕ} {state : State} {o : Unit} {name : Name} {n : ℕ} {r : Found} (s : Sought image state o name n r) where
+module _ {image : List ℕ} {state : State} {o : Unit} {name : Name} {n : ℕ} {r : Option Place} (s : Sought image state o name n r) where
   pub system_is : {b : Bool} → is_system n ≡ b → is_system (named name) ≡ b
   system_is e = ap is_system (sym s.is) ∙ e
 
@@ -41,7 +40,7 @@ module _ {image : List ℕ} {state : State} {o : Unit} {name : Name} {n : ℕ} {
     pub found : NameFound image p (named name) r
     found = subst (λ (m : ℕ). NameFound image p m r) s.is (s.finds.all p (record { good = g; size = rep.layout.size; sys = rep.layout.sys }) num)
 
-    module _ {place : Place} (e : r ≡ At place) where
+    module _ {place : Place} (e : r ≡ Some place) where
       pub name_at_lem : NameAt image p (named name) place
       name_at_lem = found.at place e
 
@@ -51,9 +50,9 @@ module _ {image : List ℕ} {state : State} {o : Unit} {name : Name} {n : ℕ} {
 -- The name is that of a file, which has no area process; its entry stands in the place.
 pub record SoughtFile (image : List ℕ) (state : State) (o : Unit) (name : Name) (place : Place) : Type 0 where
   pub n : ℕ
-  pub r : Found
+  pub r : Option Place
   pub sought : Sought image state o name n r
-  pub at : r ≡ At place
+  pub at : r ≡ Some place
   pub ordinary : is_system n ≡ false
   pub shut : name_open n state ≡ false
 

@@ -1,5 +1,5 @@
 -- A file with no area process and its place, a file's index block, and whether a name has an area process.
-use Rattle.std.specs.Prelude.{◌≡◌, Bool, true, false, List, ℕ, zero, suc, length}
+use Rattle.std.specs.Prelude.{◌≡◌, Bool, true, false, List, ℕ, zero, suc, length, Option, Some, None}
 use Rattle.std.proofs.Math.Option.{none, some}
 use Rattle.types.specs.declared.State.{State}
 use Rattle.disc.specs.Entries.{index_sector}
@@ -7,8 +7,6 @@ use Rattle.words.specs.Store.{zero_words}
 use Rattle.index.specs.Block.{whole_index, block_at}
 use Rattle.catalog.specs.declared.Place.{Place}
 use Rattle.catalog.specs.declared.Unit.{Unit}
-use Rattle.state.specs.declared.Found.{Found}
-use Rattle.state.specs.declared.Found.TheVariants.{At, Absent}
 use Rattle.state.specs.Areas.{area_named}
 use Rattle.plain.specs.Table.{table_find}
 use Rattle.plain.specs.Unit.{Plain, File}
@@ -42,9 +40,9 @@ pub record BlockOf (image : List ℕ) (index : ℕ) (words : List ℕ) : Type 0 
       → index ≡ index_sector p.F p.s (length f.slices) f.slices → words ≡ whole_index p.F p.s f.slices
 
 -- "No area process": whether a search of the state found one, and whether name n has one.
-abbrev pub is_found : Found → Bool
-is_found (At j) = true
-is_found Absent = false
+abbrev pub is_found : Option ℕ → Bool
+is_found (Some j) = true
+is_found None = false
 
 abbrev pub name_open : ℕ → State → Bool
 name_open n state = is_found (area_named n state)

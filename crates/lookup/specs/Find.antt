@@ -1,11 +1,9 @@
 -- What a search of a catalog finds, said of the plain unit.
-use Rattle.std.specs.Prelude.{◌≡◌, List, ℕ, ◌*◌, ◌/◌, ◌%◌, ◌≤◌, ◌<◌, get_or}
+use Rattle.std.specs.Prelude.{◌≡◌, List, ℕ, ◌*◌, ◌/◌, ◌%◌, ◌≤◌, ◌<◌, get_or, Option, Some, None}
 use Rattle.std.proofs.Math.Option.{none, some}
 use Rattle.disc.specs.Entries.{name_at}
 use Rattle.disc.specs.Catalog.{Catalog, places_of, places_in, place_sector}
 use Rattle.catalog.specs.declared.Place.{Place}
-use Rattle.catalog.specs.declared.Found.{Found}
-use Rattle.catalog.specs.declared.Found.TheVariants.{At, Nothing}
 use Rattle.catalog.specs.Catalog.{entry_word, name_word, area_name_word}
 use Rattle.plain.specs.Table.{Table, is_some}
 use Rattle.plain.specs.Unit.{Plain, File, sys_of, entry}
@@ -36,14 +34,14 @@ entered_word p n refusal lent = (asks (is_some (entry p n)) (replies p refusal l
 
 -- The place of the name's entry, or that there is none; and the words of question 3, and of area create's question, for each of the
 -- answer's cases are the plain unit's.
-pub record NameFound (image : List ℕ) (p : Plain) (n : ℕ) (r : Found) : Type 0 where
-  pub at : (place : Place) → r ≡ At place → NameAt image p n place
-  pub nothing : r ≡ Nothing → entry p n ≡ none
+pub record NameFound (image : List ℕ) (p : Plain) (n : ℕ) (r : Option Place) : Type 0 where
+  pub at : (place : Place) → r ≡ Some place → NameAt image p n place
+  pub nothing : r ≡ None → entry p n ≡ none
   pub word : (lent : List ℕ) → name_word r ≡ entered_word p n 0x5000 lent
   pub area_word : (lent : List ℕ) → area_name_word r ≡ entered_word p n 0x4800 lent
 
 -- The same of every unit whose catalog is on the image.
-pub record FindsName (image : List ℕ) (o : Unit) (n : ℕ) (r : Found) : Type 0 where
+pub record FindsName (image : List ℕ) (o : Unit) (n : ℕ) (r : Option Place) : Type 0 where
   pub all : (p : Plain) → CatalogOn image p → NumbersOf o p → NameFound image p n r
 
 -- "An entry takes the first unused place": place u of the catalog, of those of key k.
@@ -62,9 +60,9 @@ pub record UnusedAt (image : List ℕ) (p : Plain) (c : Catalog) (files : Table 
   pub room : places_taken p.H k c files < 16 * c.layers
 
 -- "An entry takes the first unused place"; "with all 16 times L places taken by other names, SYS first grows".
-pub record UnusedFound (image : List ℕ) (p : Plain) (c : Catalog) (files : Table File) (k : ℕ) (r : Found) : Type 0 where
-  pub at : (place : Place) → r ≡ At place → UnusedAt image p c files k place
-  pub nothing : r ≡ Nothing → 16 * c.layers ≤ places_taken p.H k c files
+pub record UnusedFound (image : List ℕ) (p : Plain) (c : Catalog) (files : Table File) (k : ℕ) (r : Option Place) : Type 0 where
+  pub at : (place : Place) → r ≡ Some place → UnusedAt image p c files k place
+  pub nothing : r ≡ None → 16 * c.layers ≤ places_taken p.H k c files
 
-pub record FindsUnused (image : List ℕ) (o : Unit) (k : ℕ) (r : Found) : Type 0 where
+pub record FindsUnused (image : List ℕ) (o : Unit) (k : ℕ) (r : Option Place) : Type 0 where
   pub all : (p : Plain) → CatalogOn image p → NumbersOf o p → UnusedFound image p (sys_of p) p.files k r

@@ -1,4 +1,5 @@
 -- The words that a search of the map answers: 0 exactly if a slice is free; in a sound map, exactly if some slice is not held.
+use Rattle.std.specs.Prelude.{Option}
 use mathlib.Core.Path.{◌≡◌, refl, ap, ◌∙◌}
 use mathlib.Core.Bool.{cond}
 use mathlib.Core.List.{List}
@@ -7,13 +8,13 @@ use Prim.Native.Nat.{ℕ, zero, suc, ◌+◌, ◌*◌, ◌≤◌, ◌<◌}
 use native.Mathlib.Omega.{arith}
 use lib.Dec.{eqb, leb}
 use borrow.Author.Tests.{ne_eqb, le-leb}
+use Rattle.types.specs.declared.Slice.{Slice}
 use Rattle.disc.specs.Decide.{Decides}
 use Rattle.disc.specs.Slices.{in_unit, free_count, first_if, lowest_one}
 use Rattle.disc.specs.Map.{map_bit, MapOf}
 use Rattle.disc.proofs.Compare.{same_or}
 use Rattle.disc.proofs.LowestLaws.{lowest_found}
 use Rattle.disc.proofs.DecideLaws.{holds, fails}
-use Rattle.map.specs.declared.Choice.{Choice}
 use Rattle.map.specs.Choice.{lowest_free, chosen, choice_of, word_of, SomeFree, Answers}
 use Rattle.map.proofs.MarkLaws.{map_bit_le}
 use Rattle.map.proofs.ChoiceLaws.{chosen_one, choice_some, choice_full}
@@ -49,18 +50,18 @@ module _ (image : List ℕ) (k : ℕ) (one : 1 ≤ k → (k ≤ 4096) × (map_bi
           let o = one (omega arith) in
           holds (record { slice = k; low = omega arith; high = o.0; free = omega (arith, map_bit_le image k, o.1) })
 
-  pub answers : {r : Choice} → r ≡ choice_of k → Answers image k r
+  pub answers : {r : Option Slice} → r ≡ choice_of k → Answers image k r
   answers e = rw e (record { slice = refl; appends = word_decides 0x0900 (omega arith); takes = word_decides 0x1100 (omega arith) })
 
 -- the two searches
-pub lowest_answers : (image : List ℕ) {r : Choice} → r ≡ choice_of (lowest_free (map_bit image)) → Answers image (lowest_free (map_bit image)) r
+pub lowest_answers : (image : List ℕ) {r : Option Slice} → r ≡ choice_of (lowest_free (map_bit image)) → Answers image (lowest_free (map_bit image)) r
 lowest_answers image e = go (lowest_free (map_bit image)) refl e
   where
-    go : (k : ℕ) → lowest_free (map_bit image) ≡ k → {r : Choice} → r ≡ choice_of k → Answers image k r
+    go : (k : ℕ) → lowest_free (map_bit image) ≡ k → {r : Option Slice} → r ≡ choice_of k → Answers image k r
     go zero f = answers image zero (λ p. absurd (omega arith)) (λ _. f)
     go (suc k) f = let o = lowest_found (map_bit image) 4096 1 k f in answers image (suc k) (λ _. (omega (arith, o.1), o.2)) (λ z. absurd (omega arith))
 
-pub chosen_answers : (image : List ℕ) (m last : ℕ) {r : Choice} → m ≤ 4096 → r ≡ choice_of (chosen (map_bit image) m last)
+pub chosen_answers : (image : List ℕ) (m last : ℕ) {r : Option Slice} → m ≤ 4096 → r ≡ choice_of (chosen (map_bit image) m last)
     → Answers image (chosen (map_bit image) m last) r
 chosen_answers image m last few e =
     answers image (chosen (map_bit image) m last) (λ p. chosen_one (map_bit image) m last _ few p refl) (chosen_zero (map_bit image) m last) e

@@ -1,4 +1,5 @@
 -- Laws of the choice by the bits of the map: in a sound map it is the choice among the slices that are not held.
+use Rattle.std.specs.Prelude.{Option, Some, None}
 use mathlib.Core.Path.{◌≡◌, refl, sym, ap, ap₂, ◌∙◌}
 use mathlib.Core.List.{List}
 use mathlib.Core.Logic.{◌≢◌}
@@ -12,14 +13,12 @@ use Rattle.disc.specs.Map.{map_bit, MapOf}
 use Rattle.disc.proofs.Compare.{same_or}
 use Rattle.disc.proofs.LowestLaws.{first_some, lowest_none, lowest_is, lowest_found}
 use Rattle.disc.proofs.SliceLaws.{in_unit_le, in_unit_in, in_unit_no, in_unit_out, choose_law}
-use Rattle.map.specs.declared.Choice.{Choice}
-use Rattle.map.specs.declared.Choice.TheVariants.{Free, None}
 use Rattle.map.specs.Choice.{lowest_free, chosen, choice_of}
 use Rattle.map.proofs.CountLaws.{bit_free, bit_past}
 
 -- ---- the lowest one among any bits
 
-pub choice_at : (k : ℕ) → 1 ≤ k → Free (record { 0 = k }) ≡ choice_of k
+pub choice_at : (k : ℕ) → 1 ≤ k → Some (record { 0 = k }) ≡ choice_of k
 choice_at zero h = absurd (omega arith)
 choice_at (suc k) h = refl
 
@@ -42,7 +41,7 @@ module _ (bits : ℕ → ℕ) where
   pub scan_none : (n : ℕ) → 4096 < n → NoneBelow n → None ≡ choice_of (lowest_free bits)
   scan_none n h none = ap choice_of (sym (lowest_none bits 4096 1 (λ j p q. none j p (omega arith))))
 
-  pub scan_found : (k : ℕ) → 1 ≤ k → k ≤ 4096 → bits k ≢ 0 → NoneBelow k → Free (record { 0 = k }) ≡ choice_of (lowest_free bits)
+  pub scan_found : (k : ℕ) → 1 ≤ k → k ≤ 4096 → bits k ≢ 0 → NoneBelow k → Some (record { 0 = k }) ≡ choice_of (lowest_free bits)
   scan_found k a b one none = choice_at k a ∙ ap choice_of (sym (lowest_is bits 4096 1 k a (omega arith) one none))
 
   -- ---- the next after the last, or the lowest
@@ -60,7 +59,7 @@ module _ (bits : ℕ → ℕ) where
   chosen_end m last none = rw (none, zero-mul) refl
 
   -- the answers of the code, whose next slice is last + 1
-  pub answer_next : (m last : ℕ) → last < m → bits (last + 1) ≡ 1 → Free (record { 0 = last + 1 }) ≡ choice_of (chosen bits m last)
+  pub answer_next : (m last : ℕ) → last < m → bits (last + 1) ≡ 1 → Some (record { 0 = last + 1 }) ≡ choice_of (chosen bits m last)
   answer_next m last h one =
       choice_at (last + 1) (omega arith)
       ∙ ap choice_of (add-one last ∙ sym (chosen_next m last h (ap bits (sym (add-one last)) ∙ one)))
@@ -127,7 +126,7 @@ module _ (m : ℕ) (held image : List ℕ) (few : m ≤ 4096) (is : MapOf image 
           chosen_used (map_bit image) m last none ∙ lowest_choose
 
   -- the answer while a slice is free, and when none is
-  pub choice_some : (last : ℕ) → 1 ≤ free_count m held → choice_of (chosen (map_bit image) m last) ≡ Free (record { 0 = choose m held last })
+  pub choice_some : (last : ℕ) → 1 ≤ free_count m held → choice_of (chosen (map_bit image) m last) ≡ Some (record { 0 = choose m held last })
   choice_some last some =
       ap choice_of (chosen_choose last)
       ∙ sym (choice_at (choose m held last) (in_unit_out m (choose m held last) (omega (arith, (choose_law m last held some).1))).0)
@@ -143,15 +142,15 @@ module _ (m : ℕ) (held image : List ℕ) (few : m ≤ 4096) (is : MapOf image 
 
 -- ---- the answer's number
 
-abbrev number_of : Choice → ℕ
-number_of (Free k) = k.0
+abbrev number_of : Option Slice → ℕ
+number_of (Some k) = k.0
 number_of None = 0
 
 number_of_lem : (n : ℕ) → number_of (choice_of n) ≡ n
 number_of_lem zero = refl
 number_of_lem (suc n) = refl
 
-pub choice_free : (n : ℕ) (k : Slice) → choice_of n ≡ Free k → (n ≡ k.0) × (1 ≤ k.0)
+pub choice_free : (n : ℕ) (k : Slice) → choice_of n ≡ Some k → (n ≡ k.0) × (1 ≤ k.0)
 choice_free zero k e = let z : ◌≡◌ {A = ℕ} 0 1 = cc in absurd (omega arith)
 choice_free (suc n) k e = let f : suc n ≡ k.0 = ap number_of e in (f, omega arith)
 

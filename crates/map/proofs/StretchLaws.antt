@@ -1,4 +1,5 @@
 -- Laws of the search for a stretch of n free slices: what each kind of word does to `Passed`, and what the search answers.
+use Rattle.std.specs.Prelude.{Some, None}
 use mathlib.Core.Path.{◌≡◌, sym, ap, ◌∙◌}
 use mathlib.Core.List.{List}
 use mathlib.Core.Logic.{◌≢◌}
@@ -10,7 +11,6 @@ use Rattle.disc.specs.Words.{word}
 use Rattle.disc.specs.Kit.{map_sector}
 use Rattle.disc.specs.Map.{map_bit}
 use Rattle.disc.proofs.Compare.{below_or}
-use Rattle.map.specs.declared.Choice.TheVariants.{Free, None}
 use Rattle.map.specs.Stretch.{FreeFrom, FindsStretch, Passed, OnesFrom, Beginnings}
 use Rattle.map.proofs.Digits.{digit, leading_digit}
 use Rattle.map.proofs.DigitOps.{zero_digit, not_digit, leading_some, leading_one, trailing_digit, trailing_one}
@@ -146,7 +146,7 @@ module _ (image : List ℕ) (n w : ℕ) where
 -- ---- what the search answers
 
 pub stretch_found : (image : List ℕ) (n e start : ℕ) → e ≤ 4096 → start + n ≤ e → Passed image n e start
-    → FindsStretch image n (Free (record { 0 = start + 1 }))
+    → FindsStretch image n (Some (record { 0 = start + 1 }))
 stretch_found image n e start h l p = record {
   found = λ k q. let same = number k q in record {
     low = omega arith;
@@ -157,7 +157,7 @@ stretch_found image n e start h l p = record {
   none = λ q j f. absurd (omega (arith, choice_none (start + 1) (sym (choice_at (start + 1) (omega arith)) ∙ q)));
 }
   where
-    number : (k : Slice) → Free (record { 0 = start + 1 }) ≡ Free k → start + 1 ≡ k.0
+    number : (k : Slice) → Some (record { 0 = start + 1 }) ≡ Some k → start + 1 ≡ k.0
     number k q = (choice_free (start + 1) k (sym (choice_at (start + 1) (omega arith)) ∙ q)).0
 
 pub stretch_none : (image : List ℕ) (n e start : ℕ) → e ≡ 4096 → e < start + n → Passed image n e start → FindsStretch image n None
@@ -167,5 +167,5 @@ stretch_none image n e start h l p = record {
   none = λ q j f. below_or start j (λ g. omega (arith, f.high)) (λ g. p.none j g f);
 }
   where
-    never : (k : Slice) → None ≡ Free k → ⊥
+    never : (k : Slice) → None ≡ Some k → ⊥
     never k q = let z = choice_free 0 k q in omega arith

@@ -1,11 +1,10 @@
 -- The choice of a slice by the bits of a map: "Taking a slice: the next number after the file's last if free, else the
 -- lowest free." Slices are numbered from 1, so that 0 stands for none.
-use Rattle.std.specs.Prelude.{◌≡◌, List, ℕ, zero, suc, ◌*◌, ◌≤◌, eqb}
+use Rattle.std.specs.Prelude.{◌≡◌, List, ℕ, zero, suc, ◌*◌, ◌≤◌, eqb, Option, Some, None}
+use Rattle.types.specs.declared.Slice.{Slice}
 use Rattle.disc.specs.Decide.{Decides}
 use Rattle.disc.specs.Slices.{in_unit, first_if, lowest_one}
 use Rattle.disc.specs.Map.{map_bit}
-use Rattle.map.specs.declared.Choice.{Choice}
-use Rattle.map.specs.declared.Choice.TheVariants.{Free, None}
 
 -- The lowest free slice of a map: a sector of 256 words has 4,096 bits.
 abbrev pub lowest_free : (ℕ → ℕ) → ℕ
@@ -17,21 +16,21 @@ unfoldable pub chosen : (ℕ → ℕ) → ℕ → ℕ → ℕ
 chosen bits m last = first_if (in_unit m (suc last) * bits (suc last)) (suc last) (lowest_free bits)
 
 -- The answer's enum for the number of a slice.
-abbrev pub choice_of : ℕ → Choice
+abbrev pub choice_of : ℕ → Option Slice
 choice_of zero = None
-choice_of (suc k) = Free (record { 0 = suc k })
+choice_of (suc k) = Some (record { 0 = suc k })
 
 -- The result word for each case of the answer, where `refusal` is the word of the question's no.
-abbrev pub word_of : ℕ → Choice → ℕ
-word_of refusal (Free k) = 0
+abbrev pub word_of : ℕ → Option Slice → ℕ
+word_of refusal (Some k) = 0
 word_of refusal None = refusal
 
 -- "Where a slice is needed: one free? 0900h", asked by an appending output.
-abbrev pub append_word : Choice → ℕ
+abbrev pub append_word : Option Slice → ℕ
 append_word r = word_of 0x0900 r
 
 -- "Enough free slices for SYS and file together? 1100h", asked for one slice.
-abbrev pub take_word : Choice → ℕ
+abbrev pub take_word : Option Slice → ℕ
 take_word r = word_of 0x1100 r
 
 -- "One is free": a slice of the map whose bit is one.
@@ -42,7 +41,7 @@ pub record SomeFree (image : List ℕ) : Type 0 where
   pub free : map_bit image slice ≡ 1
 
 -- The answer is the slice k, none where k is 0; each question's word is 0 exactly if a slice is free.
-pub record Answers (image : List ℕ) (k : ℕ) (r : Choice) : Type 0 where
+pub record Answers (image : List ℕ) (k : ℕ) (r : Option Slice) : Type 0 where
   pub slice : r ≡ choice_of k
   pub appends : Decides (eqb (append_word r) 0) (SomeFree image)
   pub takes : Decides (eqb (take_word r) 0) (SomeFree image)

@@ -1,11 +1,9 @@
 -- The lowest stretch of neighbouring free slices, and what a search for it has found when it has passed a part of the map.
-use Rattle.std.specs.Prelude.{◌≡◌, List, ℕ, ◌+◌, ◌/◌, ◌%◌, ◌≤◌, ◌<◌}
+use Rattle.std.specs.Prelude.{◌≡◌, List, ℕ, ◌+◌, ◌/◌, ◌%◌, ◌≤◌, ◌<◌, Option, Some, None}
 use Rattle.types.specs.declared.Slice.{Slice}
 use Rattle.disc.specs.Decide.{Decides}
 use Rattle.disc.specs.Numbers.{bit_word, bit}
 use Rattle.disc.specs.Map.{map_bit}
-use Rattle.map.specs.declared.Choice.{Choice}
-use Rattle.map.specs.declared.Choice.TheVariants.{Free, None}
 
 -- The n slices from k on are slices of the map, and each is marked free.
 pub record FreeFrom (image : List ℕ) (n k : ℕ) : Type 0 where
@@ -15,9 +13,9 @@ pub record FreeFrom (image : List ℕ) (n k : ℕ) : Type 0 where
 
 -- "The lowest stretch of as many neighbouring free slices as it needs, if there is one" (document 02, R-6): the answer is
 -- the lowest slice at which n free ones begin; none only if there is none.
-pub record FindsStretch (image : List ℕ) (n : ℕ) (r : Choice) : Type 0 where
-  pub found : (k : Slice) → r ≡ Free k → FreeFrom image n k.0
-  pub lowest : (k : Slice) → r ≡ Free k → (j : ℕ) → FreeFrom image n j → k.0 ≤ j
+pub record FindsStretch (image : List ℕ) (n : ℕ) (r : Option Slice) : Type 0 where
+  pub found : (k : Slice) → r ≡ Some k → FreeFrom image n k.0
+  pub lowest : (k : Slice) → r ≡ Some k → (j : ℕ) → FreeFrom image n j → k.0 ≤ j
   pub none : r ≡ None → (j : ℕ) → FreeFrom image n j → ⊥
 
 -- A search that has passed the first e slices: those after `start`, up to n of them, are free, and at no slice up to

@@ -4,7 +4,7 @@
 
 ghost use Rattle.std.specs.Prelude.{◌≡◌, ◌+◌, ◌*◌, ◌≤◌, ◌<◌, min, eqb, length};
 ghost use Rattle.disc.specs.Map.{map_bit, ones_in_map};
-ghost use Rattle.map.specs.Marks.{marked, marked_used, marked_free};
+ghost use Rattle.map.specs.Marks.{with_bit, marked, marked_used, marked_free};
 ghost use Rattle.map.specs.Choice.{lowest_free, chosen, Answers};
 ghost use Rattle.map.specs.Stretch.{FindsStretch, Passed, Beginnings};
 
@@ -14,13 +14,6 @@ use types::Slice;
 const MAP: usize = 9 * 256;
 
 const MAP_WORDS: usize = 256;
-
-// The slice to take, if one is free.
-#[derive(Clone, Copy)]
-pub enum Choice {
-    Free(Slice),
-    None,
-}
 
 // The slice of bit b of map word w.
 pub fn slice_at(w: usize, b: usize) -> Slice
@@ -35,19 +28,27 @@ pub fn is_free(image: &[u16], k: Slice) -> bool
     requires { (1 ≤ k.0) × (k.0 ≤ 4096) × (2560 ≤ length image.now) }
     ensures { result ≡ eqb (map_bit image.now k.0) 1 }
 {
-    let word = image[MAP + (k.0 as usize - 1) / 16];
-    word / numbers::bit_word((k.0 as usize - 1) % 16) % 2 == 1
+    let k = k.0 as usize - 1;
+    numbers::bit(k % 16, image[MAP + k / 16])
 }
 
-// Makes slice k's bit v: what the bit adds to its word is taken off, and v times the bit's word added.
+// A word with bit n made v: what the bit adds to the word is taken off, and v times the bit's word added.
+fn with_bit(word: u16, n: usize, v: u16) -> u16
+    requires { (n < 16) × (v ≤ 1) }
+    ensures { result ≡ with_bit n v word }
+{
+    let bit = numbers::bit_word(n);
+    word - word / bit % 2 * bit + v * bit
+}
+
+// Makes slice k's bit v.
 fn mark(image: &mut [u16], k: Slice, v: u16)
     requires { (1 ≤ k.0) × (k.0 ≤ 4096) × (2560 ≤ length image.old) × (v ≤ 1) }
     ensures { image.new ≡ marked v image.old k.0 }
 {
-    let at = MAP + (k.0 as usize - 1) / 16;
-    let word = image[at];
-    let bit = numbers::bit_word((k.0 as usize - 1) % 16);
-    image[at] = word - word / bit % 2 * bit + v * bit;
+    let k = k.0 as usize - 1;
+    let at = MAP + k / 16;
+    image[at] = with_bit(image[at], k % 16, v);
 }
 
 // Marks slice k used: its bit becomes 0.
@@ -71,57 +72,41 @@ pub fn count_free(image: &[u16]) -> u16
     requires { 2560 ≤ length image.now }
     ensures { result ≡ ones_in_map image.now }
 {
-    let mut free: u16 = 0;
+    let mut free = 0;
     for w in 0..MAP_WORDS {
-        let word = image[MAP + w];
-        free += u16::count_ones(word) as u16;
+        free += image[MAP + w].count_ones() as u16;
     }
     free
 }
 
 // The lowest slice marked free: word by word, and in a word from its first one on.
-pub fn lowest_free(image: &[u16]) -> Choice
+pub fn lowest_free(image: &[u16]) -> Option<Slice>
     requires { 2560 ≤ length image.now }
     ensures { Answers image.now (lowest_free (map_bit image.now)) result }
 {
-    let mut w: usize = 0;
-    'scan: loop {
-        if w == MAP_WORDS {
-            break 'scan Choice::None;
-        }
-        let word = image[MAP + w];
-        let first = u16::leading_zeros(word) as usize;
-        for b in first..16 {
-            if word / numbers::bit_word(b) % 2 == 1 {
-                break 'scan Choice::Free(slice_at(w, b));
+    'scan: {
+        for w in 0..MAP_WORDS {
+            let word = image[MAP + w];
+            for b in word.leading_zeros() as usize..16 {
+                if word / numbers::bit_word(b) % 2 == 1 {
+                    break 'scan Some(slice_at(w, b));
+                }
             }
         }
-        w += 1;
+        None
     }
 }
 
-// The slice to take for a file whose last slice is `last`, 0 if it has none, in a unit with this number of slices.
-pub fn choose_slice(image: &[u16], last: Slice, slices: u16) -> Choice
+// The slice to take for a file whose last slice is `last`, 0 if it has none (the formula's value, `chosen`), in a unit with this number of
+// slices.
+pub fn choose_slice(image: &[u16], last: Slice, slices: u16) -> Option<Slice>
     requires { (slices ≤ 4096) × (2560 ≤ length image.now) }
     ensures { Answers image.now (chosen (map_bit image.now) slices last.0) result }
 {
-    if last.0 < slices {
-        let next = Slice(last.0 + 1);
-        if is_free(image, next) {
-            return Choice::Free(next);
-        }
+    if last.0 < slices && is_free(image, Slice(last.0 + 1)) {
+        return Some(Slice(last.0 + 1));
     }
     lowest_free(image)
-}
-
-// The smaller of two numbers.
-fn smaller(a: usize, b: usize) -> usize
-    ensures { result ≡ min a b }
-{
-    if a <= b {
-        return a;
-    }
-    b
 }
 
 // The bits of a word at which n neighbouring ones of the word begin: where `have` ones begin at a bit and at the one `step`
@@ -133,8 +118,8 @@ fn beginnings(word: u16, n: usize) -> u16
     let mut found = word;
     let mut have: usize = 1;
     while have < n {
-        let step = smaller(have, n - have);
-        found = found & (found << step);
+        let step = have.min(n - have);
+        found &= found << step;
         have += step;
     }
     found
@@ -154,22 +139,22 @@ fn start_past(image: &[u16], w: usize, n: usize, start: usize) -> usize
     if word == 0 {
         return 16 * w + 16;
     }
-    let first = u16::leading_zeros(!word) as usize;
+    let first = (!word).leading_zeros() as usize;
     if start + n <= 16 * w + first {
         return start;
     }
     // A stretch between two zeros of a word has at most 14 slices.
     if n < 15 {
-        let b = u16::leading_zeros(beginnings(word, n)) as usize;
+        let b = beginnings(word, n).leading_zeros() as usize;
         if b < 16 {
             return 16 * w + b;
         }
     }
-    16 * w + 16 - u16::trailing_zeros(!word) as usize
+    16 * w + 16 - (!word).trailing_zeros() as usize
 }
 
 // The lowest slice at which n neighbouring slices are marked free: one pass over the map's words.
-pub fn lowest_stretch(image: &[u16], n: u16) -> Choice
+pub fn lowest_stretch(image: &[u16], n: u16) -> Option<Slice>
     requires { (1 ≤ n) × (2560 ≤ length image.now) }
     ensures { FindsStretch image.now n result }
 {
@@ -177,8 +162,8 @@ pub fn lowest_stretch(image: &[u16], n: u16) -> Choice
     for w in 0..MAP_WORDS {
         start = start_past(image, w, n as usize, start);
         if start + n as usize <= 16 * w + 16 {
-            return Choice::Free(slice_at(start / 16, start % 16));
+            return Some(slice_at(start / 16, start % 16));
         }
     }
-    Choice::None
+    None
 }

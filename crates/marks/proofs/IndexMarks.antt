@@ -1,6 +1,6 @@
 -- Laws of marking the pairs of an index block one after the other: the pairs passed, each refusal, and the whole block.
 use mathlib.Core.Path.{◌≡◌, refl, sym, ap, ◌∙◌}
-use mathlib.Core.Bool.{true}
+use mathlib.Core.Bool.{false}
 use mathlib.Core.List.{List, [], ◌∷◌, ◌++◌, append_assoc, append-nil}
 use mathlib.Core.Logic.{◌≢◌}
 use Prim.Native.Nat.{ℕ, zero, suc, ◌+◌, ◌-◌, ◌*◌, ◌/◌, ◌≤◌, ◌<◌}
@@ -8,7 +8,7 @@ use native.Mathlib.Nat.{add-zero, zero-add}
 use native.Mathlib.Numerals.{add-one}
 use native.Mathlib.Omega.{arith}
 use lib.ListN.{length, get_or, length-append}
-use borrow.Author.Tests.{lt-ltb, le-ltb}
+use Rattle.std.specs.Prelude.{Option, Some, None, is_some}
 use Rattle.disc.specs.Numbers.{slice_start}
 use Rattle.disc.specs.Words.{word}
 use Rattle.disc.specs.Slices.{occurrences, InRangeOnce, first_of}
@@ -27,7 +27,8 @@ use Rattle.kit.specs.Geometry.{UnitOf}
 use Rattle.kit.proofs.KitLaws.{whole_product}
 use Rattle.marks.specs.declared.Indexed.{Indexed}
 use Rattle.marks.specs.Marked.{Marked, SomeMarked}
-use Rattle.marks.specs.Indexed.{WholeSlices, PairMarking, IndexSector, of_sys, of_file, Refusal, IndexMarking}
+use Rattle.marks.specs.Indexed.{WholeSlices, PairMarking, IndexSector, of_sys, of_file, PairsMarking, IndexMarking}
+use Rattle.marks.proofs.MarkLaws as laws
 use Rattle.marks.proofs.PairLaws.{some_count}
 
 module _ (image : List ℕ) (g : Geometry) (q : ℕ) where
@@ -109,10 +110,10 @@ module _ (image : List ℕ) (g : Geometry) (q : ℕ) where
         let k = pass.marked some.slices some.marked in
         omega (arith, pass.count, sum_law g.slices (some.slices ++ passed j) k.once, length-append some.slices (passed j))
 
-    pub passed_more : {after : List ℕ} (count : ℕ) → 1 ≤ count → (pair_start image q j ≡ end → ⊥)
-        → PairMarking g (pair_length image q j) (pair_start image q j) marks after count
+    pub passed_more : {after : List ℕ} (count : ℕ) → (pair_start image q j ≡ end → ⊥)
+        → PairMarking g (pair_length image q j) (pair_start image q j) marks after (Some count)
         → Passed before (j + 1) (slices + count) (pair_start image q j + pair_length image q j) after
-    passed_more {after} count positive fresh pair = rw (add-one j) (record {
+    passed_more {after} count fresh pair = rw (add-one j) (record {
       legal = λ i h. same_or i j (λ e. rw e (whole_legal j (answer some.slices some.marked).0)) (λ d. pass.legal i (omega arith));
       apart = λ i h. same_or (suc i) j
           (λ e c. fresh (ap (pair_start image q) (sym e) ∙ sym c ∙ pass.ends i e))
@@ -122,7 +123,7 @@ module _ (image : List ℕ) (g : Geometry) (q : ℕ) where
       count = omega (
         arith,
         pass.count,
-        pair.slices positive,
+        pair.slices,
         ap length (passed_snoc j),
         length-append (passed j) (pair_slices j),
         length_span ((pair_start image q j - F) / s + 1) (pair_length image q j / s),
@@ -135,7 +136,7 @@ module _ (image : List ℕ) (g : Geometry) (q : ℕ) where
       where
         answer : (held : List ℕ) → Marked g.slices before held
             → WholeSlices F s (pair_length image q j) (pair_start image q j) × InRangeOnce g.slices ((held ++ passed j) ++ pair_slices j) × MarksOf after ((held ++ passed j) ++ pair_slices j)
-        answer held k = (pair.marking (held ++ passed j) (pass.marked held k)).yes (lt-ltb 0 count positive)
+        answer held k = (pair.marking (held ++ passed j) (pass.marked held k)).yes refl
 
   -- the first sector of the first slice is the first pair's
   first_start : (n : ℕ) → 1 ≤ n → LegalPair image F s q 0 → pair_start image q 0 ≡ slice_start F s (first_of (passed n))
@@ -153,18 +154,23 @@ module _ (image : List ℕ) (g : Geometry) (q : ℕ) where
 
   -- ---- the whole block
 
-  pub refuse_index : {before after : List ℕ} {r : Indexed} → Refusal after r
+  pub refuse_index : {before after : List ℕ}
       → ((held : List ℕ) → Marked g.slices before held → IndexBlock image F s q → InRangeOnce g.slices (held ++ slices_at image F s q) → ⊥)
-      → IndexMarking image g q before after r
-  refuse_index refused no_way = record {
-    marking = λ held is once. record {
-      yes = λ e. absurd (true≢false (sym e ∙ refused.bad));
-      not = λ e. no_way held (record { is = is; once = once });
-    };
-    slices = λ e. absurd (true≢false (sym e ∙ refused.bad));
-    start = λ e. absurd (true≢false (sym e ∙ refused.bad));
-    refused = λ e. refused;
+      → PairsMarking image g q before after None
+  refuse_index no_way = record {
+    marking = λ held is once. laws.refuses (no_way held (record { is = is; once = once }));
+    slices = tt;
+    start = tt;
   }
+
+  -- the pairs are refused, and then no slice is left marked
+  pub refused_index : {before between after : List ℕ} (r : Option Indexed) → is_some r ≡ false → PairsMarking image g q before between r → MarksOf after []
+      → IndexMarking image g q before after r
+  refused_index None e pairs none = record {
+    pairs = refuse_index (λ held k. (pairs.marking held k.is k.once).not refl);
+    refused = λ _. none;
+  }
+  refused_index (Some found) e pairs none = absurd (true≢false e)
 
   pub count_is : get_or image (q * 256) 0 ≡ word image q 0
   count_is = ap (λ (i : ℕ). get_or image i 0) (sym (add-zero (q * 256)))
@@ -194,25 +200,24 @@ module _ (image : List ℕ) (g : Geometry) (q : ℕ) where
         go (suc i) z = (block_legal block).apart i (omega arith) (pass.ends i (sym z) ∙ sym e ∙ ap (pair_start image q) z)
 
     -- a pair that is refused
-    pub no_pair : {before after : List ℕ} {j slices end : ℕ} {marks : List ℕ} (count : ℕ) → Passed before j slices end marks → j < word image q 0
-        → count ≡ 0 → PairMarking g (pair_length image q j) (pair_start image q j) marks after count
+    pub no_pair : {before after : List ℕ} {j slices end : ℕ} {marks : List ℕ} → Passed before j slices end marks → j < word image q 0
+        → PairMarking g (pair_length image q j) (pair_start image q j) marks after None
         → (held : List ℕ) → Marked g.slices before held → IndexBlock image F s q → InRangeOnce g.slices (held ++ slices_at image F s q) → ⊥
-    no_pair {j = j} count pass below z pair held k block once =
-        (pair.marking (held ++ passed j) (pass.marked held k)).not (le-ltb 0 count (omega arith)) (legal_whole j ((block_legal block).each j below))
+    no_pair {j = j} pass below pair held k block once =
+        (pair.marking (held ++ passed j) (pass.marked held k)).not refl (legal_whole j ((block_legal block).each j below))
         (passed_once held j (word image q 0) below once)
 
     -- all pairs passed
     pub mark_index : {before : List ℕ} {j slices end : ℕ} {marks : List ℕ} (r : Indexed) → 1 ≤ word image q 0 → word image q 0 ≤ 127
-        → j ≡ word image q 0 → Passed before j slices end marks → r.good ≡ true → r.slices ≡ slices → r.start.0 ≡ pair_start image q 0
-        → IndexMarking image g q before marks r
-    mark_index {before} {j} {slices} {end} {marks} r some few all pass good sized begins = record {
+        → j ≡ word image q 0 → Passed before j slices end marks → r.slices ≡ slices → r.start.0 ≡ pair_start image q 0
+        → PairsMarking image g q before marks (Some r)
+    mark_index {before} {j} {slices} {end} {marks} r some few all pass sized begins = record {
       marking = λ held is once.
           let k : Marked g.slices marks (held ++ passed j) = pass.marked held (record { is = is; once = once }) in
           let w : Marked g.slices marks (held ++ slices_at image F s q) = rw all at k in
-          record { yes = λ e. (legal_block legal, w.once, w.is); not = λ e. absurd (true≢false (sym good ∙ e)) };
-      slices = λ e. sized ∙ pass.count ∙ ap (λ (n : ℕ). length (passed n)) all;
-      start = λ e. begins ∙ first_start (word image q 0) some (legal.each 0 some);
-      refused = λ e. absurd (true≢false (sym good ∙ e));
+          laws.marks (legal_block legal) w;
+      slices = sized ∙ pass.count ∙ ap (λ (n : ℕ). length (passed n)) all;
+      start = begins ∙ first_start (word image q 0) some (legal.each 0 some);
     }
       where
         legal : LegalPairs image F s q

@@ -4,7 +4,6 @@ use Prim.Native.Nat.{ℕ, zero, suc, ◌+◌, ◌-◌, ◌*◌, ◌/◌, ◌%◌
 use native.Mathlib.Nat.{add-zero, add-suc}
 use native.Mathlib.Numerals.{add-one}
 use native.Mathlib.Omega.{arith}
-use lib.Pow.{pow_mono}
 use Rattle.disc.proofs.Compare.{same_or}
 use Rattle.map.proofs.Digits.{digit, digit_zero, digit_suc}
 use Rattle.marks.specs.Packed.{packed}
@@ -21,9 +20,6 @@ packed_more f at n = rw add-one
 -- digits below 256 make a number below 255 times the power
 pub packed_bound : (x d n : ℕ) → x + 255 ≤ 255 * 2 ^ n → d ≤ 255 → 2 * x + d + 255 ≤ 255 * 2 ^ (n + 1)
 packed_bound x d n h l = rw add-one (omega arith)
-
-pub packed_room : (x d n : ℕ) → n < 16 → x + 255 ≤ 255 * 2 ^ n → d ≤ 255 → 2 * x + d ≤ 255 * 0xFFFF
-packed_room x d n lt h l = let p : 2 ^ n ≤ 2 ^ 15 = pow_mono {i = n} {j = 15} (omega arith) in omega arith
 
 -- the same digits
 pub packed_same : (f g : ℕ → ℕ) (at n : ℕ) → ((b : ℕ) → b < n → f (at + b) ≡ g (at + b)) → packed f at n ≡ packed g at n

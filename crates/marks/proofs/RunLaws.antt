@@ -1,6 +1,6 @@
 -- Laws of a run of neighbouring slices that are marked if none of them is: the run as a whole, one slice, and two to four.
 use mathlib.Core.Path.{◌≡◌, refl, sym, ap, ◌∙◌}
-use mathlib.Core.Bool.{Bool, true, false}
+use mathlib.Core.Bool.{Bool, true}
 use mathlib.Core.List.{List, [], ◌∷◌, ◌++◌, append_assoc, append-nil}
 use Prim.Native.Nat.{ℕ, zero, suc, ◌+◌, ◌-◌, ◌≤◌, ◌<◌}
 use native.Mathlib.Nat.{add-zero}
@@ -77,29 +77,18 @@ run_marking {r} {before} {after} from count room run m held fits marked = rw add
   not = λ e _ once. (run.not e).0 (run_free m from held before marked count room once);
 })
 
--- ---- refused and marked
+-- ---- marked
 
-module _ {before : List ℕ} (from count : ℕ) where
-  pub run_refused : (Free before from count → ⊥) → RunMarking false from count before before
-  run_refused taken = record { yes = λ e. absurd (true≢false (sym e)); not = λ _. (taken, refl) }
-
-  pub run_done : {after : List ℕ} → Free before from count → after ≡ run_marks before from count → RunMarking true from count before after
-  run_done free e = record { yes = λ _. (free, e); not = λ f. absurd (true≢false f) }
+pub run_done : {before after : List ℕ} (from count : ℕ) → Free before from count → after ≡ run_marks before from count → RunMarking true from count before after
+run_done from count free e = record { yes = λ _. (free, e); not = λ f. absurd (true≢false f) }
 
 -- ---- one slice
 
-module _ {before : List ℕ} (from : ℕ) where
-  here : Free before from 1 → get_or before from 0 ≡ 0
-  here free = ap (λ (i : ℕ). get_or before i 0) (sym (add-zero from)) ∙ free.each 0 (omega arith)
-
-  pub one_refused : (get_or before from 0 ≡ 0 → ⊥) → RunMarking false from 1 before before
-  one_refused taken = run_refused from 1 (λ free. taken (here free))
-
-  pub one_done : get_or before from 0 ≡ 0 → RunMarking true from 1 before (set before from 1)
-  unfolding run_marks
-  one_done none = run_done from 1
-      (record { each = λ i h. ap (λ (j : ℕ). get_or before j 0) (let e : from + i ≡ from = omega arith in e) ∙ none })
-      (ap (λ (i : ℕ). set before i 1) (sym (add-zero from)))
+pub one_done : {before : List ℕ} (from : ℕ) → get_or before from 0 ≡ 0 → RunMarking true from 1 before (set before from 1)
+unfolding run_marks
+one_done {before} from none = run_done from 1
+    (record { each = λ i h. ap (λ (j : ℕ). get_or before j 0) (let e : from + i ≡ from = omega arith in e) ∙ none })
+    (ap (λ (i : ℕ). set before i 1) (sym (add-zero from)))
 
 -- ---- two to four slices
 
@@ -126,11 +115,6 @@ module _ (before : List ℕ) (from count third last : ℕ) (low : 2 ≤ count) (
       let et : third ≡ from + 2 = far (omega arith) in
       simp (el, et, add-zero)
   four_marks_lem (suc (suc (suc (suc (suc n))))) e = absurd (omega arith)
-
-  -- one of the four is marked: slice j + 1 of the unit
-  pub four_refused : (j : ℕ) → from ≤ j → j ≤ last → (get_or before j 0 ≡ 0 → ⊥) → RunMarking false from count before before
-  four_refused j above below taken = run_refused from count (λ free.
-      taken (ap (λ (i : ℕ). get_or before i 0) (let e : j ≡ from + (j - from) = omega arith in e) ∙ free.each (j - from) (omega arith)))
 
   pub four_done : get_or before from 0 ≡ 0 → get_or before (from + 1) 0 ≡ 0 → get_or before third 0 ≡ 0 → get_or before last 0 ≡ 0 → RunMarking true from count before four_marks
   four_done z0 z1 z2 z3 = run_done from count (record { each = none }) (four_marks_lem count refl)

@@ -2,16 +2,17 @@
 use mathlib.Core.Path.{◌≡◌, refl, sym, ap, ◌∙◌}
 use mathlib.Core.Bool.{Bool, true, false}
 use mathlib.Core.List.{List}
-use Prim.Native.Nat.{ℕ, ◌+◌, ◌-◌, ◌*◌, ◌/◌, ◌≤◌, ◌<◌}
+use Prim.Native.Nat.{ℕ, ◌+◌, ◌-◌, ◌*◌, ◌/◌, ◌≤◌}
 use native.Mathlib.Nat.{add-mul, mul-le-mul_right, mul-div_cancel, le_of_mul-le-mul_right}
 use native.Mathlib.Omega.{arith}
+use Rattle.std.specs.Prelude.{Some}
 use Rattle.disc.specs.Numbers.{slice_start}
 use Rattle.disc.proofs.DecideLaws.{true≢false}
 use Rattle.kit.specs.declared.Geometry.{Geometry}
 use Rattle.kit.specs.Geometry.{UnitOf}
 use Rattle.kit.proofs.KitLaws.{whole_product, product_whole}
 use Rattle.marks.specs.Marked.{SomeMarked, RunMarking, run_marks}
-use Rattle.marks.specs.Indexed.{WholeSlices, PairMarking, IndexMarking, OnePair, SingleFile, SingleMarking}
+use Rattle.marks.specs.Indexed.{WholeSlices, PairMarking, PairsMarking, OnePair, SingleFile, SingleMarking}
 use Rattle.marks.proofs.RunLaws.{run_marking, run_done}
 use Rattle.marks.proofs.PairLaws.{mark_pair, some_count, unit_sectors}
 use Rattle.marks.proofs.IndexMarks.{passed_none, passed_more, mark_index}
@@ -72,9 +73,6 @@ module _ (image : List ℕ) (g : Geometry) (q sectors : ℕ) where
           let most : (k - 1 + n) * g.slice ≤ g.slices * g.slice = mul-le-mul_right g.slice fits in
           omega (arith, unit_sectors g unit.limits unit.slices, add-mul (k - 1) n g.slice, unit.limits.some_data)
 
-      pub single_inside : q < g.sectors
-      single_inside = omega (arith, single_high, single_slices.some)
-
       pub single_marked : {before after : List ℕ} {r : Bool} → OnePair image q sectors → RunMarking r (k - 1) n before after → SingleMarking image g q sectors before after r
       single_marked {before} {after} {r} pair run =
           let moved : RunMarking r from count before after = rw (← from_is, ← count_is) run in
@@ -90,15 +88,15 @@ module _ (image : List ℕ) (g : Geometry) (q sectors : ℕ) where
     pub single_whole : count * g.slice ≡ sectors
     single_whole = whole_product sectors g.slice file.slices.whole
 
-    pair : PairMarking g sectors q before after count
+    pair : PairMarking g sectors q before after (Some count)
     pair =
         let fits = single_fits unit file in
-        mark_pair g sectors q unit.limits unit.slices file.slices.low (whole_product (q - g.first.0) g.slice file.slices.aligned) single_whole fits refl
+        mark_pair g sectors q unit.limits unit.slices file.slices.low (whole_product (q - g.first.0) g.slice file.slices.aligned) single_whole fits (single_count unit file).1 true
         (run_marking from count (omega (arith, fits, unit.slices, unit.limits.slices_high)) (run_done from count file.free is))
 
-    pub single_index : IndexMarking image g q before after (record { good = true; slices = count; start = record { 0 = q } })
+    pub single_index : PairsMarking image g q before after (Some (record { slices = count; start = record { 0 = q } }))
     single_index =
         let block = file.pair in
-        let pass = passed_more image g q held (passed_none image g q before) {after = after} count (some_count g sectors q file.slices)
+        let pass = passed_more image g q held (passed_none image g q before) {after = after} count
         (λ z. omega (arith, block.start, file.slices.low, unit.limits.first)) (rw (block.length, block.start) pair) in
-        mark_index image g q unit _ (omega (arith, block.count)) (omega (arith, block.count)) (sym block.count) pass refl (omega arith) (sym block.start)
+        mark_index image g q unit _ (omega (arith, block.count)) (omega (arith, block.count)) (sym block.count) pass (omega arith) (sym block.start)

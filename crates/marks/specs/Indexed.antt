@@ -1,5 +1,5 @@
 -- What is promised of marking the slices that an index block describes.
-use Rattle.std.specs.Prelude.{◌≡◌, Bool, true, false, List, [], ℕ, ◌+◌, ◌-◌, ◌/◌, ◌%◌, ◌≤◌, ◌<◌, ltb, length}
+use Rattle.std.specs.Prelude.{◌≡◌, Bool, true, false, List, [], ℕ, ◌+◌, ◌-◌, ◌/◌, ◌%◌, ◌≤◌, ◌<◌, length, Option, is_some, IfSome, IsNone}
 use Rattle.disc.specs.Numbers.{slice_start}
 use Rattle.disc.specs.Words.{word}
 use Rattle.disc.specs.Pairs.{pair_length, pair_start}
@@ -20,14 +20,14 @@ pub record WholeSlices (F s sectors start : ℕ) : Type 0 where
   pub low : F ≤ start
   pub aligned : (start - F) % s ≡ 0
 
--- The answer is the number of slices that the pair describes, or 0 where they are no whole slices of the unit or one of them is
+-- The answer is the number of slices that the pair describes, or none where they are no whole slices of the unit or one of them is
 -- marked already.
-pub record PairMarking (g : Geometry) (sectors start : ℕ) (before after : List ℕ) (answer : ℕ) : Type 0 where
+pub record PairMarking (g : Geometry) (sectors start : ℕ) (before after : List ℕ) (answer : Option ℕ) : Type 0 where
   pub marking : (held : List ℕ) → Marked g.slices before held
-      → Marking (ltb 0 answer) (WholeSlices g.first.0 g.slice sectors start) g.slices after held
+      → Marking (is_some answer) (WholeSlices g.first.0 g.slice sectors start) g.slices after held
       (span ((start - g.first.0) / g.slice + 1) (sectors / g.slice))
-  pub slices : 1 ≤ answer → answer ≡ sectors / g.slice
-  pub high : 1 ≤ answer → start + sectors ≤ g.sectors
+  pub slices : IfSome answer (λ n. (1 ≤ n) × (n ≡ sectors / g.slice))
+  pub high : IfSome answer (λ _. start + sectors ≤ g.sectors)
 
 -- "Sectors 0 to 5 are never read or written. Sector 6 is the index block of SYS": a sector that is read as an index block is that
 -- one or a data sector.
@@ -35,23 +35,19 @@ pub data IndexSector (g : Geometry) (q : ℕ) : Type 0 where
   of_sys : q ≡ sys_index_sector → IndexSector g q
   of_file : g.first.0 ≤ q → q < g.sectors → IndexSector g q
 
--- The answer to an index block that is refused; no slice is marked.
-pub record Refusal (marks : List ℕ) (answer : Indexed) : Type 0 where
-  pub bad : answer.good ≡ false
-  pub slices : answer.slices ≡ 0
-  pub start : answer.start.0 ≡ 0
-  pub none : MarksOf marks []
-
 -- The index block in sector q is legal, and its slices beside those marked before are the unit's and stand once; then they are
--- marked, and the answer has their number and the first sector of the first. Else no slice is marked.
-pub record IndexMarking (image : List ℕ) (g : Geometry) (q : ℕ) (before after : List ℕ) (answer : Indexed) : Type 0 where
+-- marked, and the answer has their number and the first sector of the first.
+pub record PairsMarking (image : List ℕ) (g : Geometry) (q : ℕ) (before after : List ℕ) (answer : Option Indexed) : Type 0 where
   pub marking : (held : List ℕ) → MarksOf before held → InRangeOnce g.slices held
-      → Marking answer.good (IndexBlock image g.first.0 g.slice q) g.slices after held
+      → Marking (is_some answer) (IndexBlock image g.first.0 g.slice q) g.slices after held
       (slices_at image g.first.0 g.slice q)
-  pub slices : answer.good ≡ true → answer.slices ≡ length (slices_at image g.first.0 g.slice q)
-  pub start : answer.good ≡ true
-      → answer.start.0 ≡ slice_start g.first.0 g.slice (first_of (slices_at image g.first.0 g.slice q))
-  pub refused : answer.good ≡ false → Refusal after answer
+  pub slices : IfSome answer (λ found. found.slices ≡ length (slices_at image g.first.0 g.slice q))
+  pub start : IfSome answer (λ found. found.start.0 ≡ slice_start g.first.0 g.slice (first_of (slices_at image g.first.0 g.slice q)))
+
+-- The same, and if the block is refused no slice is marked.
+pub record IndexMarking (image : List ℕ) (g : Geometry) (q : ℕ) (before after : List ℕ) (answer : Option Indexed) : Type 0 where
+  pub pairs : PairsMarking image g q before after answer
+  pub refused : IsNone answer → MarksOf after []
 
 -- The index block in sector q has one pair, of so many sectors from sector q on.
 pub record OnePair (image : List ℕ) (q sectors : ℕ) : Type 0 where

@@ -1,4 +1,4 @@
 mod LegalLaws
 mod ClassLaws
-mod RangeLaws
+mod TableLaws
 pub mod NameIsLaws

@@ -1,5 +1,5 @@
 -- The characters of a name by class, in the order in which they may come: "a letter, then letters or digits, then zeros".
-use Rattle.std.specs.Prelude.{◌≡◌, ◌&&◌, ◌||◌, cond, List, ℕ, ◌<◌, length, get_or, leb, eqb}
+use Rattle.std.specs.Prelude.{◌≡◌, ◌||◌, cond, List, ℕ, ◌<◌, get_or, eqb}
 use Rattle.disc.specs.Names.{letter, digit}
 
 -- 0 for the character 0, 1 for a letter or a digit, 2 for any other.
@@ -9,8 +9,3 @@ class_of c = cond (eqb c 0) 0 (cond (letter c || digit c) 1 2)
 -- A table with the class of every character.
 pub record ClassesOf (table : List ℕ) : Type 0 where
   pub each : (c : ℕ) → c < 256 → get_or table c 0 ≡ class_of c
-
--- The table after the characters from `first` to `last` have been put into class 1; the others are as they were.
-pub record RangeClassed (before : List ℕ) (first last : ℕ) (table : List ℕ) : Type 0 where
-  pub size : length table ≡ 256
-  pub each : (c : ℕ) → get_or table c 0 ≡ cond (leb first c && leb c last) 1 (get_or before c 0)

@@ -2,10 +2,11 @@
 
 #![tactic(auto)]
 
-ghost use Rattle.std.specs.Prelude.{◌≡◌, ◌||◌, ◌≤◌, ◌<◌, length, eqb};
-ghost use Rattle.disc.specs.Names.{packed, letter, digit, legal_name, named, unit_in, SYS, MAP, is_system};
+ghost use Rattle.std.specs.Prelude.{◌≡◌, ◌||◌, ◌==◌, drop, eqb};
+ghost use Rattle.std.specs.List.{list_all, prefix_len};
+ghost use Rattle.disc.specs.Names.{packed, letter, digit, rest_legal, legal_name, named, unit_in, SYS, MAP, is_system};
 ghost use Rattle.names.specs.NameIs.{NameIs};
-ghost use Rattle.names.specs.Classes.{ClassesOf, RangeClassed};
+ghost use Rattle.names.specs.Classes.{ClassesOf};
 
 use types::Name;
 
@@ -39,18 +40,14 @@ pub fn packed(name: Name) -> u64
 pub fn same_name(a: Name, b: Name) -> bool
     ensures { result ≡ eqb (packed a) (packed b) }
 {
-    packed(a) == packed(b)
+    a == b
 }
 
 // Whether a name is 'SYS' or 'MAP'.
 pub fn is_system(name: Name) -> bool
     ensures { result ≡ is_system (packed name) }
 {
-    let n = packed(name);
-    if n == SYS_NUMBER {
-        return true;
-    }
-    n == MAP_NUMBER
+    is_system_number(packed(name))
 }
 
 // The name that three words mean, as it is stored: the five characters as given, the sixth 0.
@@ -71,64 +68,32 @@ pub fn unit_of(name: Name) -> u16
 pub fn is_letter(c: u16) -> bool
     ensures { result ≡ letter c }
 {
-    if c < 65 {
-        return false;
-    }
-    if c <= 90 {
-        return true;
-    }
-    if c < 97 {
-        return false;
-    }
-    c <= 122
+    matches!(c, 65..=90 | 97..=122)
 }
 
 // Whether a character is a letter or a digit.
 pub fn is_letter_or_digit(c: u16) -> bool
     ensures { result ≡ letter c || digit c }
 {
-    if is_letter(c) {
-        return true;
-    }
-    if c < 48 {
-        return false;
-    }
-    c <= 57
+    is_letter(c) || matches!(c, 48..=57)
+}
+
+// Whether characters are letters or digits, then zeros.
+fn rest_legal(characters: &[u16]) -> bool
+    ensures { result ≡ list_all (λ x. x == 0) (drop (prefix_len (λ x. letter x || digit x) characters.now) characters.now) }
+{
+    characters
+        .iter()
+        .skip_while(|c| is_letter_or_digit(**c))
+        .all(|c| *c == 0)
 }
 
 // Whether a name is legal: a letter, letters or digits, then zeros to the sixth character.
 pub fn legal(name: Name) -> bool
     ensures { result ≡ legal_name (packed name) }
 {
-    let n = packed(name);
-    if !is_letter((n / 0x100_0000_0000) as u16) {
-        return false;
-    }
-    if !is_letter_or_digit((n / 0x1_0000_0000 % 256) as u16) {
-        return n % 0x100_0000_0000 == 0;
-    }
-    if !is_letter_or_digit((n / 0x100_0000 % 256) as u16) {
-        return n % 0x1_0000_0000 == 0;
-    }
-    if !is_letter_or_digit((n / 65536 % 256) as u16) {
-        return n % 0x100_0000 == 0;
-    }
-    if !is_letter_or_digit((n / 256 % 256) as u16) {
-        return n % 65536 == 0;
-    }
-    n % 256 == 0
-}
-
-// Puts the characters from `first` to `last` into class 1.
-fn class_range(table: &mut [u8; 256], first: usize, last: usize)
-    requires { (first ≤ last) × (last < 256) × (length table.old ≡ 256) }
-    ensures { RangeClassed table.old first last table.new }
-{
-    let mut c = first;
-    while c <= last {
-        table[c] = 1;
-        c += 1;
-    }
+    let rest = [name.0 % 256, name.1 / 256, name.1 % 256, name.2 / 256];
+    is_letter(name.0 / 256) && rest_legal(&rest) && name.2 % 256 == 0
 }
 
 // The classes of all characters, to be filled once and lent while many names are judged.
@@ -137,9 +102,9 @@ pub fn classes() -> [u8; 256]
 {
     let mut table = [2u8; 256];
     table[0] = 0;
-    class_range(&mut table, 48, 57);
-    class_range(&mut table, 65, 90);
-    class_range(&mut table, 97, 122);
+    table[48..=57].fill(1);
+    table[65..=90].fill(1);
+    table[97..=122].fill(1);
     table
 }
 
@@ -150,40 +115,28 @@ pub fn legal_by(name: Name, table: &[u8; 256]) -> bool
     ensures { result ≡ legal_name (packed name) }
 {
     let initial = name.0 / 256;
-    if initial < 65 {
-        return false;
-    }
     let first = table[initial as usize];
     let second = table[(name.0 % 256) as usize];
     let third = table[(name.1 / 256) as usize];
     let fourth = table[(name.1 % 256) as usize];
     let fifth = table[(name.2 / 256) as usize];
-    if 1 < first {
-        return false;
-    }
-    if 1 < second {
-        return false;
-    }
-    if second < third {
-        return false;
-    }
-    if third < fourth {
-        return false;
-    }
-    if fourth < fifth {
-        return false;
-    }
-    name.2 % 256 == 0
+    initial >= 65
+        && first <= 1
+        && second <= 1
+        && third <= second
+        && fourth <= third
+        && fifth <= fourth
+        && name.2 % 256 == 0
 }
 
 // Whether the number of a name is that of 'SYS' or 'MAP'.
 pub fn is_system_number(n: u64) -> bool
     ensures { result ≡ is_system n }
 {
-    n == SYS_NUMBER || n == MAP_NUMBER
+    matches!(n, SYS_NUMBER | MAP_NUMBER)
 }
 
-// Whether two names are the same, by their numbers.
+// Whether two names are the same, by their numbers. `==` says no more, but names are compared in this crate alone (docs/DECISIONS.md, 110).
 pub fn same_number(a: u64, b: u64) -> bool
     ensures { result ≡ eqb a b }
 {
@@ -199,5 +152,5 @@ const MAP_FIRST: u16 = 0x4D41;
 pub fn begins_as_system(name: Name) -> bool
     ensures { result ≡ eqb name.0 0x5359 || eqb name.0 0x4D41 }
 {
-    name.0 == SYS_FIRST || name.0 == MAP_FIRST
+    matches!(name.0, SYS_FIRST | MAP_FIRST)
 }

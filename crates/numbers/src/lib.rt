@@ -22,14 +22,14 @@ pub fn bit(n: usize, w: u16) -> bool
     requires { n < 16 }
     ensures { result ≡ bit n w }
 {
-    w / bit_word(n) % 2 == 1
+    w & bit_word(n) != 0
 }
 
 // Whether bit 0 of a word is set.
 pub fn negative(w: u16) -> bool
     ensures { result ≡ negative w }
 {
-    0x8000 <= w
+    w >= 0x8000
 }
 
 // A quotient rounded up.
@@ -37,10 +37,7 @@ pub fn ceil_div(a: u32, b: u32) -> u32
     requires { 1 ≤ b }
     ensures { result ≡ ceil_div a b }
 {
-    if a == 0 {
-        return 0;
-    }
-    (a - 1) / b + 1
+    a.div_ceil(b)
 }
 
 // The slices, of s sectors each, that n sectors and the index block need: (n + 1) / s rounded up is n / s + 1.
@@ -48,10 +45,7 @@ pub fn need(s: u16, n: u16) -> u16
     requires { 2 ≤ s }
     ensures { result ≡ need s n }
 {
-    if n == 0 {
-        return 0;
-    }
-    n / s + 1
+    if n == 0 { 0 } else { n / s + 1 }
 }
 
 // Whether so many slices, of s sectors each, are enough for n sectors and the index block.
@@ -59,10 +53,7 @@ pub fn covered(s: u16, n: u16, slices: u16) -> bool
     requires { 1 ≤ s }
     ensures { Decides result (need s n ≤ slices) }
 {
-    if n == 0 {
-        return true;
-    }
-    n as u32 + 1 <= slices as u32 * s as u32
+    n == 0 || n as u32 + 1 <= slices as u32 * s as u32
 }
 
 // The first sector of slice k, where the data begin at sector `first`.
@@ -78,7 +69,7 @@ pub fn slice_of(first: Sector, s: u16, q: Sector) -> Slice
     requires { (2 ≤ s) × (first.0 ≤ q.0) }
     ensures { result.0 ≡ (q.0 - first.0) / s + 1 }
 {
-    Slice(((q.0 - first.0) as u32 / s as u32) as u16 + 1)
+    Slice((q.0 - first.0) / s + 1)
 }
 
 // Whether slice k starts at sector q: a quotient multiplied back tells whether there is a remainder.
@@ -121,10 +112,7 @@ pub fn slice_from(first: Sector, s: u16, q: Sector) -> Slice
     requires { 2 ≤ s }
     ensures { result.0 ≡ (q.0 - first.0) / s + 1 }
 {
-    if q.0 < first.0 {
-        return Slice(1);
-    }
-    slice_of(first, s, q)
+    Slice(q.0.saturating_sub(first.0) / s + 1)
 }
 
 // The last slice of a stretch of `length` sectors from sector q on: as many as before the slice of q, and those of the stretch.
@@ -132,10 +120,7 @@ pub fn last_slice_of(first: Sector, s: u16, q: Sector, length: u16) -> Slice
     requires { 2 ≤ s }
     ensures { result.0 ≡ (q.0 - first.0) / s + length / s }
 {
-    if q.0 < first.0 {
-        return Slice(length / s);
-    }
-    Slice((q.0 - first.0) / s + length / s)
+    Slice(q.0.saturating_sub(first.0) / s + length / s)
 }
 
 // Whether slice k starts where a stretch of `length` sectors from sector q on ends.
@@ -143,14 +128,14 @@ pub fn follows(first: Sector, s: u16, q: Sector, length: u16, k: Slice) -> bool
     requires { 1 ≤ k.0 }
     ensures { result ≡ (q.0 + length == slice_start first.0 s k.0) }
 {
-    q.0 as u64 + length as u64 == first.0 as u64 + (k.0 as u64 - 1) * s as u64
+    q.0 as u32 + length as u32 == first.0 as u32 + (k.0 - 1) as u32 * s as u32
 }
 
 // The sector that comes n sectors after sector q; sector numbers are words.
 pub fn sector_after(q: Sector, n: u16) -> Sector
     ensures { result.0 ≡ (q.0 + n) % 65536 }
 {
-    Sector(std::num::wrapping_add_u16(q.0, n))
+    Sector(q.0.wrapping_add(n))
 }
 
 // Block b as a sector of the joined stretches, where the file's blocks begin with joined sector `from`: block b is sector b + 1 of
@@ -174,5 +159,5 @@ pub fn key(name: Name, h: u16) -> u16
     requires { 1 ≤ h }
     ensures { result ≡ key_of h (packed name) }
 {
-    std::num::wrapping_add_u16(std::num::wrapping_add_u16(name.0, name.1), name.2) % h
+    name.0.wrapping_add(name.1).wrapping_add(name.2) % h
 }

@@ -20,8 +20,7 @@ pub fn call(state: &mut State, image: &mut [u16], lent: &mut [u16], message: Mes
     ensures { Performs image.old state.old message lent.old
         (performed image.new state.new result lent.new) }
 {
-    let s = *state;
-    let o = step(s, image, lent, message);
-    *state = o.state;
-    o.answer
+    let outcome = step(*state, image, lent, message);
+    *state = outcome.state;
+    outcome.answer
 }

@@ -1,4 +1,5 @@
 -- What the image says of a file by its index block: its slices and stretches, and whether one more can be taken.
+use Rattle.std.specs.Prelude.{Result}
 use mathlib.Core.Path.{◌≡◌, refl, sym, ap, ap₂, ◌∙◌}
 use mathlib.Core.Bool.{Bool, true, false}
 use mathlib.Core.List.{List}
@@ -10,6 +11,7 @@ use native.Mathlib.Numerals.{add-one}
 use lib.Dec.{ltb}
 use lib.ListN.{length}
 use borrow.Author.Tests.{le-leb}
+use Rattle.types.specs.declared.Slice.{Slice}
 use Rattle.disc.specs.Numbers.{need}
 use Rattle.disc.specs.Slices.{InRangeOnce}
 use Rattle.disc.proofs.SliceLaws.{sum_law}
@@ -20,7 +22,7 @@ use Rattle.plain.specs.Unit.{Plain, File, M, held, free_slices}
 use Rattle.plain.specs.Transput.{one_if, slices_to_take}
 use Rattle.refine.specs.OnDisc.{OnDisc}
 use Rattle.refine.proofs.Ground.{ground, part_file}
-use Rattle.slices.specs.declared.Next.{Next}
+use Rattle.slices.specs.declared.Lack.{Lack}
 use Rattle.slices.specs.FileBlock.{FileBlock}
 use Rattle.slices.specs.Take.{CanTakeFrom, next_word, next_asked, Chosen}
 use Rattle.slices.proofs.BlockLaws.{block_total, unit_file}
@@ -72,7 +74,7 @@ module _ {image : List ℕ} {o : Unit} {words : List ℕ} {more : ℕ} where
   pub room_by_none : more ≡ 0 → RoomFor image o words more 0
   room_by_none z = record { all = λ p on num n f file w m. room_none on n file w (sym m ∙ z) }
 
-  pub room_by : more ≢ 0 → {r : Next} {word : ℕ} → Chosen image words o.first.0 o.slice o.slices r → word ≡ next_word r → RoomFor image o words more word
+  pub room_by : more ≢ 0 → {r : Result Slice Lack} {word : ℕ} → Chosen image words o.first.0 o.slice o.slices r → word ≡ next_word r → RoomFor image o words more word
   room_by d {r} c e = record {
     all = λ p on num n f file w m.
         let own : Chosen image words p.F p.s (M p) r = rw (num.first, num.slice, num.slices) at c in

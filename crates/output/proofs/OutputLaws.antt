@@ -39,9 +39,7 @@ use Rattle.refine.proofs.Ground.{length_small, ground}
 use Rattle.preservation.proofs.Whole.{on_disc, stand_for_lem}
 use Rattle.preservation.proofs.AreaMessages.{area_found, sender_found, output_areas, replace_areas, area_set}
 use Rattle.preservation.proofs.OutputStep.{words_there, extended_on, appended_stored, replaced_on, appended_on, appends_extends, appends_room, appends_few}
-use Rattle.lookup.specs.Unit.{Searchable}
 use Rattle.lookup.specs.Files.{BlockOf}
-use Rattle.lookup.proofs.UnitLaws.{searchable}
 use Rattle.slices.specs.Take.{CanTake}
 use Rattle.area_users.specs.declared.AreaReply.{AreaReply}
 use Rattle.area_users.specs.AreaUsers.{area_reply, at_position}
@@ -217,13 +215,10 @@ module _ {image : List ℕ} {state : State} {o : Unit} {p q : Plain} {n j sender
 -- ---- what the functions ask
 
 module _ {image : List ℕ} {state : State} {o : Unit} {j u k : ℕ} (some : SomePlaced image state o j u k) where
-  pub searches : Searchable image o
-  searches = searchable (record { unit = some.p; on = placed_on some.placed; numbers = some.placed.numbers })
-
-  pub position_asks : (j < 8) × (k < 65535)
+  pub position_asks : k < 65535
   position_asks =
       let at = some.placed in
-      (seat_low at.seat, omega (arith, at.low, length_small some.p (ground some.p (placed_on at).good) some.n some.f at.seat.file))
+      omega (arith, at.low, length_small some.p (ground some.p (placed_on at).good) some.n some.f at.seat.file)
 
 -- ---- every unit on the image, by what the code finds
 
@@ -272,20 +267,20 @@ module _ {image : List ℕ} {state : State} {o : Unit} {j u k : ℕ} {area : Are
 
   -- ---- the reply and the image before the block is stored
 
-  pub prepares_below : {reply : AreaReply} → k < area.length → reply ≡ area_reply (at_position state j u (k + 1)) 0 512 k → Prepares image state o j u k reply image
+  pub prepares_below : {next : State} → k < area.length → next ≡ at_position state j u (k + 1) → Prepares image state o j u k (area_reply next 0 512 k) image
   prepares_below x e = record {
     all = λ p q n sender f at.
         let w = way_below p f k image [] state j u (omega (arith, own_size at)) in
-        (e ∙ rw add-one (sym w.reply_is), sym w.before_is);
+        (rw (e, add-one) (sym w.reply_is), sym w.before_is);
   }
 
   module _ (end : area.length ≤ k) {a : ℕ} (attributes : AttributesOf image o (packed area.name) a) where
     at_end : {p q : Plain} {n sender : ℕ} {f : File} → Placed image state o p q n j sender u f k → length f.sectors ≤ k
     at_end at = omega (arith, own_size at)
 
-    pub prepares_fixed : {reply : AreaReply} → extendable a ≡ false → reply ≡ area_reply (at_position state j u k) 0x0A00 0 k → Prepares image state o j u k reply image
-    prepares_fixed not e = record {
-      all = λ p q n sender f at. refuses p f k image [] state j u (omega arith) (sym (word_end p f k (at_end at) ∙ rw (← own_attributes at attributes, not) refl)) e;
+    pub prepares_fixed : extendable a ≡ false → Prepares image state o j u k (area_reply (at_position state j u k) 0x0A00 0 k) image
+    prepares_fixed not = record {
+      all = λ p q n sender f at. refuses p f k image [] state j u (omega arith) (sym (word_end p f k (at_end at) ∙ rw (← own_attributes at attributes, not) refl)) refl;
     }
 
     module _ (extends : extendable a ≡ true) {words : List ℕ} {more : ℕ} (block : BlockOf image area.index.0 words)
@@ -295,8 +290,8 @@ module _ {image : List ℕ} {state : State} {o : Unit} {j u k : ℕ} {area : Are
           room.all p (placed_on at) at.numbers n f at.seat.file (own_block_lem at block) (own_more at block m)
           ∙ sym (word_end p f k (at_end at) ∙ rw (← own_attributes at attributes, extends) refl)
 
-      pub prepares_full : {reply : AreaReply} → word ≢ 0 → reply ≡ area_reply (at_position state j u k) word 0 k → Prepares image state o j u k reply image
-      prepares_full d e = record { all = λ p q n sender f at. refuses p f k image [] state j u d (own_word at) e }
+      pub prepares_full : word ≢ 0 → Prepares image state o j u k (area_reply (at_position state j u k) word 0 k) image
+      prepares_full d = record { all = λ p q n sender f at. refuses p f k image [] state j u d (own_word at) refl }
 
       module _ (yes : word ≡ 0) where
         pub can_extend : {p q : Plain} {n sender : ℕ} {f : File} → Placed image state o p q n j sender u f k → CanExtendFrom image o words more p n (area_users state j) f
@@ -310,16 +305,16 @@ module _ {image : List ℕ} {state : State} {o : Unit} {j u k : ℕ} {area : Are
           yes = ap (output_word p f) (let end : length f.sectors ≡ k = omega (arith, at.low, at_end at) in end) ∙ sym (own_word at) ∙ yes;
         }
 
-        pub prepares_extended : {index : Sector} {there next : Area} {state' : State} {reply : AreaReply} {after : List ℕ} → ExtendedBy image o words more after index.0
-            → there ≡ moved area u (record { 0 = k + 1 }) → next ≡ with_live there index (area.length + 1) → state' ≡ set_area state j next → reply ≡ area_reply state' 0 512 k
-            → Prepares image state o j u k reply after
-        prepares_extended {index} written m n s e = record {
+        pub prepares_extended : {index : Sector} {there next : Area} {state' : State} {after : List ℕ} → ExtendedBy image o words more after index.0
+            → there ≡ moved area u (record { 0 = k + 1 }) → next ≡ with_live there index (area.length + 1) → state' ≡ set_area state j next
+            → Prepares image state o j u k (area_reply state' 0 512 k) after
+        prepares_extended {index} written m n s = record {
           all = λ p q name sender f at.
               let w = written.all p name (area_users state j) f (can_extend at) in
               let first : index ≡ record { 0 = _ } = ap (λ (y : ℕ). record { 0 = y }) w.1 in
               let size : area.length + 1 ≡ suc (length f.sectors) = omega (arith, own_size at) in
               let way = way_end p f k image [] state j u (at_end at) (sym (own_word at) ∙ yes) in
-              (rw (e, s, n, m, size, first, add-one k, own) (sym way.reply_is), w.0 ∙ sym way.before_is);
+              (rw (s, n, m, size, first, add-one k, own) (sym way.reply_is), w.0 ∙ sym way.before_is);
         }
 
 -- ---- the block stored

@@ -1,8 +1,10 @@
 -- Output at a position, said of the plain unit: what it finds, its answer, and the image and the state that it leaves; first all but
 -- the words of its block.
-use Rattle.std.specs.Prelude.{◌≡◌, cond, ◌||◌, List, ◌++◌, ℕ, suc, ◌≤◌, leb, ltb, eqb, length, take}
+use Rattle.std.specs.Prelude.{◌≡◌, cond, ◌||◌, List, ◌++◌, ℕ, suc, ◌≤◌, leb, ltb, eqb, length, take, Result, Ok, Err}
 use Rattle.std.proofs.Math.Option.{some}
 use Rattle.types.specs.declared.State.{State}
+use Rattle.types.specs.declared.Refusal.{Refusal}
+use Rattle.types.specs.Words.{refusal_word}
 use Rattle.types.specs.State.{area_at}
 use Rattle.disc.specs.Attributes.{extendable}
 use Rattle.disc.specs.Stretches.{stretch_count}
@@ -114,6 +116,11 @@ prepared_image p image f k =
 abbrev pub output_reply : Plain → File → State → ℕ → ℕ → ℕ → AreaReply
 output_reply p f state j u k =
     area_reply (output_state p f state j u (output_word p f k) k) (output_word p f k) (cond (eqb (output_word p f k) 0) 512 0) k
+
+-- The same by what is known before the block is stored: the state after it, or the refusal.
+abbrev pub reply_of : State → ℕ → ℕ → ℕ → Result State Refusal → AreaReply
+reply_of state j u k (Ok next) = area_reply next 0 512 k
+reply_of state j u k (Err refusal) = area_reply (at_position state j u k) (refusal_word refusal) 0 k
 
 pub record Prepares (image : List ℕ) (state : State) (o : Unit) (j u k : ℕ) (r : AreaReply) (after : List ℕ) : Type 0 where
   pub all : (p q : Plain) (n sender : ℕ) (f : File) → Placed image state o p q n j sender u f k

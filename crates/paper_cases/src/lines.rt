@@ -1,125 +1,80 @@
 // The lines, read one by one.
 
-ghost use Rattle.std.specs.Prelude.{◌≤◌, ◌<◌, length};
+ghost use Rattle.std.specs.Prelude.{◌≤◌};
 
-use crate::step::{Disc, Lent, called, done, is_call};
+use crate::step::Session;
 use std::io::{self, Write};
-use types::State;
+
+// A line: its text with the ':', its letter, and its numbers, of which there are `count`, and 0 behind them.
+#[derive(Clone, Copy)]
+pub struct Line<'a> {
+    pub label: &'a [u8],
+    pub letter: u8,
+    pub numbers: [u16; 16],
+    count: usize,
+    ghost within: { count ≤ 16 },
+}
 
 // A digit of base 16; 0 for another byte.
-fn digit(byte: u8) -> u16
-    ensures { result < 16 }
-{
-    if byte < 48 {
-        return 0;
+fn digit(byte: u8) -> u16 {
+    match byte {
+        b'0'..=b'9' => (byte - b'0') as u16,
+        b'a'..=b'f' => (byte - b'a') as u16 + 10,
+        _ => 0,
     }
-    if byte < 58 {
-        return byte as u16 - 48;
-    }
-    if byte < 97 {
-        return 0;
-    }
-    if byte < 103 {
-        return byte as u16 - 87;
-    }
-    0
 }
 
-// A word with one digit more, carry out of 16 bits dropped.
-fn with_digit(word: u16, byte: u8) -> u16 {
-    let low = word % 4096;
-    low * 16 + digit(byte)
+// The number that digits say, carry out of 16 bits dropped; a blank is no digit.
+// By hand: std's `from_str_radix` refuses what these lines may have, an empty text, other bytes, and a number above FFFFh.
+fn number(text: &[u8]) -> u16 {
+    text.iter()
+        .filter(|byte| **byte != b' ')
+        .fold(0u16, |word, byte| {
+            word.wrapping_mul(16).wrapping_add(digit(*byte))
+        })
 }
 
-// The numbers read so far with one byte more: a blank begins the next of them. Their count.
-fn read(numbers: &mut [u16; 16], count: usize, byte: u8) -> usize
-    requires { count ≤ 16 }
-    ensures { result ≤ 16 }
-{
-    if byte == b' ' {
-        if count < 16 {
-            return count + 1;
-        }
-        return count;
-    }
-    if count == 0 {
-        return 0;
-    }
-    let last = count - 1;
-    numbers[last] = with_digit(numbers[last], byte);
-    count
-}
-
-// The numbers of a text, each behind a blank. Their count.
-fn read_numbers(numbers: &mut [u16; 16], text: &[u8]) -> usize
-    ensures { result ≤ 16 }
-{
-    let mut count: usize = 0;
-    let mut i: usize = 0;
-    while i < text.len() {
-        count = read(numbers, count, text[i]);
-        i += 1;
-    }
-    count
-}
-
-// Where a byte stands first from a place on; the text's length if it does not.
-fn find(text: &[u8], from: usize, byte: u8) -> usize
-    requires { from ≤ length text.now }
-    ensures { (from ≤ result) × (result ≤ length text.now) }
-{
-    let mut i = from;
-    while i < text.len() {
-        if text[i] == byte {
-            return i;
-        }
-        i += 1;
-    }
-    i
-}
-
-// One line; one that is too short or begins with '#' does nothing.
-fn line<W: Write>(
-    image: &mut Disc,
-    lent: &mut Lent,
-    state: State,
-    text: &[u8],
-    out: &mut W,
-) -> io::Result<State> {
-    let colon = find(text, 0, b':');
-    if text.len() < 3 || text[0] == b'#' {
-        return Ok(state);
-    }
-    if text.len() - 3 < colon {
-        return Ok(state);
-    }
-    let letter = text[colon + 2];
+// The numbers of a text, each behind a blank, and 0 behind them; what follows the 16th blank is one number.
+fn numbers_of(text: &[u8]) -> [u16; 16] {
     let mut numbers = [0u16; 16];
-    let count = read_numbers(&mut numbers, &text[colon + 3..]);
-    let label = &text[0..colon + 1];
-    if is_call(letter) {
-        return called(image, lent, state, letter, &numbers, label, out);
+    let digits = text.splitn(17, |byte| *byte == b' ').skip(1);
+    for (word, digits) in numbers.iter_mut().zip(digits) {
+        *word = number(digits);
     }
-    done(image, lent, letter, &numbers, count, label, out)?;
-    Ok(state)
+    numbers
+}
+
+impl<'a> Line<'a> {
+    // The line that a text says; none where it is too short or begins with '#'.
+    fn of(text: &'a [u8]) -> Option<Line<'a>> {
+        if text.starts_with(b"#") {
+            return None;
+        }
+        let colon = text.iter().position(|byte| *byte == b':')?;
+        let (label, [_, letter, digits @ ..]) = text.split_at(colon + 1) else {
+            return None;
+        };
+        let blanks = digits.iter().filter(|byte| **byte == b' ').count();
+        Some(Line {
+            label,
+            letter: *letter,
+            numbers: numbers_of(digits),
+            count: blanks.min(16),
+        })
+    }
+
+    // The numbers that the line has.
+    pub fn given(&self) -> &[u16] {
+        &self.numbers[..self.count]
+    }
 }
 
 // All lines.
-pub fn run<W: Write>(
-    image: &mut Disc,
-    lent: &mut Lent,
-    text: &[u8],
-    out: &mut W,
-) -> io::Result<()> {
-    let mut state = types::fresh_state(0);
-    let mut at: usize = 0;
-    while at < text.len() {
-        let end = find(text, at, b'\n');
-        state = line(image, lent, state, &text[at..end], out)?;
-        if end == text.len() {
-            return Ok(());
+pub fn run<W: Write>(session: &mut Session, text: &[u8], out: &mut W) -> io::Result<()> {
+    for text in text.split(|byte| *byte == b'\n') {
+        if let Some(line) = Line::of(text) {
+            session.step(&line, out)?;
         }
-        at = end + 1;
     }
     Ok(())
 }

@@ -36,8 +36,7 @@ use Rattle.remove.specs.Remove.{RemoveStep, Removes}
 use Rattle.remove.proofs.RemoveUnit.{remove_stepped}
 use Rattle.change.specs.Change.{ChangeStep, Changes}
 use Rattle.change.proofs.ChangeUnit.{change_stepped}
-use Rattle.areas.specs.declared.AreaDone.{AreaDone}
-use Rattle.areas.specs.Areas.{CreateAreaStep, CreatesArea, AreaCreated, dummy_create, made, RemoveAreaStep, RemovesArea, AreaRemoved, dummy_remove, books}
+use Rattle.areas.specs.Areas.{AreaDone, CreateAreaStep, CreatesArea, AreaCreated, dummy_create, made, RemoveAreaStep, RemovesArea, AreaRemoved, dummy_remove, books}
 use Rattle.areas.proofs.AreaUnits.{create_area_stepped, remove_area_stepped}
 use Rattle.reports.specs.Description.{Describes}
 use Rattle.reports.specs.Listing.{Lists}

@@ -1,4 +1,5 @@
 -- No message to an area process changes the unit's number or whether it is initialized.
+use Rattle.std.specs.Prelude.{Some, None, Option as Maybe}
 use mathlib.Core.Path.{◌≡◌, refl}
 use mathlib.Core.Bool.{Bool, true, false, cond}
 use mathlib.Core.List.{List, ◌++◌}
@@ -11,8 +12,6 @@ use Rattle.types.specs.declared.Area.{Area}
 use Rattle.types.specs.declared.State.{State}
 use Rattle.types.specs.declared.Operation.{Operation}
 use Rattle.types.specs.declared.Operation.TheVariants.{Reserve, Position, Sense, Transput, Other}
-use Rattle.state.specs.declared.Found.{Found}
-use Rattle.state.specs.declared.Found.TheVariants.{At, Absent}
 use Rattle.types.specs.State.{area_at}
 use Rattle.disc.specs.Entries.{index_sector}
 use Rattle.state.specs.Areas.{set_area, moved, with_live, released, reserved, entry_of}
@@ -70,18 +69,18 @@ user_kept p f state j u Sense a = same state
 user_kept p f state j u (Transput operation bytes block) a = transput_kept p f state j u operation a.result a.block.0
 user_kept p f state j u (Other operation) a = same state
 
-operation_kept : (p : Plain) (f : File) (state : State) (j sender : ℕ) (operation : Operation) (a : Answer) (count : ℕ) (found : Found)
+operation_kept : (p : Plain) (f : File) (state : State) (j sender : ℕ) (operation : Operation) (a : Answer) (count : ℕ) (found : Maybe ℕ)
     → Kept state (operation_state p f state j sender operation a count found)
 unfolding operation_state
 operation_kept p f state j sender operation a (suc count) found = other state j (reserved (area_at state j) sender (suc count)).area
-operation_kept p f state j sender operation a zero (At u) = user_kept p f state j u operation a
-operation_kept p f state j sender operation a zero Absent = same state
+operation_kept p f state j sender operation a zero (Some u) = user_kept p f state j u operation a
+operation_kept p f state j sender operation a zero None = same state
 
-pub state_kept : (p : Plain) (state : State) (sender : ℕ) (operation : Operation) (a : Answer) (found : Found) (f : Option File) → Kept state (message_state p state sender operation a found f)
+pub state_kept : (p : Plain) (state : State) (sender : ℕ) (operation : Operation) (a : Answer) (found : Maybe ℕ) (f : Option File) → Kept state (message_state p state sender operation a found f)
 unfolding message_state
-state_kept p state sender operation a Absent f = same state
-state_kept p state sender operation a (At j) none = same state
-state_kept p state sender operation a (At j) (some f) =
+state_kept p state sender operation a None f = same state
+state_kept p state sender operation a (Some j) none = same state
+state_kept p state sender operation a (Some j) (some f) =
     let next : State = operation_state p f state j sender operation a (reserve_word operation) (entry_of sender (area_at state j)) in
     kept_either state next state (admitted (area_at state j) sender operation)
     (operation_kept p f state j sender operation a (reserve_word operation) (entry_of sender (area_at state j))) (same state)

@@ -3,63 +3,62 @@
 #![tactic(auto)]
 
 ghost use Rattle.std.specs.Prelude.{◌≡◌};
+ghost use Rattle.types.specs.Words.{result_word};
 ghost use Rattle.plain.specs.Questions.{answer};
+ghost use Rattle.areas.specs.Areas.{area_done};
+ghost use Rattle.reports.specs.Description.{description_answer};
+ghost use Rattle.reports.specs.Listing.{listing_answer};
 ghost use Rattle.perform.specs.Perform.{performed, CanObey, Obeys, Performs};
 
 use area_users::AreaReply;
-use areas::AreaDone;
 use catalog::Unit;
-use soundness::Judged;
-use types::{Answer, Block, Message, State};
+use types::{Answer, Block, Message, Refusal, State};
 
 // What comes of a call beside image and lent words: the answer and the state.
-#[derive(Clone, Copy)]
-pub struct Outcome {
-    pub answer: Answer,
-    pub state: State,
-}
+pub type Outcome = AreaReply;
 
-// A result word alone.
-fn word_alone(res: u16, state: State) -> Outcome
-    ensures { (result.answer ≡ answer res 0 0 0) × (result.state ≡ state) }
+// The outcome of a message that answers a result word alone.
+fn word_alone(done: Result<(), Refusal>, state: State) -> Outcome
+    ensures { (result.answer ≡ answer (result_word done) 0 0 0) × (result.state ≡ state) }
 {
     let answer = Answer {
-        result: res,
+        result: types::result_word(done),
         bytes: 0,
         block: Block(0),
         entries: 0,
     };
-    Outcome {
-        answer: answer,
-        state: state,
+    Outcome { answer, state }
+}
+
+// The outcome of area create and area remove: the state stays as it was where they are refused.
+fn area_done(done: Result<State, Refusal>, state: State) -> Outcome
+    ensures { (result.answer ≡ answer (area_done state done).result 0 0 0)
+        × (result.state ≡ (area_done state done).state) }
+{
+    match done {
+        Ok(next) => word_alone(Ok(()), next),
+        Err(refusal) => word_alone(Err(refusal), state),
     }
 }
 
-// A whole answer and a state.
-fn answered(whole: Answer, state: State) -> Outcome
-    ensures { (result.answer ≡ whole) × (result.state ≡ state) }
+// The outcome of Get Unit Description: 32 bytes are handed back, none where it is refused.
+fn described(done: Result<(), Refusal>, state: State) -> Outcome
+    ensures { (result.answer ≡ description_answer done) × (result.state ≡ state) }
 {
-    Outcome {
-        answer: whole,
-        state: state,
+    let mut outcome = word_alone(done, state);
+    if done.is_ok() {
+        outcome.answer.bytes = 32;
     }
+    outcome
 }
 
-// What area create and area remove leave.
-fn area_done(done: AreaDone) -> Outcome
-    ensures { (result.answer ≡ answer done.result 0 0 0) × (result.state ≡ done.state) }
+// The outcome of the listing: the number of entries is handed back, 0 where it is refused.
+fn listed(done: Result<u32, Refusal>, state: State) -> Outcome
+    ensures { (result.answer ≡ listing_answer done) × (result.state ≡ state) }
 {
-    let next = done.state;
-    word_alone(done.result, next)
-}
-
-// What a message to an area process leaves.
-fn area_replied(reply: AreaReply) -> Outcome
-    ensures { (result.answer ≡ reply.answer) × (result.state ≡ reply.state) }
-{
-    let whole = reply.answer;
-    let next = reply.state;
-    answered(whole, next)
+    let mut outcome = word_alone(done.map(|_| ()), state);
+    outcome.answer.entries = done.unwrap_or(0);
+    outcome
 }
 
 // A message to a unit that is known and sound.
@@ -69,33 +68,37 @@ fn obey(image: &mut [u16], unit: Unit, state: State, message: Message, lent: &mu
         (performed image.new result.state result.answer lent.new) }
 {
     match message {
-        Message::Init { unit: _ } => word_alone(0, state::with_initialized(state, true)),
+        Message::Init { .. } => word_alone(Ok(()), state::with_initialized(state, true)),
         Message::Set { name } => word_alone(create::set(image, unit, name, lent), state),
         Message::Create {
             name,
             size,
             attributes,
-        } => { word_alone(create::create(image, unit, name, size, attributes), state) }
+        } => word_alone(create::create(image, unit, name, size, attributes), state),
         Message::LookUp { name } => word_alone(lookup::look_up(image, unit, name, lent), state),
         Message::Change { name } => word_alone(
             change::change(image, unit, state, name, lent),
             state,
         ),
         Message::Remove { name } => word_alone(remove::remove(image, unit, state, name), state),
-        Message::CreateArea { name } => area_done(areas::create_area(image, unit, state, name)),
-        Message::RemoveArea { name } => area_done(areas::remove_area(image, unit, state, name)),
+        Message::CreateArea { name } => area_done(
+            areas::create_area(image, unit, state, name),
+            state,
+        ),
+        Message::RemoveArea { name } => area_done(
+            areas::remove_area(image, unit, state, name),
+            state,
+        ),
         Message::AreaMessage {
             name,
             sender,
             operation,
-        } => area_replied(area_messages::area_message(
-            image, unit, state, name, sender, operation, lent,
-        )),
+        } => area_messages::area_message(image, unit, state, name, sender, operation, lent),
         Message::UnitDescription {
             unit: number,
             bytes,
-        } => answered(reports::describe(image, unit, number, bytes, lent), state),
-        Message::Listing { unit: _ } => answered(reports::list(image, unit, lent), state),
+        } => described(reports::describe(image, unit, number, bytes, lent), state),
+        Message::Listing { .. } => listed(reports::list(image, unit, lent), state),
     }
 }
 
@@ -105,10 +108,10 @@ pub fn perform(image: &mut [u16], state: State, message: Message, lent: &mut [u1
         (performed image.new result.state result.answer lent.new) }
 {
     if !first_question::known(state, message) {
-        return word_alone(first_question::unknown_word(message), state);
+        return word_alone(Err(first_question::unknown(message)), state);
     }
-    let Judged::Sound(unit) = soundness::judge(image, state) else {
-        return word_alone(first_question::unsound_word(message), state);
+    let Some(unit) = soundness::judge(image, state) else {
+        return word_alone(Err(first_question::unsound(message)), state);
     };
     obey(image, unit, state, message, lent)
 }

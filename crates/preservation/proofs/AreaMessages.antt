@@ -1,5 +1,6 @@
 -- The messages to an area process beside the image: the descriptor that each sets is the area of the plain unit after it, and a
 -- unit whose users alone change stays on its image.
+use Rattle.std.specs.Prelude.{Option, Some, None}
 use mathlib.Core.Path.{◌≡◌, refl, sym, ap, ap₂, ◌∙◌, subst}
 use mathlib.Core.Bool.{Bool, true, false, cond}
 use mathlib.Core.List.{List, []}
@@ -17,11 +18,8 @@ use Rattle.types.specs.declared.State.{State}
 use Rattle.types.specs.State.{past_area, area_at, user_at}
 use Rattle.disc.specs.Entries.{index_sector}
 use Rattle.disc.proofs.DecideLaws.{true≢false}
-use Rattle.state.specs.declared.Found.{Found}
-use Rattle.state.specs.declared.Found.TheVariants.{At, Absent}
 use Rattle.state.specs.declared.Kind.{Kind}
-use Rattle.state.specs.declared.Reserved.{Reserved}
-use Rattle.state.specs.Areas.{set_area, set_user, area_named, entry_of, any_other, opened_again, answered, placed_at, shut_out, reserved, released, moved, with_live}
+use Rattle.state.specs.Areas.{Reserved, set_area, set_user, area_named, entry_of, any_other, opened_again, answered, placed_at, shut_out, reserved, released, moved, with_live}
 use Rattle.plain.specs.Table.{Table, table_find, table_put}
 use Rattle.plain.specs.Unit.{Plain, File, AreaUser, with_areas}
 use Rattle.plain.specs.Questions.{Outcome}
@@ -56,18 +54,18 @@ module _ (a : Area) (sender count : ℕ) where
   one_of true x y f g = f
   one_of false x y f g = g
 
-  placed_refuses : (own vacant : Found) → Refuses (placed_at a sender count own vacant)
-  placed_refuses (At u) vacant =
+  placed_refuses : (own vacant : Option ℕ) → Refuses (placed_at a sender count own vacant)
+  placed_refuses (Some u) vacant =
       one_of (ltb (user_at a u).opens 65535) (answered 0 (set_user a u (opened_again count (user_at a u)))) (answered 0x0808 a) (λ z. absurd (true≢false z)) (λ z. refl)
-  placed_refuses Absent (At v) = λ z. absurd (true≢false z)
-  placed_refuses Absent Absent = λ z. refl
+  placed_refuses None (Some v) = λ z. absurd (true≢false z)
+  placed_refuses None None = λ z. refl
 
   pub reserve_refused : eqb (reserved a sender count).word 0 ≡ false → (reserved a sender count).area ≡ a
   reserve_refused = one_of (shut_out a sender count) (answered 0x0A00 a) (placed_at a sender count (entry_of sender a) (entry_of 0 a)) (λ z. refl) (placed_refuses (entry_of sender a) (entry_of 0 a))
 
 -- ---- the state
 
-module _ {state : State} {p : Plain} (r : SameAreas state p) (n j : ℕ) (e : area_named n state ≡ At j) where
+module _ {state : State} {p : Plain} (r : SameAreas state p) (n j : ℕ) (e : area_named n state ≡ Some j) where
   abbrev a : Area
   a = area_at state j
 
@@ -107,10 +105,10 @@ module _ {state : State} {p : Plain} (r : SameAreas state p) (n j : ℕ) (e : ar
 
     -- ---- a user of the area
 
-    pub sender_absent : entry_of sender (area_at state j) ≡ Absent → table_find sender (users_in (area_at state j).users) ≡ none
+    pub sender_absent : entry_of sender (area_at state j) ≡ None → table_find sender (users_in (area_at state j).users) ≡ none
     sender_absent w = user_absent a sender h w
 
-    module _ (u : ℕ) (w : entry_of sender (area_at state j) ≡ At u) where
+    module _ (u : ℕ) (w : entry_of sender (area_at state j) ≡ Some u) where
       pub sender_found : table_find sender (users_in (area_at state j).users) ≡ some (plain_user (user_at (area_at state j) u))
       sender_found = user_found a sender u h w
 

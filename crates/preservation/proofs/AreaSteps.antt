@@ -1,4 +1,5 @@
 -- The open areas beside the writes: the messages that leave the state alone, and area create and remove.
+use Rattle.std.specs.Prelude.{Some, None}
 use mathlib.Core.Path.{◌≡◌, refl, sym, ap, ap₂, ◌∙◌}
 use mathlib.Core.List.{List, []}
 use mathlib.Core.Logic.{◌≢◌}
@@ -9,7 +10,6 @@ use Rattle.types.specs.declared.Name.{Name}
 use Rattle.types.specs.declared.Sector.{Sector}
 use Rattle.types.specs.declared.State.{State}
 use Rattle.disc.specs.Entries.{index_sector}
-use Rattle.state.specs.declared.Found.TheVariants.{At, Absent}
 use Rattle.disc.specs.Names.{packed}
 use Rattle.state.specs.Areas.{area_named, vacant_area_of, created_area, area_opened, area_closed}
 use Rattle.plain.specs.Table.{Table, table_find, table_put, table_remove, SortedFrom}
@@ -70,7 +70,7 @@ areas_on {i} {p} areas o g =
 
 module _ {state : State} {p : Plain} (r : SameAreas state p) (n j : ℕ) (f : File) (found : table_find n p.files ≡ some f) where
   -- the lowest vacant descriptor is taken for a name that is not open
-  pub open_areas : (name : Name) (index : Sector) (size : ℕ) → area_named n state ≡ Absent → vacant_area_of state ≡ At j → packed name ≡ n
+  pub open_areas : (name : Name) (index : Sector) (size : ℕ) → area_named n state ≡ None → vacant_area_of state ≡ Some j → packed name ≡ n
       → index.0 ≡ index_sector p.F p.s (length f.slices) f.slices → size ≡ length f.sectors
       → SameAreas (area_opened state j name index size) (with_areas p (table_put n [] p.areas))
   open_areas name index size absent vacant named at long =
@@ -87,7 +87,7 @@ module _ {state : State} {p : Plain} (r : SameAreas state p) (n j : ℕ) (f : Fi
   -- ---- Remove area
 
   -- the descriptor of the name is vacant again
-  pub close_areas : Good p → area_named n state ≡ At j → SameAreas (area_closed state j) (booked_unit p n f)
+  pub close_areas : Good p → area_named n state ≡ Some j → SameAreas (area_closed state j) (booked_unit p n f)
   close_areas g e =
       same_closed state p r n j (booked_unit p n f) e refl (find_remove n 0 p.areas g.area_names)
       (λ m d. ap₂ (area_of_unit p.F p.s) (find_remove_other m n 0 p.areas g.area_names d) (find_put_other m n (book_live f) p.files d))

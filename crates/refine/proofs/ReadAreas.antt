@@ -1,4 +1,5 @@
 -- The open area processes of a state, collected by name: what the state's search finds, the tables find.
+use Rattle.std.specs.Prelude.{Some, None, Option as Maybe}
 use mathlib.Core.Path.{◌≡◌, refl, sym, ap, ◌∙◌}
 use mathlib.Core.List.{List}
 use mathlib.Core.Option.{Option, none, some}
@@ -11,8 +12,6 @@ use Rattle.types.specs.declared.State.{State}
 use Rattle.types.specs.State.{area_at, IsOpen}
 use Rattle.disc.specs.Entries.{name_at, index_sector}
 use Rattle.disc.specs.Catalog.{Catalog, is_reserved, places_of, places_in}
-use Rattle.state.specs.declared.Found.{Found}
-use Rattle.state.specs.declared.Found.TheVariants.{At, Absent}
 use Rattle.state.specs.Areas.{area_named}
 use Rattle.plain.specs.Table.{Row, Table, table_find, SortedFrom}
 use Rattle.plain.specs.Unit.{File, AreaUser}
@@ -145,9 +144,9 @@ module _ (image : List ℕ) (state : State) (H s F : ℕ) (c : Catalog)
   by_search : (n : ℕ) (a : Area) → open_area state n ≡ some a → Open n
   by_search n a e = go (area_named n state) refl
     where
-      go : (o : Found) → area_named n state ≡ o → Open n
-      go (At j) q = opened j (omega (arith, named_inside state n j q, shaped.eight)) (named_open state n j q) n (named_name state n j q)
-      go Absent q = absurd (some≢none (sym e ∙ open_absent state n q))
+      go : (o : Maybe ℕ) → area_named n state ≡ o → Open n
+      go (Some j) q = opened j (omega (arith, named_inside state n j q, shaped.eight)) (named_open state n j q) n (named_name state n j q)
+      go None q = absurd (some≢none (sym e ∙ open_absent state n q))
 
   -- a name without users in the tables is not open
   pub not_open : (n : ℕ) → table_find n (read_areas state) ≡ none → open_area state n ≡ none

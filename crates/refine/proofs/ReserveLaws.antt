@@ -1,4 +1,5 @@
 -- Reserve, Release and positions on an area descriptor are those of the plain unit on its users.
+use Rattle.std.specs.Prelude.{Some, None, Option as Maybe}
 use mathlib.Core.Path.{◌≡◌, refl, sym, ◌∙◌}
 use mathlib.Core.List.{List}
 use mathlib.Core.Bool.{Bool, true, false, not, cond, ◌&&◌, ◌||◌}
@@ -21,11 +22,8 @@ use Rattle.plain.specs.Unit.{Plain, AreaUser, with_areas}
 use Rattle.plain.specs.Questions.{Outcome, asks, replies, done}
 use Rattle.plain.specs.Areas as plain
 use Rattle.plain.proofs.QuestionLaws.{cond_law}
-use Rattle.state.specs.declared.Found.{Found}
-use Rattle.state.specs.declared.Found.TheVariants.{At, Absent}
 use Rattle.state.specs.declared.Kind.TheVariants.{AnyUser, Writer}
-use Rattle.state.specs.declared.Reserved.{Reserved}
-use Rattle.state.specs.Areas.{entry_of, any_other, raised, opened_again, inserted, answered, placed_at, placed, shut_out, reserved, one_less, released, moved_user, moved, set_user}
+use Rattle.state.specs.Areas.{Reserved, entry_of, any_other, raised, opened_again, inserted, answered, placed_at, placed, shut_out, reserved, one_less, released, moved_user, moved, set_user}
 use Rattle.refine.specs.Represents.{users_in}
 use Rattle.refine.proofs.UserLaws.{plain_user, DistinctUsers, entry_inside, entry_id, user_found, user_absent, put_own, put_vacant, remove_own, users_room, users_full, other_law, distinct_own, distinct_new, distinct_vacant}
 
@@ -71,7 +69,7 @@ module _ (p : Plain) (n : ℕ) (a : Area) (sender count : ℕ) (lent : List ℕ)
       → done (with_areas p (table_put n (table_put sender y users) p.areas)) lent ≡ done (with_areas p (table_put n t p.areas)) lent
   settled t x y e q = rw (← e, q)
 
-  own_room : (u : ℕ) → entry_of sender a ≡ At u → (v : Found) → room ≡ outcome_of p n (placed_at a sender count (At u) v) lent
+  own_room : (u : ℕ) → entry_of sender a ≡ Some u → (v : Maybe ℕ) → room ≡ outcome_of p n (placed_at a sender count (Some u) v) lent
   unfolding asks
   own_room u e v = rw (user_found a sender u h e) (go (ltb (user_at a u).opens 65535))
     where
@@ -85,20 +83,20 @@ module _ (p : Plain) (n : ℕ) (a : Area) (sender count : ℕ) (lent : List ℕ)
           settled (users_in (set_user a u new).users) (plain_user new) (plain.opened count (some (plain_user (user_at a u)))) same (put_own a sender u h new e (entry_id a sender u e))
       go false = refl
 
-  new_room : (v : ℕ) → entry_of sender a ≡ Absent → entry_of 0 a ≡ At v → room ≡ outcome_of p n (placed_at a sender count Absent (At v)) lent
+  new_room : (v : ℕ) → entry_of sender a ≡ None → entry_of 0 a ≡ Some v → room ≡ outcome_of p n (placed_at a sender count None (Some v)) lent
   unfolding asks
   new_room v e z =
       rw (user_absent a sender h e, lt-ltb (length users) 3 (users_room a o v z))
       (settled (users_in (set_user a v (inserted sender count)).users) (plain_user (inserted sender count)) (plain.opened count none) refl (put_vacant a sender v h (inserted sender count) e z refl))
 
-  no_room : entry_of sender a ≡ Absent → entry_of 0 a ≡ Absent → room ≡ outcome_of p n (placed_at a sender count Absent Absent) lent
+  no_room : entry_of sender a ≡ None → entry_of 0 a ≡ None → room ≡ outcome_of p n (placed_at a sender count None None) lent
   unfolding asks
   no_room e z = rw (user_absent a sender h e, le-ltb (length users) 3 (omega (arith, users_full a o z)))
 
-  placed_law : (own vacant : Found) → entry_of sender a ≡ own → entry_of 0 a ≡ vacant → room ≡ outcome_of p n (placed_at a sender count own vacant) lent
-  placed_law (At u) vacant e z = own_room u e vacant
-  placed_law Absent (At v) e z = new_room v e z
-  placed_law Absent Absent e z = no_room e z
+  placed_law : (own vacant : Maybe ℕ) → entry_of sender a ≡ own → entry_of 0 a ≡ vacant → room ≡ outcome_of p n (placed_at a sender count own vacant) lent
+  placed_law (Some u) vacant e z = own_room u e vacant
+  placed_law None (Some v) e z = new_room v e z
+  placed_law None None e z = no_room e z
 
   abbrev shut : Outcome
   shut = replies p 0x0A00 lent
@@ -134,15 +132,15 @@ only_users a u new = record { live = refl; name = refl; index = refl; size = ref
 
 -- what holds of the area, and of it with the sender's entry set, holds after Reserve
 module _ (a : Area) (sender count : ℕ) (P : Area → Type 0) (as_is : P a)
-    (again : (u : ℕ) → entry_of sender a ≡ At u → P (set_user a u (opened_again count (user_at a u))))
-    (new : (v : ℕ) → entry_of sender a ≡ Absent → P (set_user a v (inserted sender count))) where
+    (again : (u : ℕ) → entry_of sender a ≡ Some u → P (set_user a u (opened_again count (user_at a u))))
+    (new : (v : ℕ) → entry_of sender a ≡ None → P (set_user a v (inserted sender count))) where
   one_of : (b : Bool) (x y : Reserved) → P x.area → P y.area → P (cond b x y).area
   one_of = cond_law (λ (x : Reserved). P x.area)
 
-  placed_keeps : (own vacant : Found) → entry_of sender a ≡ own → P (placed_at a sender count own vacant).area
-  placed_keeps (At u) vacant e = one_of (ltb (user_at a u).opens 65535) (answered 0 (set_user a u (opened_again count (user_at a u)))) (answered 0x0808 a) (again u e) as_is
-  placed_keeps Absent (At v) e = new v e
-  placed_keeps Absent Absent e = as_is
+  placed_keeps : (own vacant : Maybe ℕ) → entry_of sender a ≡ own → P (placed_at a sender count own vacant).area
+  placed_keeps (Some u) vacant e = one_of (ltb (user_at a u).opens 65535) (answered 0 (set_user a u (opened_again count (user_at a u)))) (answered 0x0808 a) (again u e) as_is
+  placed_keeps None (Some v) e = new v e
+  placed_keeps None None e = as_is
 
   reserve_keeps : P (reserved a sender count).area
   reserve_keeps = one_of (shut_out a sender count) (answered 0x0A00 a) (placed a sender count) as_is (placed_keeps (entry_of sender a) (entry_of 0 a) refl)
@@ -171,7 +169,7 @@ reserve_distinct a sender count o =
 
 -- ---- Release and positions
 
-module _ (a : Area) (sender u : ℕ) (h : sender ≢ 0) (e : entry_of sender a ≡ At u) where
+module _ (a : Area) (sender u : ℕ) (h : sender ≢ 0) (e : entry_of sender a ≡ Some u) where
   pub move_law : (position : Block) → users_in (moved a u position).users ≡ table_put sender (plain.at_position (plain_user (user_at a u)) position.0) (users_in a.users)
   move_law position = put_own a sender u h (moved_user (user_at a u) position) e (entry_id a sender u e)
 

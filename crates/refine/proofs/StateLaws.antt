@@ -1,5 +1,6 @@
 -- The area descriptors of the state and the plain unit's table of areas: the open area of a name after a descriptor is set,
 -- distinct names, numbers of open areas, and the state of a unit that represents a plain unit.
+use Rattle.std.specs.Prelude.{Some, None}
 use mathlib.Core.Path.{◌≡◌, refl, sym, ap, ◌∙◌}
 use mathlib.Core.List.{List, [], ◌∷◌}
 use mathlib.Core.Bool.{true, false, cond, not-not}
@@ -20,7 +21,6 @@ use Rattle.disc.proofs.Compare.{same_or}
 use Rattle.plain.specs.Table.{Table, table_find, table_put, SortedFrom, is_some}
 use Rattle.plain.specs.Unit.{Plain, File, AreaUser, with_areas}
 use Rattle.plain.proofs.TableLaws.{find_put, find_put_other, some_inj}
-use Rattle.state.specs.declared.Found.TheVariants.{At, Absent}
 use Rattle.disc.specs.Names.{packed}
 use Rattle.state.specs.Areas.{count_of, is_vacant, is_named, area_named, vacant_area_of, set_area, area_closed}
 use Rattle.state.proofs.SearchLaws.{first_at, first_nowhere, first_that, that_at, that_nowhere, that_set, that_set_other, that_set_none, count_none, none_count, count_full, count_room}
@@ -39,20 +39,20 @@ first_open_lem n [] = refl
 first_open_lem n (a ∷ l) = ap (λ (r : Option Area). cond (is_named n a) (some a) r) (first_open_lem n l)
 
 module _ (state : State) (n : ℕ) where
-  pub open_found : (j : ℕ) → area_named n state ≡ At j → open_area state n ≡ some (area_at state j)
+  pub open_found : (j : ℕ) → area_named n state ≡ Some j → open_area state n ≡ some (area_at state j)
   open_found j e = first_open_lem n state.areas ∙ that_at (is_named n) past_area state.areas j (first_at (is_named n) past_area state.areas j e)
 
-  pub open_absent : area_named n state ≡ Absent → open_area state n ≡ none
+  pub open_absent : area_named n state ≡ None → open_area state n ≡ none
   open_absent e = first_open_lem n state.areas ∙ that_nowhere (is_named n) past_area state.areas (first_nowhere (is_named n) past_area 0 state.areas e)
 
   -- what is found is an open descriptor of the name
-  pub named_inside : (j : ℕ) → area_named n state ≡ At j → j < length state.areas
+  pub named_inside : (j : ℕ) → area_named n state ≡ Some j → j < length state.areas
   named_inside j e = (first_at (is_named n) past_area state.areas j e).inside
 
-  pub named_open : (j : ℕ) → area_named n state ≡ At j → IsOpen state j
+  pub named_open : (j : ℕ) → area_named n state ≡ Some j → IsOpen state j
   named_open j e = keyed_test is_open area_name n (area_at state j) (first_at (is_named n) past_area state.areas j e).passes
 
-  pub named_name : (j : ℕ) → area_named n state ≡ At j → area_name (area_at state j) ≡ n
+  pub named_name : (j : ℕ) → area_named n state ≡ Some j → area_name (area_at state j) ≡ n
   named_name j e = keyed_key is_open area_name n (area_at state j) (first_at (is_named n) past_area state.areas j e).passes
 
 -- ---- distinct names
@@ -64,7 +64,7 @@ from_names : (state : State) → length state.areas ≡ 8 → Distinct is_open a
 from_names state s o j k hj hk tj tk e = o.only j k (omega arith) (omega arith) tj tk e
 
 -- an open descriptor is the one that is found under its name
-pub own_area : (state : State) (j : ℕ) → Shaped state → DistinctAreas state → j < 8 → IsOpen state j → area_named (area_name (area_at state j)) state ≡ At j
+pub own_area : (state : State) (j : ℕ) → Shaped state → DistinctAreas state → j < 8 → IsOpen state j → area_named (area_name (area_at state j)) state ≡ Some j
 own_area state j s o h t = distinct_first is_open area_name past_area state.areas j (by_names state s o) (omega (arith, s.eight)) t
 
 -- ---- a descriptor set
@@ -92,7 +92,7 @@ module _ (state : State) (j : ℕ) (new : Area) where
   open_past m e t = first_open_lem m (set state.areas j new) ∙ that_set_other (is_named m) past_area state.areas j new e t ∙ sym (first_open_lem m state.areas)
 
   -- the descriptor that a name has
-  module _ (n : ℕ) (e : area_named n state ≡ At j) where
+  module _ (n : ℕ) (e : area_named n state ≡ Some j) where
     pub open_set : new.live ≡ true → area_name new ≡ n → open_area (set_area state j new) n ≡ some new
     open_set t q = let first = first_at (is_named n) past_area state.areas j e in open_new n first.inside first.before t q
 
@@ -105,11 +105,11 @@ module _ (state : State) (j : ℕ) (new : Area) where
         distinct_names s o (λ t k h d tk z. d (o k j h (omega (arith, named_inside state n j e, s.eight)) tk (named_open state n j e) (z ∙ q ∙ sym (named_name state n j e))))
 
   -- the lowest vacant descriptor, for a name that has none
-  module _ (n : ℕ) (v : vacant_area_of state ≡ At j) (q : area_name new ≡ n) where
+  module _ (n : ℕ) (v : vacant_area_of state ≡ Some j) (q : area_name new ≡ n) where
     vacant_here : (area_at state j).live ≡ false
     vacant_here = not-true (area_at state j).live (first_at is_vacant past_area state.areas j v).passes
 
-    pub open_created : area_named n state ≡ Absent → new.live ≡ true → open_area (set_area state j new) n ≡ some new
+    pub open_created : area_named n state ≡ None → new.live ≡ true → open_area (set_area state j new) n ≡ some new
     open_created e t =
         let inside = (first_at is_vacant past_area state.areas j v).inside in
         open_new n inside (λ k h. (first_nowhere (is_named n) past_area 0 state.areas e).fails k (omega arith)) t q
@@ -117,12 +117,12 @@ module _ (state : State) (j : ℕ) (new : Area) where
     pub open_created_other : (m : ℕ) → m ≢ n → open_area (set_area state j new) m ≡ open_area state m
     open_created_other m d = open_past m (rw vacant_here) (keyed_other is_open area_name m new (λ z. d (sym z ∙ q)))
 
-    pub distinct_created : area_named n state ≡ Absent → Shaped state → DistinctAreas state → DistinctAreas (set_area state j new)
+    pub distinct_created : area_named n state ≡ None → Shaped state → DistinctAreas state → DistinctAreas (set_area state j new)
     distinct_created e s o =
         distinct_names s o (λ t k h d tk z. let absent = (first_nowhere (is_named n) past_area 0 state.areas e).fails k (omega (arith, s.eight)) in eqb-false (area_name (area_at state k)) n (rw tk at absent) (z ∙ q))
 
 -- a descriptor that is vacant again
-module _ (state : State) (n j : ℕ) (e : area_named n state ≡ At j) where
+module _ (state : State) (n j : ℕ) (e : area_named n state ≡ Some j) where
   pub open_closed : Shaped state → DistinctAreas state → open_area (area_closed state j) n ≡ none
   open_closed s o =
       let rest = distinct_rest is_open area_name past_area state.areas j (by_names state s o) (named_inside state n j e) (named_open state n j e) in
@@ -142,10 +142,10 @@ module _ {B : Type 0} (state : State) (b : ℕ) (t : Table B) (s : Shaped state)
   areas_count = table_count is_open area_name past_area state.areas b t ok (by_names state s o) (λ n. same n ∙ ap is_some (first_open_lem n state.areas))
 
   -- fewer than eight exactly if a descriptor is vacant
-  pub areas_room : (j : ℕ) → vacant_area_of state ≡ At j → length t < 8
+  pub areas_room : (j : ℕ) → vacant_area_of state ≡ Some j → length t < 8
   areas_room j e = omega (arith, areas_count, count_room is_open is_vacant (λ a. sym (not-not a.live)) 0 state.areas j e, s.eight)
 
-  pub areas_full : vacant_area_of state ≡ Absent → length t ≡ 8
+  pub areas_full : vacant_area_of state ≡ None → length t ≡ 8
   areas_full e = omega (arith, areas_count, count_full is_open is_vacant (λ a. sym (not-not a.live)) 0 state.areas e, s.eight)
 
   -- none exactly if no descriptor is open
@@ -199,33 +199,33 @@ module _ (state : State) (p : Plain) (r : SameAreas state p) where
   pub same_names : (n : ℕ) → is_some (table_find n p.areas) ≡ is_some (open_area state n)
   same_names n = sym (is_some_unit p.F p.s (table_find n p.areas) (table_find n p.files)) ∙ ap is_some (sym (r.each n)) ∙ is_some_state (open_area state n)
 
-  pub same_found : (n j : ℕ) → area_named n state ≡ At j → table_find n p.areas ≡ some (users_in (area_at state j).users)
+  pub same_found : (n j : ℕ) → area_named n state ≡ Some j → table_find n p.areas ≡ some (users_in (area_at state j).users)
   same_found n j e =
       users_of_lem p.F p.s (table_find n p.areas) (table_find n p.files)
       (ap area_of_state (sym (open_found state n j e)) ∙ r.each n)
 
-  pub same_absent : (n : ℕ) → area_named n state ≡ Absent → table_find n p.areas ≡ none
+  pub same_absent : (n : ℕ) → area_named n state ≡ None → table_find n p.areas ≡ none
   same_absent n e = users_of_lem p.F p.s (table_find n p.areas) (table_find n p.files) (ap area_of_state (sym (open_absent state n e)) ∙ r.each n)
 
   -- the index sector and live length of an open area whose file is entered
-  live_of : (n j : ℕ) (f : File) → area_named n state ≡ At j → table_find n p.files ≡ some f
+  live_of : (n j : ℕ) (f : File) → area_named n state ≡ Some j → table_find n p.files ≡ some f
       → area_of_state (some (area_at state j)) ≡ area_of_unit p.F p.s (some (users_in (area_at state j).users)) (some f)
   live_of n j f e q = ap area_of_state (sym (open_found state n j e)) ∙ r.each n ∙ rw (same_found n j e, q)
 
-  pub same_index : (n j : ℕ) (f : File) → area_named n state ≡ At j → table_find n p.files ≡ some f → (area_at state j).index.0 ≡ index_sector p.F p.s (length f.slices) f.slices
+  pub same_index : (n j : ℕ) (f : File) → area_named n state ≡ Some j → table_find n p.files ≡ some f → (area_at state j).index.0 ≡ index_sector p.F p.s (length f.slices) f.slices
   same_index n j f e q = ap (λ (x : LiveArea). x.index) (some_inj (live_of n j f e q))
 
-  pub same_size : (n j : ℕ) (f : File) → area_named n state ≡ At j → table_find n p.files ≡ some f → (area_at state j).length ≡ length f.sectors
+  pub same_size : (n j : ℕ) (f : File) → area_named n state ≡ Some j → table_find n p.files ≡ some f → (area_at state j).length ≡ length f.sectors
   same_size n j f e q = ap (λ (x : LiveArea). x.size) (some_inj (live_of n j f e q))
 
   pub same_users : (j : ℕ) → j < 8 → IsOpen state j → DistinctUsers (area_at state j)
   same_users j h t = record { three = r.shaped.three j h; only = λ u v hu hv. r.distinct_users j u v h t hu hv }
 
   -- the number of open areas
-  pub same_room : (j : ℕ) → SortedFrom 0 p.areas → vacant_area_of state ≡ At j → length p.areas < 8
+  pub same_room : (j : ℕ) → SortedFrom 0 p.areas → vacant_area_of state ≡ Some j → length p.areas < 8
   same_room j ok = areas_room state 0 p.areas r.shaped r.distinct ok same_names j
 
-  pub same_full : SortedFrom 0 p.areas → vacant_area_of state ≡ Absent → length p.areas ≡ 8
+  pub same_full : SortedFrom 0 p.areas → vacant_area_of state ≡ None → length p.areas ≡ 8
   same_full ok = areas_full state 0 p.areas r.shaped r.distinct ok same_names
 
   pub same_none : SortedFrom 0 p.areas → NoneOpen state ↔ (length p.areas ≡ 0)
@@ -252,7 +252,7 @@ module _ (state : State) (p : Plain) (r : SameAreas state p) where
   }
 
   -- an open area has changed, in the state and in the unit
-  pub same_set : (n j : ℕ) (new : Area) (q : Plain) → area_named n state ≡ At j → new.live ≡ true → area_name new ≡ n → DistinctUsers new → q.unit ≡ p.unit
+  pub same_set : (n j : ℕ) (new : Area) (q : Plain) → area_named n state ≡ Some j → new.live ≡ true → area_name new ≡ n → DistinctUsers new → q.unit ≡ p.unit
       → area_of_state (some new) ≡ unit_area q n
       → ((m : ℕ) → m ≢ n → unit_area q m ≡ unit_area p m)
       → SameAreas (set_area state j new) q
@@ -261,7 +261,7 @@ module _ (state : State) (p : Plain) (r : SameAreas state p) where
       (ap area_of_state (open_set state j new n e t name) ∙ own) (open_set_other state j new n e name) rest
 
   -- an area process is created in the lowest vacant descriptor
-  pub same_created : (n j : ℕ) (new : Area) (q : Plain) → area_named n state ≡ Absent → vacant_area_of state ≡ At j → new.live ≡ true → area_name new ≡ n → DistinctUsers new → q.unit ≡ p.unit
+  pub same_created : (n j : ℕ) (new : Area) (q : Plain) → area_named n state ≡ None → vacant_area_of state ≡ Some j → new.live ≡ true → area_name new ≡ n → DistinctUsers new → q.unit ≡ p.unit
       → area_of_state (some new) ≡ unit_area q n
       → ((m : ℕ) → m ≢ n → unit_area q m ≡ unit_area p m)
       → SameAreas (set_area state j new) q
@@ -270,7 +270,7 @@ module _ (state : State) (p : Plain) (r : SameAreas state p) where
       (ap area_of_state (open_created state j new n v name e t) ∙ own) (open_created_other state j new n v name) rest
 
   -- an area process is removed
-  pub same_closed : (n j : ℕ) (q : Plain) → area_named n state ≡ At j → q.unit ≡ p.unit → table_find n q.areas ≡ none
+  pub same_closed : (n j : ℕ) (q : Plain) → area_named n state ≡ Some j → q.unit ≡ p.unit → table_find n q.areas ≡ none
       → ((m : ℕ) → m ≢ n → unit_area q m ≡ unit_area p m)
       → SameAreas (area_closed state j) q
   same_closed n j q e unit gone rest =
@@ -278,7 +278,7 @@ module _ (state : State) (p : Plain) (r : SameAreas state p) where
       (distinct_closed state j r.shaped r.distinct) unit (rw (open_closed state n j e r.shaped r.distinct, gone)) (open_closed_other state n j e) rest
 
   -- only the users of an open area have changed: Reserve, Release and positions
-  pub same_put : (n j : ℕ) (new : Area) → area_named n state ≡ At j → OnlyUsers (area_at state j) new → DistinctUsers new
+  pub same_put : (n j : ℕ) (new : Area) → area_named n state ≡ Some j → OnlyUsers (area_at state j) new → DistinctUsers new
       → SameAreas (set_area state j new) (with_areas p (table_put n (users_in new.users) p.areas))
   same_put n j new e only users =
       same_set n j new (with_areas p (table_put n (users_in new.users) p.areas)) e

@@ -1,4 +1,5 @@
 -- The open areas of a represented plain unit meet the rules of a sound unit.
+use Rattle.std.specs.Prelude.{Some}
 use mathlib.Core.Path.{◌≡◌, sym, ap, ◌∙◌}
 use mathlib.Core.List.{List}
 use mathlib.Core.Logic.{◌≢◌}
@@ -13,7 +14,6 @@ use Rattle.types.specs.State.{area_at, user_at, IsOpen}
 use Rattle.disc.specs.Names.{is_system}
 use Rattle.disc.specs.Entries.{name_at}
 use Rattle.disc.proofs.Compare.{same_or}
-use Rattle.state.specs.declared.Found.TheVariants.{At}
 use Rattle.state.specs.Areas.{area_named}
 use Rattle.plain.specs.Table.{Row, table_find}
 use Rattle.plain.specs.Unit.{Plain, File, AreaUser, sys_of, file_entry, entry}
@@ -43,7 +43,7 @@ module _ {image : List ℕ} {state : State} {p : Plain} (g : Good p) (r : Repres
     abbrev n : ℕ
     n = area_name (area_at state j)
 
-    found : area_named n state ≡ At j
+    found : area_named n state ≡ Some j
     found = own_area state j r.areas.shaped r.areas.distinct inside live
 
     -- the unit has the area, with the descriptor's users

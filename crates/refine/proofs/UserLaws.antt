@@ -1,4 +1,5 @@
 -- The users of an area descriptor and the plain unit's table of users: searches, insertion, removal, numbers and roles.
+use Rattle.std.specs.Prelude.{Some, None}
 use mathlib.Core.Path.{◌≡◌, refl, sym, ap, ◌∙◌}
 use mathlib.Core.List.{List, [], ◌∷◌}
 use mathlib.Core.Bool.{Bool, true, false, not, cond, not-and_self}
@@ -22,7 +23,6 @@ use Rattle.plain.specs.Unit.{AreaUser}
 use Rattle.plain.specs.Areas as plain
 use Rattle.plain.proofs.TableLaws.{find_below, find_put, find_put_other, find_remove, find_remove_other, sorted_put, sorted_remove, find_ext, weight_at, total_put, total_remove}
 use Rattle.plain.proofs.UnitLaws.{map_some}
-use Rattle.state.specs.declared.Found.TheVariants.{At, Absent}
 use Rattle.state.specs.declared.Kind.{Kind}
 use Rattle.state.specs.declared.Kind.TheVariants.{AnyUser, Writer, Exclusive}
 use Rattle.state.specs.Areas.{count_of, has_id, entry_of, is_taken, user_count, is_kind, is_other, any_other, set_user, created_area, with_live}
@@ -65,17 +65,17 @@ users_find k (u ∷ l) h = with_find k u.id u (users_in l) h ∙ go (eqb u.id k)
     go false ih = ih
 
 -- what `find_user` finds is an entry with the identification
-pub entry_inside : (a : Area) (id u : ℕ) → entry_of id a ≡ At u → u < length a.users
+pub entry_inside : (a : Area) (id u : ℕ) → entry_of id a ≡ Some u → u < length a.users
 entry_inside a id u e = (first_at (has_id id) vacant_user a.users u e).inside
 
-pub entry_id : (a : Area) (id u : ℕ) → entry_of id a ≡ At u → (user_at a u).id ≡ id
+pub entry_id : (a : Area) (id u : ℕ) → entry_of id a ≡ Some u → (user_at a u).id ≡ id
 entry_id a id u e = eqb-true (user_at a u).id id (first_at (has_id id) vacant_user a.users u e).passes
 
 -- the sender's entry, by where `find_user` finds it
-pub user_found : (a : Area) (sender u : ℕ) → sender ≢ 0 → entry_of sender a ≡ At u → table_find sender (users_in a.users) ≡ some (plain_user (user_at a u))
+pub user_found : (a : Area) (sender u : ℕ) → sender ≢ 0 → entry_of sender a ≡ Some u → table_find sender (users_in a.users) ≡ some (plain_user (user_at a u))
 user_found a sender u h e = users_find sender a.users h ∙ ap (map_some plain_user) (that_at (has_id sender) vacant_user a.users u (first_at (has_id sender) vacant_user a.users u e))
 
-pub user_absent : (a : Area) (sender : ℕ) → sender ≢ 0 → entry_of sender a ≡ Absent → table_find sender (users_in a.users) ≡ none
+pub user_absent : (a : Area) (sender : ℕ) → sender ≢ 0 → entry_of sender a ≡ None → table_find sender (users_in a.users) ≡ none
 user_absent a sender h e = users_find sender a.users h ∙ ap (map_some plain_user) (that_nowhere (has_id sender) vacant_user a.users (first_nowhere (has_id sender) vacant_user 0 a.users e))
 
 -- ---- three entries with distinct users
@@ -103,7 +103,7 @@ from_keys a n o = record {
 }
 
 -- a taken entry is the one that is found
-pub own_entry_lem : (a : Area) (u : ℕ) → DistinctUsers a → u < 3 → IsTaken a u → entry_of (user_at a u).id a ≡ At u
+pub own_entry_lem : (a : Area) (u : ℕ) → DistinctUsers a → u < 3 → IsTaken a u → entry_of (user_at a u).id a ≡ Some u
 own_entry_lem a u o h t =
     let first : FirstAt (has_id (user_at a u).id) vacant_user a.users u = record {
       inside = omega (arith, o.three);
@@ -111,7 +111,7 @@ own_entry_lem a u o h t =
       before = λ v k. ne_eqb (user_at a v).id (user_at a u).id (λ e. omega (arith, o.only u v h (omega arith) t (sym e)));
     } in
     let e : 0 + u ≡ u = omega arith in
-    at_first (has_id (user_at a u).id) vacant_user 0 a.users u first ∙ ap At e
+    at_first (has_id (user_at a u).id) vacant_user 0 a.users u first ∙ ap Some e
 
 -- a created area, one after an output, and one with legal users
 pub created_users : (name : Name) (index : Sector) (size : ℕ) → DistinctUsers (created_area name index size)
@@ -154,18 +154,18 @@ module _ (l : List User) (u : ℕ) (new : User) (k : ℕ) (h : k ≢ 0) where
       ∙ sym (find_remove_other m k 0 (users_in l) (users_sorted l) d))
 
 module _ (a : Area) (sender u : ℕ) (h : sender ≢ 0) where
-  pub put_own : (new : User) → entry_of sender a ≡ At u → new.id ≡ sender → users_in (set a.users u new) ≡ table_put sender (plain_user new) (users_in a.users)
+  pub put_own : (new : User) → entry_of sender a ≡ Some u → new.id ≡ sender → users_in (set a.users u new) ≡ table_put sender (plain_user new) (users_in a.users)
   put_own new e i =
       let before = (first_at (has_id sender) vacant_user a.users u e).before in
       put_law a.users u new sender h i (entry_inside a sender u e) before (λ m z d. ne_eqb (user_at a u).id m (λ q. d (sym q ∙ entry_id a sender u e)))
 
-  pub put_vacant : (new : User) → entry_of sender a ≡ Absent → entry_of 0 a ≡ At u → new.id ≡ sender → users_in (set a.users u new) ≡ table_put sender (plain_user new) (users_in a.users)
+  pub put_vacant : (new : User) → entry_of sender a ≡ None → entry_of 0 a ≡ Some u → new.id ≡ sender → users_in (set a.users u new) ≡ table_put sender (plain_user new) (users_in a.users)
   put_vacant new e v i =
       let inside = entry_inside a 0 u v in
       let nowhere = first_nowhere (has_id sender) vacant_user 0 a.users e in
       put_law a.users u new sender h i inside (λ w k. nowhere.fails w (omega arith)) (λ m z d. ne_eqb (user_at a u).id m (λ q. z (sym q ∙ entry_id a 0 u v)))
 
-  pub remove_own : DistinctUsers a → entry_of sender a ≡ At u → users_in (set a.users u vacant_user) ≡ table_remove sender (users_in a.users)
+  pub remove_own : DistinctUsers a → entry_of sender a ≡ Some u → users_in (set a.users u vacant_user) ≡ table_remove sender (users_in a.users)
   remove_own o e =
       let own = entry_id a sender u e in
       let inside : u < 3 = omega (arith, entry_inside a sender u e, o.three) in
@@ -198,10 +198,10 @@ module _ (a : Area) (o : DistinctUsers a) where
   users_count = table_count is_taken id_of vacant_user a.users 0 (users_in a.users) (users_sorted a.users) (by_keys a o) (same_keys a.users)
 
   -- fewer than three exactly if an entry is vacant
-  pub users_room : (v : ℕ) → entry_of 0 a ≡ At v → length (users_in a.users) < 3
+  pub users_room : (v : ℕ) → entry_of 0 a ≡ Some v → length (users_in a.users) < 3
   users_room v e = omega (arith, users_count, count_room is_taken (has_id 0) (λ u. refl) 0 a.users v e, o.three)
 
-  pub users_full : entry_of 0 a ≡ Absent → length (users_in a.users) ≡ 3
+  pub users_full : entry_of 0 a ≡ None → length (users_in a.users) ≡ 3
   users_full e = omega (arith, users_count, count_full is_taken (has_id 0) (λ u. refl) 0 a.users e, o.three)
 
 -- ---- other users
@@ -267,7 +267,7 @@ module _ (a : Area) (u : ℕ) (o : DistinctUsers a) where
   distinct_own new h e = kept new (λ t v k d tv q. d (o.only v u k h (taken_id (user_at a v) tv) (q ∙ sym e)))
 
   -- an entry of a user that had none
-  pub distinct_new : (new : User) → entry_of new.id a ≡ Absent → DistinctUsers (set_user a u new)
+  pub distinct_new : (new : User) → entry_of new.id a ≡ None → DistinctUsers (set_user a u new)
   distinct_new new e = kept new (λ t v k d tv q. eqb-false (user_at a v).id new.id ((first_nowhere (has_id new.id) vacant_user 0 a.users e).fails v (omega (arith, o.three))) q)
 
   -- a vacant entry

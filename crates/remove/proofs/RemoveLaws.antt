@@ -1,4 +1,5 @@
 -- The answers of Remove on the plain unit, by what the searches of SYS and of the state found.
+use Rattle.std.specs.Prelude.{Option, Some, None}
 use mathlib.Core.Path.{◌≡◌, refl, sym, ap, ◌∙◌}
 use mathlib.Core.Bool.{Bool, true, false}
 use mathlib.Core.List.{List}
@@ -9,11 +10,10 @@ use lib.Dec.{T}
 use Rattle.types.specs.declared.Name.{Name}
 use Rattle.types.specs.declared.State.{State}
 use Rattle.disc.specs.Numbers.{bit}
-use Rattle.disc.specs.Names.{named, unit_in, is_system}
+use Rattle.disc.specs.Names.{packed, named, unit_in, is_system}
 use Rattle.disc.specs.Attributes.{permanent}
+use Rattle.names.specs.NameIs.{NameIs}
 use Rattle.catalog.specs.declared.Place.{Place}
-use Rattle.catalog.specs.declared.Found.{Found}
-use Rattle.catalog.specs.declared.Found.TheVariants.{At, Nothing}
 use Rattle.catalog.specs.declared.Unit.{Unit}
 use Rattle.catalog.specs.Catalog.{entry_word}
 use Rattle.plain.specs.Table.{table_find, table_remove, is_some}
@@ -23,6 +23,8 @@ use Rattle.plain.specs.Catalog.{step_remove}
 use Rattle.plain.proofs.QuestionLaws.{true_yes, asks_yes, asks_no, given_none, given_some}
 use Rattle.plain.proofs.UnitLaws.{system_none, ordinary_files}
 use Rattle.refine.proofs.LeavesLaws.{refuses, writes}
+use Rattle.lookup.specs.Unit.{Meant}
+use Rattle.lookup.specs.Find.{FindsName}
 use Rattle.lookup.specs.Files.{ClosedFile, name_open}
 use Rattle.lookup.proofs.MeantLaws.{meant_known}
 use Rattle.lookup.proofs.FileLaws.{file_words}
@@ -56,13 +58,22 @@ module _ (p : Plain) (name : Name) (lent : List ℕ) (mine : T (known p (unit_in
 
 -- ---- by what was found
 
-module _ {image : List ℕ} {state : State} {o : Unit} {name : Name} {n : ℕ} {r : Found} (s : Sought image state o name n r) where
-  pub removes_none : r ≡ Nothing → Removes image o state name image 0x5000
+-- the message in hand and what its search found; the file of the name, which has no area process
+pub sought : {image : List ℕ} {state : State} {o : Unit} {name stored : Name} {r : Option Place} → Meant image state o (unit_in name) → NameIs stored (named name) → FindsName image o (packed stored) r
+    → Sought image state o name (packed stored) r
+sought meant is finds = record { meant = meant; is = is.packed; finds = finds }
+
+pub sought_file : {image : List ℕ} {state : State} {o : Unit} {name : Name} {n : ℕ} {r : Option Place} {place : Place} → Sought image state o name n r → r ≡ Some place
+    → is_system n ≡ false → name_open n state ≡ false → SoughtFile image state o name place
+sought_file sought at ordinary shut = record { n = _; r = _; sought = sought; at = at; ordinary = ordinary; shut = shut }
+
+module _ {image : List ℕ} {state : State} {o : Unit} {name : Name} {n : ℕ} {r : Option Place} (s : Sought image state o name n r) where
+  pub removes_none : r ≡ None → Removes image o state name image 0x5000
   removes_none e = record {
     all = λ p g rep num. record { step = λ lent. refuses (λ z. omega arith) (remove_none p name lent (meant_known s.meant rep) ((found s g rep num).nothing e)) refl };
   }
 
-  module _ {place : Place} (e : r ≡ At place) where
+  module _ {place : Place} (e : r ≡ Some place) where
     pub removes_system : is_system n ≡ true → Removes image o state name image 0x1200
     removes_system system = record {
       all = λ p g rep num. record {

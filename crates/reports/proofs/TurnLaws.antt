@@ -1,16 +1,16 @@
 -- Lists one after the other, and the records of slots and blocks: their lengths, one more of them counted or noted.
 use mathlib.Core.Path.{◌≡◌, refl, sym, ap, ◌∙◌}
-use mathlib.Core.List.{List, [], ◌∷◌, ◌++◌, append-nil, append_assoc}
+use mathlib.Core.List.{List, [], ◌++◌, append-nil, append_assoc}
 use mathlib.Core.Logic.{◌≢◌}
 use Prim.Native.Nat.{ℕ, zero, suc, ◌+◌, ◌*◌, ◌/◌, ◌%◌, ◌≤◌, ◌<◌}
 use native.Mathlib.Nat.{add-suc, add-zero}
 use native.Mathlib.Numerals.{add-one}
 use native.Mathlib.Omega.{arith}
-use lib.ListN.{length, get_or, set, length-append}
+use lib.ListN.{length, get_or, length-append}
 use borrow.Author.Tests.{eq-eqb, ne_eqb}
 use Rattle.disc.proofs.Compare.{same_or}
 use Rattle.words.specs.Store.{store}
-use Rattle.words.proofs.StoreLaws.{store_none, store_append, length_store}
+use Rattle.words.proofs.StoreLaws.{store_none, store_append}
 use Rattle.catalog.specs.declared.Catalog.{Catalog}
 use Rattle.reports.specs.Listing.{in_turn, slot_start, slot_empty, entry_record, slot_record, slot_records, catalog_sector, block_records, CountOf, Noted}
 
@@ -113,9 +113,6 @@ noted_more {l} {m} {r} {us} {vs} {at} a b = record {
   end = omega (arith, a.end, b.end, length-append us vs);
 }
 
-pub noted-length : {l m us : List ℕ} {at j : ℕ} → Noted l at us m j → length m ≡ length l
-noted-length {l} {m} {us} {at} a = ap length a.stored ∙ length_store l at us
-
 pub turn_start : (f : ℕ → List ℕ) (l : List ℕ) (at : ℕ) → Noted l at (in_turn f 0) l at
 unfolding in_turn
 turn_start f l at = noted_none l at
@@ -125,24 +122,8 @@ pub noted_turn : (f : ℕ → List ℕ) (i : ℕ) {l m r : List ℕ} {at j k : �
 unfolding in_turn
 noted_turn f i a b = rw add-one (noted_more a b)
 
--- the four words of a used slot's record
-store_four : (l : List ℕ) (at a b c d : ℕ) → set (set (set (set l at a) (at + 1) b) (at + 2) c) (at + 3) d ≡ store l at (a ∷ b ∷ c ∷ d ∷ [])
-unfolding store
-store_four l at a b c d =
-    let one : at + 1 ≡ suc at = omega arith in
-    let two : at + 2 ≡ suc (suc at) = omega arith in
-    let three : at + 3 ≡ suc (suc (suc at)) = omega arith in
-    rw (one, two, three) refl
-
-module _ (image : List ℕ) (q i : ℕ) (used : first_word image q i ≢ 0) (l : List ℕ) (at : ℕ) where
-  abbrev filled : List ℕ
-  filled =
-      let s = slot_start q i in
-      let g = q * 16 + i in
-      set (set (set (set l at (get_or image s 0)) (at + 1) (get_or image (s + 1) 0)) (at + 2) (get_or image (s + 2) 0 / 256 * 256 + g / 65536)) (at + 3) (g % 65536)
-
-  pub slot_noted : Noted l at (slot_record image q i) filled (at + 4)
-  slot_noted = record {
-    stored = store_four l at _ _ _ _ ∙ ap (store l at) (sym (slot_some image q i used));
-    end = omega (arith, slot-length image q i used);
-  }
+-- a used slot's record stored
+pub slot_noted : (image : List ℕ) (q i : ℕ) → first_word image q i ≢ 0 → (l : List ℕ) (at : ℕ) {after : List ℕ}
+    → after ≡ store l at (entry_record (first_word image q i) (get_or image (slot_start q i + 1) 0) (get_or image (slot_start q i + 2) 0) (q * 16 + i))
+    → Noted l at (slot_record image q i) after (at + 4)
+slot_noted image q i used l at e = record { stored = e ∙ ap (store l at) (sym (slot_some image q i used)); end = omega (arith, slot-length image q i used) }

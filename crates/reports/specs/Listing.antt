@@ -1,12 +1,14 @@
 -- The listing: the records of the entries as these stand in SYS, place after place, and what is written beside the plain unit's listing.
-use Rattle.std.specs.Prelude.{◌≡◌, Bool, cond, List, [], ◌∷◌, ◌++◌, ℕ, zero, suc, ◌+◌, ◌*◌, ◌/◌, ◌%◌, ◌≤◌, ◌<◌, length, get_or, T, eqb}
+use Rattle.std.specs.Prelude.{◌≡◌, Bool, cond, List, [], ◌∷◌, ◌++◌, ℕ, zero, suc, ◌+◌, ◌*◌, ◌/◌, ◌%◌, ◌≤◌, ◌<◌, length, get_or, T, eqb, Result, Ok, Err}
 use Rattle.types.specs.declared.Answer.{Answer}
+use Rattle.types.specs.declared.Refusal.{Refusal}
+use Rattle.types.specs.Words.{refusal_word}
 use Rattle.words.specs.Store.{store}
 use Rattle.index.specs.Block.{joint_sector}
 use Rattle.catalog.specs.declared.Catalog.{Catalog}
 use Rattle.catalog.specs.declared.Unit.{Unit}
 use Rattle.plain.specs.Unit.{Plain}
-use Rattle.plain.specs.Questions.{known}
+use Rattle.plain.specs.Questions.{answer, known}
 use Rattle.plain.specs.Reports.{step_listing}
 use Rattle.refine.specs.OnDisc.{OnDisc}
 use Rattle.lookup.specs.Unit.{NumbersOf, MeantOn}
@@ -65,6 +67,11 @@ pub record Noted (before : List ℕ) (at : ℕ) (words after : List ℕ) (next :
 pub record CanList (image : List ℕ) (o : Unit) : Type 0 where
   pub number : ℕ
   pub meant : MeantOn image o number
+
+-- "The number of entries, 0 if refused", and the refusal's word.
+abbrev pub listing_answer : Result ℕ Refusal → Answer
+listing_answer (Ok count) = answer 0 0 0 count
+listing_answer (Err refusal) = answer (refusal_word refusal) 0 0 0
 
 -- "Listing writes each entry's 16 booked words once and hands back the number of entries, 0 if refused", and (02, R-1) "by name": answer
 -- and lent words after are the plain unit's, of every unit on the image that the message means, and the unit stays.

@@ -4,25 +4,12 @@
 
 ghost use Rattle.std.specs.Prelude.{◌≡◌, ◌+◌, ◌*◌, ◌≤◌, ◌<◌, length};
 ghost use Rattle.words.specs.Store.{store};
-ghost use Rattle.plain.specs.Questions.{answer};
 ghost use Rattle.lookup.specs.Unit.{MeantOn};
-ghost use Rattle.reports.specs.Description.{described, Describes};
-ghost use Rattle.reports.specs.Listing.{slot_record, slot_records, block_records, Readable, CountOf, Noted, CanList, Lists};
+ghost use Rattle.reports.specs.Description.{described, description_answer, Describes};
+ghost use Rattle.reports.specs.Listing.{slot_record, slot_records, block_records, Readable, CountOf, Noted, CanList, listing_answer, Lists};
 
 use catalog::{Catalog, Unit};
-use types::{Answer, Block, Sector};
-
-// The answer of a refused call: 1200h, and nothing handed back.
-fn refused() -> Answer
-    ensures { result ≡ answer 0x1200 0 0 0 }
-{
-    Answer {
-        result: 0x1200,
-        bytes: 0,
-        block: Block(0),
-        entries: 0,
-    }
-}
+use types::{Refusal, Sector};
 
 // Stores the description's record of 16 words at the start of the lent ones.
 fn store_description(image: &[u16], unit: Unit, number: u16, lent: &mut [u16])
@@ -54,23 +41,21 @@ fn store_description(image: &[u16], unit: Unit, number: u16, lent: &mut [u16])
 
 // Get Unit Description of a message that means this unit. N and the free sectors are read in the kit, the other numbers are the
 // unit's.
-pub fn describe(image: &[u16], unit: Unit, number: u16, bytes: u16, lent: &mut [u16]) -> Answer
+pub fn describe(
+    image: &[u16],
+    unit: Unit,
+    number: u16,
+    bytes: u16,
+    lent: &mut [u16],
+) -> Result<(), Refusal>
     requires { MeantOn image.now unit number }
-    ensures { Describes image.now unit number bytes lent.old result lent.new }
+    ensures { Describes image.now unit number bytes lent.old (description_answer result) lent.new }
 {
-    if bytes < 32 {
-        return refused();
-    }
-    if lent.len() < 16 {
-        return refused();
+    if bytes < 32 || lent.len() < 16 {
+        return Err(Refusal::CatalogParameter);
     }
     store_description(image, unit, number, lent);
-    Answer {
-        result: 0,
-        bytes: 32,
-        block: Block(0),
-        entries: 0,
-    }
+    Ok(())
 }
 
 // The number of used slots of sector q.
@@ -78,13 +63,11 @@ fn count_slots(image: &[u16], q: Sector) -> u32
     requires { q.0 * 256 + 256 ≤ length image.now }
     ensures { CountOf (slot_records image.now q.0 16) result }
 {
-    let mut count: u32 = 0;
-    let mut i: u16 = 0;
-    while i < 16 {
-        if image[q.0 as usize * 256 + i as usize * 16] != 0 {
+    let mut count = 0;
+    for i in 0..16 {
+        if image[q.0 as usize * 256 + i * 16] != 0 {
             count += 1;
         }
-        i += 1;
     }
     count
 }
@@ -94,12 +77,10 @@ fn count_entries(image: &[u16], c: Catalog, n: u32) -> u32
     requires { Readable image.now c n }
     ensures { CountOf (block_records image.now c n) result }
 {
-    let mut count: u32 = 0;
-    let mut b: u32 = 0;
-    while b < n {
+    let mut count = 0;
+    for b in 0..n {
         let q = index::sector_at(image, c.index, b + c.from as u32);
         count += count_slots(image, q);
-        b += 1;
     }
     count
 }
@@ -116,10 +97,13 @@ fn note_slot(image: &[u16], q: Sector, slot: u16, lent: &mut [u16], at: usize) -
         return at;
     }
     let group = q.0 as u32 * 16 + slot as u32;
-    lent[at] = image[first];
-    lent[at + 1] = image[first + 1];
-    lent[at + 2] = image[first + 2] / 256 * 256 + (group / 65536) as u16;
-    lent[at + 3] = (group % 65536) as u16;
+    let entry = [
+        image[first],
+        image[first + 1],
+        image[first + 2] / 256 * 256 + (group / 65536) as u16,
+        (group % 65536) as u16,
+    ];
+    words::copy_words(&entry, 0, lent, at, 4);
     at + 4
 }
 
@@ -129,10 +113,8 @@ fn note_slots(image: &[u16], q: Sector, lent: &mut [u16], start: usize) -> usize
     ensures { Noted lent.old start (slot_records image.now q.0 16) lent.new result }
 {
     let mut at = start;
-    let mut slot: u16 = 0;
-    while slot < 16 {
+    for slot in 0..16 {
         at = note_slot(image, q, slot, lent, at);
-        slot += 1;
     }
     at
 }
@@ -143,31 +125,24 @@ fn note_entries(image: &[u16], c: Catalog, n: u32, lent: &mut [u16], start: usiz
     ensures { lent.new ≡ store lent.old start (block_records image.now c n) }
 {
     let mut at = start;
-    let mut b: u32 = 0;
-    while b < n {
+    for b in 0..n {
         let q = index::sector_at(image, c.index, b + c.from as u32);
         at = note_slots(image, q, lent, at);
-        b += 1;
     }
 }
 
 // The listing: the entries of SYS, counted first, noted in the order of their places, and stored in the order of their names. Their records
-// stand behind as many words as they take, which is where they are ordered from.
-pub fn list(image: &[u16], unit: Unit, lent: &mut [u16]) -> Answer
+// stand behind as many words as they take, which is where they are ordered from. Hands back the number of entries.
+pub fn list(image: &[u16], unit: Unit, lent: &mut [u16]) -> Result<u32, Refusal>
     requires { CanList image.now unit }
-    ensures { Lists image.now unit lent.old result lent.new }
+    ensures { Lists image.now unit lent.old (listing_answer result) lent.new }
 {
     let blocks = unit.catalog.keys as u32 * unit.catalog.layers as u32;
     let count = count_entries(image, unit.catalog, blocks);
     if lent.len() < 16 * count as usize {
-        return refused();
+        return Err(Refusal::CatalogParameter);
     }
     note_entries(image, unit.catalog, blocks, lent, 4 * count as usize);
     order::by_name(image, lent, count as usize);
-    Answer {
-        result: 0,
-        bytes: 0,
-        block: Block(0),
-        entries: count,
-    }
+    Ok(count)
 }

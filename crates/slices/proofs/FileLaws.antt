@@ -1,4 +1,5 @@
 -- The slices that a file takes: what the search of the map finds is the lowest stretch of the unit's free slices.
+use Rattle.std.specs.Prelude.{Option, Some, None}
 use mathlib.Core.Path.{◌≡◌, refl, sym, ap, ap₂, ◌∙◌}
 use mathlib.Core.Bool.{Bool}
 use mathlib.Core.List.{List, [], ◌∷◌, ◌++◌, append_assoc}
@@ -14,8 +15,6 @@ use Rattle.disc.proofs.SliceLaws.{in_unit_le, in_unit_out, occurrences_append, o
 use Rattle.disc.proofs.Compare.{same_or}
 use Rattle.disc.proofs.StretchLaws.{count_some}
 use Rattle.disc.proofs.OneStretchLaws.{stretch_is, stretch_none, for_file_none, for_file_last, for_file_old, for_file_first}
-use Rattle.map.specs.declared.Choice.{Choice}
-use Rattle.map.specs.declared.Choice.TheVariants.{Free, None}
 use Rattle.map.specs.Marks.{all_marked, all_used, marked_used}
 use Rattle.map.specs.Stretch.{FreeFrom, FindsStretch}
 use Rattle.map.proofs.MarkLaws.{all_marked_one}
@@ -54,14 +53,14 @@ module _ {image block : List ℕ} {F s m n : ℕ} {held slices : List ℕ} (can 
           free = λ j p q. (let is = run j p q in omega (arith, is.0, is.1, can.map j (omega arith) (omega (arith, last.1, can.own.most))));
         }
 
-    found_is : {k : Slice} {r : Choice} → FindsStretch image n r → r ≡ Free k → lowest_stretch m held n ≡ k.0
+    found_is : {k : Slice} {r : Option Slice} → FindsStretch image n r → r ≡ Some k → lowest_stretch m held n ≡ k.0
     found_is {k} finds e =
         let free = finds.found k e in
         let run = run_from free in
         stretch_is m held n k.0 free.low (in_unit_out m k.0 (omega (arith, (run k.0 (omega arith) (omega arith)).0))).1 run
         (λ j a other. finds.lowest k e j (from_run a other))
 
-    none_is : {r : Choice} → FindsStretch image n r → r ≡ None → lowest_stretch m held n ≡ 0
+    none_is : {r : Option Slice} → FindsStretch image n r → r ≡ None → lowest_stretch m held n ≡ 0
     none_is finds e = stretch_none m held n (λ j a other. finds.none e j (from_run a other))
 
 -- ---- by 01's choice
@@ -77,7 +76,7 @@ module _ {image block : List ℕ} {F s m n : ℕ} {held slices : List ℕ} (can 
   took_last d = rw (for_file_last m held slices n (has_some can.own d)) took
 
   -- no stretch is long enough
-  pub took_old : 1 ≤ n → pair_count block 0 ≡ 0 → {c : Choice} → FindsStretch image n c → c ≡ None → TakenFrom image F s slices (taken_for_file m held slices n) after new r
+  pub took_old : 1 ≤ n → pair_count block 0 ≡ 0 → {c : Option Slice} → FindsStretch image n c → c ≡ None → TakenFrom image F s slices (taken_for_file m held slices n) after new r
   took_old some e finds is =
       let none = has_none can.own e in
       rw (ap (λ (l : List ℕ). taken_for_file m held l n) none ∙ for_file_old m held n (none_is can some finds is) ∙ ap (λ (l : List ℕ). taken m held (last_of l) n) (sym none)) took
@@ -85,7 +84,7 @@ module _ {image block : List ℕ} {F s m n : ℕ} {held slices : List ℕ} (can 
 -- ---- in one stretch
 
 module _ {image block : List ℕ} {F s m n : ℕ} {held slices : List ℕ} (can : CanTakeFrom image block F s m n held slices) (some : 1 ≤ n) (e : pair_count block 0 ≡ 0)
-    {k : Slice} {c : Choice} (finds : FindsStretch image n c) (is : c ≡ Free k) where
+    {k : Slice} {c : Option Slice} (finds : FindsStretch image n c) (is : c ≡ Some k) where
   none : slices ≡ []
   none = has_none can.own e
 
@@ -103,7 +102,7 @@ module _ {image block : List ℕ} {F s m n : ℕ} {held slices : List ℕ} (can 
   first_few : stretch_count (slices ++ (k.0 ∷ [])) ≤ 127
   first_few = rw none (omega arith)
 
-  pub first_inside : (1 ≤ k.0) × (k.0 ≤ 4096)
+  first_inside : (1 ≤ k.0) × (k.0 ≤ 4096)
   first_inside = let i = inside one first_fresh in (i.0, omega (arith, i.1, can.own.most))
 
   pub first_ready : Appendable F s k.0 block

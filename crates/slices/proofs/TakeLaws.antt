@@ -1,6 +1,8 @@
 -- Taking slices: which one is next, what one step takes, and that the rest of the taking goes on as it would have.
 use mathlib.Core.Path.{◌≡◌, refl, sym, ap, ◌∙◌}
 use mathlib.Core.Bool.{Bool, true, false, cond}
+use Rattle.std.specs.Prelude.{Result, Ok, Err, is_ok, Option, Some, None}
+use Rattle.std.specs.Result.{IsErr}
 use mathlib.Core.List.{List, [], ◌∷◌, ◌++◌, append_assoc, append-nil}
 use Prim.Native.Nat.{ℕ, suc, ◌+◌, ◌≤◌, ◌<◌}
 use native.Mathlib.Omega.{arith}
@@ -15,12 +17,10 @@ use Rattle.disc.specs.Stretches.{stretch_count}
 use Rattle.disc.specs.OneStretch.{taken_for_file}
 use Rattle.disc.specs.Map.{map_bit}
 use Rattle.disc.proofs.Compare.{same_or}
-use Rattle.disc.proofs.DecideLaws.{holds}
+use Rattle.disc.proofs.DecideLaws.{true≢false, holds, fails}
 use Rattle.disc.proofs.SliceLaws.{choose_law, in_unit_out, occurrences_self, occurrences_append, sum_law, taken_law, length_taken, last_snoc}
 use Rattle.disc.proofs.OneStretchLaws.{for_file_law, length_for_file, for_file_one}
 use Rattle.disc.proofs.CutLaws.{count-take}
-use Rattle.map.specs.declared.Choice.{Choice}
-use Rattle.map.specs.declared.Choice.TheVariants.{Free, None}
 use Rattle.map.specs.Marks.{all_marked, all_used, marked_used}
 use Rattle.map.specs.Choice.{chosen, choice_of}
 use Rattle.map.proofs.MarkLaws.{all_marked_one, map_taken, length_all_marked}
@@ -29,8 +29,8 @@ use Rattle.index.specs.Block.{whole_index, last_slice, stretches_with, appended,
 use Rattle.index.proofs.ChangeLaws.{append_whole, append_ready}
 use Rattle.plain.specs.Unit.{Plain, M, held, free_slices}
 use Rattle.refine.specs.OnDisc.{OnDisc}
-use Rattle.slices.specs.declared.Next.{Next}
-use Rattle.slices.specs.declared.Next.TheVariants.{At, NoneFree, Crowded}
+use Rattle.slices.specs.declared.Lack.{Lack}
+use Rattle.slices.specs.declared.Lack.TheVariants.{NoneFree, Crowded}
 use Rattle.slices.specs.FileBlock.{SliceBlock, FileBlock}
 use Rattle.slices.specs.Take.{CanTakeFrom, CanTake, next_of, next_word, next_asked, ChosenFrom, TakenFrom, Taken}
 use Rattle.slices.proofs.BlockLaws.{slice_in, start_small, block_last, block_with}
@@ -103,7 +103,7 @@ unit-take on file enough part =
 -- ---- the next slice
 
 -- its word
-answered : {m : ℕ} {held slices : List ℕ} {r : Next} → r ≡ next_of m held slices → ChosenFrom m held slices r
+answered : {m : ℕ} {held slices : List ℕ} {r : Result Slice Lack} → r ≡ next_of m held slices → ChosenFrom m held slices r
 unfolding next_of next_asked
 answered {m} {held} {slices} e =
     let k : ℕ = choose m held (last_of slices) in
@@ -113,20 +113,20 @@ answered {m} {held} {slices} e =
           ∙ ap (λ (l : List ℕ). cond (leb 1 (free_count m held)) (cond (leb (stretch_count (slices ++ l)) 127) 0 0x0808) 0x0900) (sym (for_file_one m held slices));
     }
   where
-    go : (a b : Bool) (k : ℕ) → next_word (cond a (cond b (At (record { 0 = k })) Crowded) NoneFree) ≡ cond a (cond b 0 0x0808) 0x0900
+    go : (a b : Bool) (k : ℕ) → next_word (cond a (cond b (Ok (record { 0 = k })) (Err Crowded)) (Err NoneFree)) ≡ cond a (cond b 0 0x0808) 0x0900
     go true true k = refl
     go true false k = refl
     go false b k = refl
 
 module _ {image block : List ℕ} {F s m : ℕ} {held slices : List ℕ} (can : CanTakeFrom image block F s m 0 held slices) where
-  module _ {last : ℕ} {r : Choice} (l : last ≡ last_slice F s block 0) (q : r ≡ choice_of (chosen (map_bit image) m last)) where
+  module _ {last : ℕ} {r : Option Slice} (l : last ≡ last_slice F s block 0) (q : r ≡ choice_of (chosen (map_bit image) m last)) where
     choice : choice_of (chosen (map_bit image) m (last_of slices)) ≡ r
     choice = ap (λ (x : ℕ). choice_of (chosen (map_bit image) m x)) (sym (l ∙ block_last can.own)) ∙ sym q
 
     picked : chosen (map_bit image) m (last_of slices) ≡ choose m held (last_of slices)
     picked = chosen_choose m held image can.own.most can.map (last_of slices)
 
-    pub next_none : r ≡ None → ChosenFrom m held slices NoneFree
+    pub next_none : r ≡ None → ChosenFrom m held slices (Err NoneFree)
     unfolding next_of
     next_none z = same_or (free_count m held) 0
         (λ full. answered (rw (lt-leb 1 (free_count m held) (omega arith)) refl))
@@ -134,7 +134,7 @@ module _ {image block : List ℕ} {F s m : ℕ} {held slices : List ℕ} (can : 
         let inside = (in_unit_out m (choose m held (last_of slices)) (omega (arith, (choose_law m (last_of slices) held (omega arith)).1))).0 in
         absurd (omega (arith, choice_none (chosen (map_bit image) m (last_of slices)) (choice ∙ z), picked, inside)))
 
-    module _ {k : Slice} (at : r ≡ Free k) where
+    module _ {k : Slice} (at : r ≡ Some k) where
       is : (chosen (map_bit image) m (last_of slices) ≡ k.0) × (1 ≤ k.0)
       is = choice_free (chosen (map_bit image) m (last_of slices)) k (choice ∙ at)
 
@@ -148,20 +148,26 @@ module _ {image block : List ℕ} {F s m : ℕ} {held slices : List ℕ} (can : 
       stretches_is : stretches_with F s k.0 block 0 ≡ stretch_count (slices ++ (choose m held (last_of slices) ∷ []))
       stretches_is = block_with can.own k.0 is.1 ∙ ap (λ (x : ℕ). stretch_count (slices ++ (x ∷ []))) (sym is.0 ∙ picked)
 
-      pub next_crowded : 127 < stretches_with F s k.0 block 0 → ChosenFrom m held slices Crowded
+      pub next_crowded : 127 < stretches_with F s k.0 block 0 → ChosenFrom m held slices (Err Crowded)
       unfolding next_of
       next_crowded x =
           let many : 127 < stretch_count (slices ++ (choose m held (last_of slices) ∷ [])) = omega (arith, stretches_is) in
           answered (rw (le-leb 1 (free_count m held) some, lt-leb (stretch_count (slices ++ (choose m held (last_of slices) ∷ []))) 127 many) refl)
 
-      pub next_at : stretches_with F s k.0 block 0 ≤ 127 → ChosenFrom m held slices (At k)
+      pub next_at : stretches_with F s k.0 block 0 ≤ 127 → ChosenFrom m held slices (Ok k)
       unfolding next_of
       next_at x =
           let few : stretch_count (slices ++ (choose m held (last_of slices) ∷ [])) ≤ 127 = omega (arith, stretches_is) in
           let e : k.0 ≡ choose m held (last_of slices) = sym is.0 ∙ picked in
-          answered (rw (le-leb 1 (free_count m held) some, le-leb (stretch_count (slices ++ (choose m held (last_of slices) ∷ []))) 127 few) (ap (λ (x : ℕ). At (record { 0 = x })) e))
+          answered (rw (le-leb 1 (free_count m held) some, le-leb (stretch_count (slices ++ (choose m held (last_of slices) ∷ []))) 127 few) (ap (λ (x : ℕ). Ok (record { 0 = x })) e))
 
 -- ---- one slice
+
+-- an error says that there is no room
+pub refused : {T E : Type 0} {image : List ℕ} {F s : ℕ} {slices more after new : List ℕ} (r : Result T E) → IsErr r → (stretch_count (slices ++ more) ≤ 127 → ⊥)
+    → TakenFrom image F s slices more after new (is_ok r)
+refused (Ok _) e none = absurd (true≢false (sym e))
+refused (Err _) e none = record { fits = fails none; marked = λ t. absurd (true≢false (sym t)); words = λ t. absurd (true≢false (sym t)) }
 
 -- a slice that is not held, put at the end of the block
 module _ {image block : List ℕ} {F s m : ℕ} {held slices : List ℕ} (can : CanTakeFrom image block F s m 1 held slices) {k : ℕ} (fresh : Fresh m 1 held (k ∷ [])) where
@@ -188,27 +194,26 @@ module _ {image block : List ℕ} {F s m : ℕ} {held slices : List ℕ} (can : 
   next = choose m held (last_of slices)
 
   -- the answer, as one is free
-  answer : next_of m held slices ≡ cond (leb (stretch_count (slices ++ (next ∷ []))) 127) (At (record { 0 = next })) Crowded
+  answer : next_of m held slices ≡ cond (leb (stretch_count (slices ++ (next ∷ []))) 127) (Ok (record { 0 = next })) (Err Crowded)
   unfolding next_of
   answer = rw (le-leb 1 (free_count m held) (omega (arith, can.enough))) refl
 
-  pub one_at : {k : Slice} → At k ≡ next_of m held slices → (k.0 ≡ next) × (stretch_count (slices ++ (next ∷ [])) ≤ 127)
+  pub one_at : {k : Slice} → Ok k ≡ next_of m held slices → (k.0 ≡ next) × (stretch_count (slices ++ (next ∷ [])) ≤ 127)
   one_at {k} e = go (leb (stretch_count (slices ++ (next ∷ []))) 127) refl (e ∙ answer)
     where
-      go : (b : Bool) → leb (stretch_count (slices ++ (next ∷ []))) 127 ≡ b → At k ≡ cond b (At (record { 0 = next })) Crowded
+      go : (b : Bool) → leb (stretch_count (slices ++ (next ∷ []))) 127 ≡ b → Ok k ≡ cond b (Ok (record { 0 = next })) (Err Crowded)
           → (k.0 ≡ next) × (stretch_count (slices ++ (next ∷ [])) ≤ 127)
       go true f g = (ap slice_of g, leb→le _ _ (rw f tt))
         where
-          slice_of : Next → ℕ
-          slice_of (At k) = k.0
-          slice_of NoneFree = 0
-          slice_of Crowded = 0
+          slice_of : Result Slice Lack → ℕ
+          slice_of (Ok k) = k.0
+          slice_of (Err _) = 0
       go false f g = let z : ◌≡◌ {A = ℕ} 0 1 = cc in absurd (omega arith)
 
-  pub one_few : stretch_count (slices ++ (next ∷ [])) ≤ 127 → next_of m held slices ≡ At (record { 0 = next })
+  pub one_few : stretch_count (slices ++ (next ∷ [])) ≤ 127 → next_of m held slices ≡ Ok (record { 0 = next })
   one_few few = answer ∙ rw (le-leb (stretch_count (slices ++ (next ∷ []))) 127 few) refl
 
-  pub took_one : {k : Slice} {after new : List ℕ} → At k ≡ next_of m held slices → after ≡ marked_used image k.0 → new ≡ appended F s k.0 block
+  pub took_one : {k : Slice} {after new : List ℕ} → Ok k ≡ next_of m held slices → after ≡ marked_used image k.0 → new ≡ appended F s k.0 block
       → TakenFrom image F s slices (taken m held (last_of slices) 1) after new true
   took_one {k} e a b =
       let is = one_at e in
@@ -226,9 +231,6 @@ pub record Left (image₀ image block : List ℕ) (F s m n r : ℕ) (held slices
   pub can : CanTakeFrom image block F s m r now_held now_slices
   pub same_image : all_used image (taken m now_held (last_of now_slices) r) ≡ all_used image₀ (taken m held (last_of slices) n)
   pub same_slices : now_slices ++ taken m now_held (last_of now_slices) r ≡ slices ++ taken m held (last_of slices) n
-
-pub left_start : {image block : List ℕ} {F s m n : ℕ} {held slices : List ℕ} → CanTakeFrom image block F s m n held slices → Left image image block F s m n n held slices
-left_start {held = held} {slices = slices} can = record { now_held = held; now_slices = slices; can = can; same_image = refl; same_slices = refl }
 
 module _ {image₀ image block : List ℕ} {F s m n r : ℕ} {held slices : List ℕ} (left : Left image₀ image block F s m n (suc r) held slices) where
   abbrev k : ℕ

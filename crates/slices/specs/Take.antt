@@ -1,6 +1,7 @@
 -- "Taking a slice: the next number after the file's last if free, else the lowest free": the next slice, and n of them on the map and in
 -- the index block; and those that a file takes, by document 02, R-6.
-use Rattle.std.specs.Prelude.{◌≡◌, Bool, true, cond, List, [], ◌∷◌, ◌++◌, ℕ, ◌≤◌, leb, length}
+use Rattle.std.specs.Prelude.{◌≡◌, Bool, true, cond, Result, Ok, Err, List, [], ◌∷◌, ◌++◌, ℕ, ◌≤◌, leb, length}
+use Rattle.types.specs.declared.Slice.{Slice}
 use Rattle.disc.specs.Decide.{Decides}
 use Rattle.disc.specs.Slices.{occurrences, InRangeOnce, free_count, choose, taken, last_of}
 use Rattle.disc.specs.Stretches.{stretch_count, sector_in}
@@ -9,8 +10,8 @@ use Rattle.disc.specs.Map.{MapOf}
 use Rattle.map.specs.Marks.{all_used}
 use Rattle.index.specs.Block.{whole_index}
 use Rattle.refine.specs.Writes.{taken_image}
-use Rattle.slices.specs.declared.Next.{Next}
-use Rattle.slices.specs.declared.Next.TheVariants.{At, NoneFree, Crowded}
+use Rattle.slices.specs.declared.Lack.{Lack}
+use Rattle.slices.specs.declared.Lack.TheVariants.{NoneFree, Crowded}
 use Rattle.slices.specs.FileBlock.{SliceBlock, FileBlock}
 
 -- The map is that of the slices `held`, the file's among them, and n slices are free.
@@ -30,27 +31,27 @@ pub record CanTake (image block : List ℕ) (F s m n : ℕ) : Type 0 where
 -- ---- the next slice
 
 -- The slice that a file with these slices takes next, if one is free and the file has at most 127 stretches with it.
-unfoldable pub next_of : ℕ → List ℕ → List ℕ → Next
+unfoldable pub next_of : ℕ → List ℕ → List ℕ → Result Slice Lack
 next_of m held slices =
     let k : ℕ = choose m held (last_of slices) in
-    cond (leb 1 (free_count m held)) (cond (leb (stretch_count (slices ++ (k ∷ []))) 127) (At (record { 0 = k })) Crowded) NoneFree
+    cond (leb 1 (free_count m held)) (cond (leb (stretch_count (slices ++ (k ∷ []))) 127) (Ok (record { 0 = k })) (Err Crowded)) (Err NoneFree)
 
 -- "Where a slice is needed: one free? 0900h; at most 127 stretches with it? 0808h", asked by an appending output: the word for each case of
 -- the answer, and what is asked of a file with these slices: 0, or the word of the first no.
-abbrev pub next_word : Next → ℕ
-next_word (At k) = 0
-next_word NoneFree = 0x0900
-next_word Crowded = 0x0808
+abbrev pub next_word : Result Slice Lack → ℕ
+next_word (Ok k) = 0
+next_word (Err NoneFree) = 0x0900
+next_word (Err Crowded) = 0x0808
 
 unfoldable pub next_asked : ℕ → List ℕ → List ℕ → ℕ
 next_asked m held slices =
     cond (leb 1 (free_count m held)) (cond (leb (stretch_count (slices ++ taken_for_file m held slices 1)) 127) 0 0x0808) 0x0900
 
-pub record ChosenFrom (m : ℕ) (held slices : List ℕ) (r : Next) : Type 0 where
+pub record ChosenFrom (m : ℕ) (held slices : List ℕ) (r : Result Slice Lack) : Type 0 where
   pub next : r ≡ next_of m held slices
   pub word : next_word r ≡ next_asked m held slices
 
-pub record Chosen (image block : List ℕ) (F s m : ℕ) (r : Next) : Type 0 where
+pub record Chosen (image block : List ℕ) (F s m : ℕ) (r : Result Slice Lack) : Type 0 where
   pub all : (held slices : List ℕ) → CanTakeFrom image block F s m 0 held slices → ChosenFrom m held slices r
 
 -- ---- n slices, one after the other

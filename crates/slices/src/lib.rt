@@ -3,24 +3,36 @@
 
 #![tactic(auto)]
 
-ghost use Rattle.std.specs.Prelude.{◌≡◌, ◌+◌, ◌*◌, ◌≤◌, ◌<◌, length};
+ghost use Rattle.std.specs.Prelude.{◌≡◌, ◌+◌, ◌*◌, ◌≤◌, ◌<◌, length, is_ok, Err};
+ghost use Rattle.types.specs.Words.{refusal_word};
 ghost use Rattle.disc.specs.Map.{ones_in_map};
 ghost use Rattle.refine.specs.Writes.{counted_free};
-ghost use Rattle.slices.specs.Take.{Chosen, CanTake, Taken, FileTaken, CanLengthen, LengthenedAt, CanLengthenFile, Lengthened};
+ghost use Rattle.slices.specs.Take.{next_word, Chosen, CanTake, Taken, FileTaken, CanLengthen, LengthenedAt, CanLengthenFile, Lengthened};
 ghost use Rattle.slices.specs.Fit.{CanFit, Fits};
 ghost use Rattle.slices.specs.Give.{CanFree, Freed, CanCut, Cut};
 ghost use Rattle.slices.specs.Zero.{CanZero, Zeroed};
 
-use index::IndexBlock;
-use map::Choice;
-use types::{Block, Sector, Slice};
+use catalog::Unit;
+use index::{IndexBlock, Reached};
+use types::{Block, Refusal, Sector, Slice};
 
-// The slice that a file takes next; none where no slice is free, or where its index block has no room for one more stretch.
-#[derive(Clone, Copy)]
-pub enum Next {
-    At(Slice),
+// Why a file cannot take one slice more: no slice is free, or its index block has no room for one more stretch.
+#[derive(Clone, Copy, Debug, PartialEq, Eq)]
+pub enum Lack {
     NoneFree,
     Crowded,
+}
+
+// The words of an appending output: "one free? 0900h; .. at most 127 stretches with it? 0808h".
+impl From<Lack> for Refusal {
+    ghost from_gives = { λ lack refusal. refusal_word refusal ≡ next_word (Err lack) };
+
+    fn from(lack: Lack) -> Refusal {
+        match lack {
+            Lack::NoneFree => Refusal::AreaFull,
+            Lack::Crowded => Refusal::UsersOrIndexFull,
+        }
+    }
 }
 
 // The index block of a file, and how many slices it is to take.
@@ -31,100 +43,71 @@ pub struct Growth {
 }
 
 // The slice that the file with this index block takes, if it takes one: the next after its last if that is free, else the lowest free.
-pub fn next_slice(image: &[u16], words: &[u16], first: Sector, s: u16, slices: u16) -> Next
-    requires { CanTake image.now words.now first.0 s slices 0 }
-    ensures { Chosen image.now words.now first.0 s slices result }
+pub fn next_slice(image: &[u16], words: &[u16], unit: Unit) -> Result<Slice, Lack>
+    requires { CanTake image.now words.now unit.first.0 unit.slice unit.slices 0 }
+    ensures { Chosen image.now words.now unit.first.0 unit.slice unit.slices result }
 {
-    let last = index::last_slice_at(words, Sector(0), first, s);
-    let Choice::Free(k) = map::choose_slice(image, last, slices) else {
-        return Next::NoneFree;
+    let last = index::last_slice_at(words, Sector(0), unit.first, unit.slice);
+    let Some(k) = map::choose_slice(image, last, unit.slices) else {
+        return Err(Lack::NoneFree);
     };
-    if 127 < index::stretches_with_at(words, Sector(0), first, s, k) {
-        return Next::Crowded;
+    if 127 < index::stretches_with_at(words, Sector(0), unit.first, unit.slice, k) {
+        return Err(Lack::Crowded);
     }
-    Next::At(k)
+    Ok(k)
 }
 
-// Takes the next slice: marks it used and puts it at the end of the block. False where the block has no room for it.
-fn take_one(image: &mut [u16], words: &mut [u16], first: Sector, s: u16, slices: u16) -> bool
-    requires { CanTake image.old words.old first.0 s slices 1 }
-    ensures { Taken image.old words.old first.0 s slices 1 image.new words.new result }
+// Takes the next slice: marks it used and puts it at the end of the block.
+fn take_one(image: &mut [u16], words: &mut [u16], unit: Unit) -> Result<(), Lack>
+    requires { CanTake image.old words.old unit.first.0 unit.slice unit.slices 1 }
+    ensures { Taken image.old words.old unit.first.0 unit.slice unit.slices 1 image.new words.new (is_ok result) }
 {
-    let Next::At(k) = next_slice(image, words, first, s, slices) else {
-        return false;
-    };
+    let k = next_slice(image, words, unit)?;
     map::mark_used(image, k);
-    index::append_slice(words, first, s, k);
-    true
+    index::append_slice(words, unit.first, unit.slice, k);
+    Ok(())
 }
 
-// Takes n slices, one after the other: the one loop for slices on the image and for those that are only tried. It stops, with false, where
-// the block has no room.
-fn take_slices(
-    image: &mut [u16],
-    words: &mut [u16],
-    first: Sector,
-    s: u16,
-    slices: u16,
-    n: u16,
-) -> bool
-    requires { CanTake image.old words.old first.0 s slices n }
-    ensures { Taken image.old words.old first.0 s slices n image.new words.new result }
+// Takes n slices, one after the other: the one loop for slices on the image and for those that are only tried. It stops where the block
+// has no room.
+fn take_slices(image: &mut [u16], words: &mut [u16], unit: Unit, n: u16) -> Result<(), Lack>
+    requires { CanTake image.old words.old unit.first.0 unit.slice unit.slices n }
+    ensures { Taken image.old words.old unit.first.0 unit.slice unit.slices n image.new words.new (is_ok result) }
 {
-    let mut j: u16 = 0;
-    while j < n {
-        if !take_one(image, words, first, s, slices) {
-            return false;
-        }
-        j += 1;
+    for _ in 0..n {
+        take_one(image, words, unit)?;
     }
-    true
+    Ok(())
 }
 
 // Takes n slices for a file. One that has none takes the lowest stretch of n neighbouring free slices, if there is one: its first slice is
 // that of the stretch, and the others are the next ones. All else is taken one after the other.
-fn take_for_file(
-    image: &mut [u16],
-    words: &mut [u16],
-    first: Sector,
-    s: u16,
-    slices: u16,
-    n: u16,
-) -> bool
-    requires { CanTake image.old words.old first.0 s slices n }
-    ensures { FileTaken image.old words.old first.0 s slices n image.new words.new result }
+fn take_for_file(image: &mut [u16], words: &mut [u16], unit: Unit, n: u16) -> Result<(), Lack>
+    requires { CanTake image.old words.old unit.first.0 unit.slice unit.slices n }
+    ensures { FileTaken image.old words.old unit.first.0 unit.slice unit.slices n image.new words.new (is_ok result) }
 {
-    if n == 0 || index::pair_count(words, Sector(0)) != 0 {
-        return take_slices(image, words, first, s, slices, n);
+    if 0 < n
+        && index::pair_count(words, Sector(0)) == 0
+        && let Some(k) = map::lowest_stretch(image, n)
+    {
+        map::mark_used(image, k);
+        index::append_slice(words, unit.first, unit.slice, k);
+        return take_slices(image, words, unit, n - 1);
     }
-    let Choice::Free(k) = map::lowest_stretch(image, n) else {
-        return take_slices(image, words, first, s, slices, n);
-    };
-    map::mark_used(image, k);
-    index::append_slice(words, first, s, k);
-    take_slices(image, words, first, s, slices, n - 1)
+    take_slices(image, words, unit, n)
 }
 
 // Whether a catalog and then a file have room for the slices that they are to take: both take them on a copy of the map, sector 9.
-pub fn fits(
-    image: &[u16],
-    catalog: Growth,
-    file: Growth,
-    first: Sector,
-    s: u16,
-    slices: u16,
-) -> bool
-    requires { CanFit image.now first.0 s slices catalog file }
-    ensures { Fits image.now first.0 s slices catalog file result }
+pub fn fits(image: &[u16], catalog: Growth, file: Growth, unit: Unit) -> bool
+    requires { CanFit image.now unit.first.0 unit.slice unit.slices catalog file }
+    ensures { Fits image.now unit.first.0 unit.slice unit.slices catalog file result }
 {
     let mut scratch = [0u16; 2560];
     words::copy_words(image, 2304, &mut scratch, 2304, 256);
     let mut words = catalog.block.words;
-    if !take_slices(&mut scratch, &mut words, first, s, slices, catalog.more) {
-        return false;
-    }
     let mut others = file.block.words;
-    take_for_file(&mut scratch, &mut others, first, s, slices, file.more)
+    take_slices(&mut scratch, &mut words, unit, catalog.more).is_ok()
+        && take_for_file(&mut scratch, &mut others, unit, file.more).is_ok()
 }
 
 // Takes n slices, for which there is room, one after the other: for the catalog whose index block, given and changed, stands in sector q;
@@ -132,47 +115,34 @@ pub fn fits(
 pub fn take_at(
     image: &mut [u16],
     q: Sector,
-    block: IndexBlock,
-    first: Sector,
-    s: u16,
-    slices: u16,
+    mut block: IndexBlock,
+    unit: Unit,
     n: u16,
 ) -> IndexBlock
-    requires { (q.0 * 256 + 256 ≤ length image.old) × CanLengthen image.old block.words first.0 s slices n }
-    ensures { LengthenedAt image.old block.words q.0 first.0 s slices n image.new result.words }
+    requires { (q.0 * 256 + 256 ≤ length image.old) × CanLengthen image.old block.words unit.first.0 unit.slice unit.slices n }
+    ensures { LengthenedAt image.old block.words q.0 unit.first.0 unit.slice unit.slices n image.new result.words }
 {
     if n == 0 {
         return block;
     }
-    let mut words = block.words;
-    take_slices(image, &mut words, first, s, slices, n);
-    let longer = IndexBlock { words: words };
-    index::store_block(image, q, longer);
-    longer
+    let _ = take_slices(image, &mut block.words, unit, n);
+    index::store_block(image, q, block);
+    block
 }
 
 // The same for an ordinary file, by the choice for files; its index block goes to the first sector of its first slice: a new one, if it had
-// none.
-pub fn take_more(
-    image: &mut [u16],
-    block: IndexBlock,
-    first: Sector,
-    s: u16,
-    slices: u16,
-    n: u16,
-) -> IndexBlock
-    requires { CanLengthenFile image.old block.words first.0 s slices n }
-    ensures { Lengthened image.old block.words first.0 s slices n image.new result.words }
+// none. Apart from `take_at`, since another choice is made and the block goes elsewhere.
+pub fn take_more(image: &mut [u16], mut block: IndexBlock, unit: Unit, n: u16) -> IndexBlock
+    requires { CanLengthenFile image.old block.words unit.first.0 unit.slice unit.slices n }
+    ensures { Lengthened image.old block.words unit.first.0 unit.slice unit.slices n image.new result.words }
 {
     if n == 0 {
         return block;
     }
-    let mut words = block.words;
-    take_for_file(image, &mut words, first, s, slices, n);
-    let longer = IndexBlock { words: words };
-    let q = index::block_sector(longer, 0, Block(0));
-    index::store_block(image, q, longer);
-    longer
+    let _ = take_for_file(image, &mut block.words, unit, n);
+    let q = index::block_sector(block, 0, Block(0));
+    index::store_block(image, q, block);
+    block
 }
 
 // Marks the slices from number `keep` on (counted from 0) free, of a file with `total` of them; its index block is given.
@@ -187,15 +157,14 @@ pub fn free_slices(
     requires { CanFree image.old block.words first.0 s total }
     ensures { Freed image.old block.words first.0 s keep total image.new }
 {
-    let mut j = keep;
-    let mut pair: usize = 0;
-    let mut before: u32 = 0;
-    while j < total {
-        let at = index::sector_along(&block.words, pair, before, s as u32 * j as u32);
+    let mut at = Reached {
+        sector: Sector(0),
+        pair: 0,
+        before: 0,
+    };
+    for j in keep..total {
+        at = index::sector_along(&block.words, at.pair, at.before, s as u32 * j as u32);
         map::mark_free(image, numbers::slice_from(first, s, at.sector));
-        pair = at.pair;
-        before = at.before;
-        j += 1;
     }
 }
 
@@ -203,24 +172,22 @@ pub fn free_slices(
 pub fn give_back(
     image: &mut [u16],
     block: IndexBlock,
-    first: Sector,
-    s: u16,
+    unit: Unit,
     keep: u16,
     total: u16,
 ) -> IndexBlock
-    requires { CanCut image.old block.words first.0 s total }
-    ensures { Cut image.old block.words first.0 s keep total image.new result.words }
+    requires { CanCut image.old block.words unit.first.0 unit.slice total }
+    ensures { Cut image.old block.words unit.first.0 unit.slice keep total image.new result.words }
 {
     if total <= keep {
         return block;
     }
-    free_slices(image, block, first, s, keep, total);
-    let cut = index::cut_block(block, s, keep);
-    if keep == 0 {
-        return cut;
+    free_slices(image, block, unit.first, unit.slice, keep, total);
+    let cut = index::cut_block(block, unit.slice, keep);
+    if 0 < keep {
+        let q = index::block_sector(block, 0, Block(0));
+        index::store_block(image, q, cut);
     }
-    let q = index::block_sector(block, 0, Block(0));
-    index::store_block(image, q, cut);
     cut
 }
 
@@ -229,15 +196,14 @@ pub fn zero_sectors(image: &mut [u16], block: IndexBlock, from: u16, n: u16)
     requires { CanZero image.old block.words from n }
     ensures { Zeroed image.old block.words from n image.new }
 {
-    let mut j: u16 = 0;
-    let mut pair: usize = 0;
-    let mut before: u32 = 0;
-    while j < n {
-        let at = index::sector_along(&block.words, pair, before, from as u32 + j as u32);
+    let mut at = Reached {
+        sector: Sector(0),
+        pair: 0,
+        before: 0,
+    };
+    for j in 0..n {
+        at = index::sector_along(&block.words, at.pair, at.before, from as u32 + j as u32);
         words::clear_sector(image, at.sector);
-        pair = at.pair;
-        before = at.before;
-        j += 1;
     }
 }
 

@@ -1,13 +1,11 @@
 -- What a search of SYS finds, by the numbers of its places.
-use Rattle.std.proofs.Common.{◌≡◌, ℕ, ◌*◌, ◌≤◌, List, length, sym, refl, ap, ◌∙◌, ap₂, arith}
+use Rattle.std.proofs.Common.{◌≡◌, ℕ, ◌*◌, ◌≤◌, List, length, sym, refl, ap, ◌∙◌, ap₂, arith, Option, Some, None}
 use Rattle.disc.specs.Names.{key_of}
 use Rattle.disc.specs.Stretches.{block_sector, sys_from}
 use Rattle.disc.specs.Entries.{name_at}
 use Rattle.disc.proofs.IndexLaws.{slices_at_above}
 use Rattle.catalog.specs.declared.Catalog.{Catalog}
 use Rattle.catalog.specs.declared.Place.{Place}
-use Rattle.catalog.specs.declared.Found.{Found}
-use Rattle.catalog.specs.declared.Found.TheVariants.{At, Nothing}
 use Rattle.catalog.specs.Catalog.{sys_value, place_named, NamePlace}
 use Rattle.catalog.proofs.PlaceLaws.{LiesIn, FirstWith, NoneWith, named_at, named_nothing}
 use Rattle.kit.specs.declared.Geometry.{Geometry}
@@ -44,12 +42,12 @@ FirstNamed image g L n p =
 abbrev pub NoneNamed : List ℕ → Geometry → ℕ → ℕ → Type 0
 NoneNamed image g L n = NoneWith (λ t. name_at (places_in image g) t ≡ n) g.keys L (key_of g.keys n)
 
-module _ {image : List ℕ} {g : Geometry} {c : Catalog} (sys : SysIn image g c) {n m : ℕ} (same : n ≡ m) {r : Found} (found : NamePlace image c n r) where
-  sought : {f : Found} → r ≡ f → place_named image (sys_value g.keys c.layers) m ≡ f
+module _ {image : List ℕ} {g : Geometry} {c : Catalog} (sys : SysIn image g c) {n m : ℕ} (same : n ≡ m) {r : Option Place} (found : NamePlace image c n r) where
+  sought : {f : Option Place} → r ≡ f → place_named image (sys_value g.keys c.layers) m ≡ f
   sought e = sym (found.place ∙ ap₂ (place_named image) sys.is same) ∙ e
 
-  pub sys_at_lem : {p : Place} → r ≡ At p → FirstNamed image g c.layers m p
+  pub sys_at_lem : {p : Place} → r ≡ Some p → FirstNamed image g c.layers m p
   sys_at_lem {p} e = named_at image (sys_value g.keys c.layers) g.first.0 g.slice (sys_slices image g) (sys_lies sys.sys sys.room) m sys.sys.unit.limits.keys_low p (sought e)
 
-  pub sys_none : r ≡ Nothing → NoneNamed image g c.layers m
+  pub sys_none : r ≡ None → NoneNamed image g c.layers m
   sys_none e = named_nothing image (sys_value g.keys c.layers) g.first.0 g.slice (sys_slices image g) (sys_lies sys.sys sys.room) m sys.sys.unit.limits.keys_low (sought e)

@@ -1,5 +1,5 @@
 -- The names are sound exactly if every place is legal, SYS and MAP were met, and every name is alone.
-use Rattle.std.proofs.Common.{◌≡◌, ℕ, ◌/◌, ◌%◌, ◌<◌, ◌≤◌, List, sym, ap, ◌∙◌, arith, lit<}
+use Rattle.std.proofs.Common.{◌≡◌, ℕ, ◌/◌, ◌%◌, ◌<◌, ◌≤◌, List, sym, ap, ◌∙◌, arith, lit<, Option, Some, None}
 use Rattle.disc.specs.Names.{key_of, SYS, MAP}
 use Rattle.disc.specs.Entries.{place_count, name_at, sys_entry}
 use Rattle.disc.specs.Catalog as disc
@@ -7,8 +7,6 @@ use Rattle.sound.specs.Places.{Used, Entered}
 use Rattle.sound.specs.Parts.{SoundNames}
 use Rattle.catalog.specs.declared.Catalog.{Catalog}
 use Rattle.catalog.specs.declared.Place.{Place}
-use Rattle.catalog.specs.declared.Found.{Found}
-use Rattle.catalog.specs.declared.Found.TheVariants.{At, Nothing}
 use Rattle.catalog.specs.Catalog.{NamePlace}
 use Rattle.kit.specs.declared.Geometry.{Geometry}
 use Rattle.sound_entries.specs.Sys.{places_in, SysIn}
@@ -83,14 +81,14 @@ module _ (image : List ℕ) (H s F : ℕ) (c : disc.Catalog) where
 -- ---- what the search for SYS or MAP says, where every place is legal
 
 module _ {image : List ℕ} {g : Geometry} {c : Catalog} (sys : SysIn image g c) {count : ℕ} (all : count ≡ place_count g.keys c.layers)
-    {n x : ℕ} (same : n ≡ x) {r : Found} (found : NamePlace image c n r) where
+    {n x : ℕ} (same : n ≡ x) {r : Option Place} (found : NamePlace image c n r) where
   abbrev places : ℕ → ℕ → ℕ
   places = places_in image g
 
-  pub met : {p : Place} → r ≡ At p → Met places x count
+  pub met : {p : Place} → r ≡ Some p → Met places x count
   met e = let f = sys_at_lem sys same found e in record { place = f.place; inside = omega (arith, f.inside); named = f.has }
 
-  pub not_met : {own : List ℕ} → 1 ≤ x → PlacesLegal places g.keys own count → r ≡ Nothing → Met places x count → ⊥
+  pub not_met : {own : List ℕ} → 1 ≤ x → PlacesLegal places g.keys own count → r ≡ None → Met places x count → ⊥
   not_met some l e m =
       let key = (l.each m.place m.inside).key (named_used places m.place (omega (arith, m.named))) in
       (sys_none sys same found e).lacks m.place (omega (arith, m.inside)) (key ∙ ap (key_of g.keys) m.named) m.named

@@ -1,16 +1,19 @@
 -- Laws of one place: what its first word, its name and its key say of it.
-use Rattle.std.proofs.Common.{◌≡◌, ℕ, ◌/◌, ◌<◌, Bool, true, false, ◌||◌, T, eqb, List, sym, refl, ap, ◌∙◌, subst, arith, lit<, eqb-true}
+use Rattle.std.proofs.Common.{◌≡◌, ℕ, ◌/◌, ◌<◌, Bool, true, false, T, eqb, List, length, get_or, sym, ap, ◌∙◌, subst, arith, lit<, eqb-true}
 use mathlib.Core.Path.{subst⁻¹}
-use borrow.Author.Tests.{eqb-false}
+use lib.Pointwise.{pointwise}
+use Rattle.std.proofs.lemmas.Bool.Decides.{Decides-eqb}
+use Rattle.std.proofs.lemmas.Grind.{same_number_lists}
+use Rattle.std.proofs.lemmas.Slice.Eq.{slice_eq-Decides}
 use Rattle.types.specs.declared.Name.{Name}
 use Rattle.disc.specs.Decide.{Decides}
-use Rattle.disc.specs.Names.{legal_name, key_of, SYS, MAP, packed}
+use Rattle.disc.specs.Names.{legal_name, key_of, SYS, packed}
 use Rattle.disc.specs.Entries.{name_at, system_entry}
 use Rattle.disc.proofs.DecideLaws.{true≢false}
 use Rattle.names.specs.NameIs.{NameIs}
 use Rattle.sound.specs.Places.{Unused, Used}
 use Rattle.sound_entries.specs.declared.Expected.{Expected}
-use Rattle.sound_entries.specs.Legal.{NameIn, HoldsEntry, own_entry, SystemLegal, PlaceLegal}
+use Rattle.sound_entries.specs.Legal.{place_of, NameIn, HoldsEntry, own_entry, SystemLegal, PlaceLegal}
 
 pub T_of : {b : Bool} → b ≡ true → T b
 T_of e = subst⁻¹ T e tt
@@ -21,14 +24,6 @@ T_not e h = subst T e h
 -- a name whose first character is 0 is not legal
 pub legal_first : (n : ℕ) → T (legal_name n) → n / 0x10000000000 ≡ 0 → ⊥
 legal_first n h e = rw e at h
-
--- a word that is the first of neither SYS nor MAP
-pub other_first : {r : Bool} (w : ℕ) → r ≡ eqb w 0x5359 || eqb w 0x4D41 → r ≡ false → (w ≡ 0x5359 → ⊥) × (w ≡ 0x4D41 → ⊥)
-other_first w e f = let n = neither (eqb w 0x5359) (eqb w 0x4D41) (sym e ∙ f) in (eqb-false w 0x5359 n.0, eqb-false w 0x4D41 n.1)
-  where
-    neither : (a b : Bool) → a || b ≡ false → (a ≡ false) × (b ≡ false)
-    neither true b h = absurd (true≢false h)
-    neither false b h = (refl, h)
 
 module _ {P : ℕ → ℕ → ℕ} {t : ℕ} where
   pub name_packed : {name : Name} → NameIn P t name → packed name ≡ name_at P t
@@ -45,9 +40,8 @@ module _ {P : ℕ → ℕ → ℕ} {t : ℕ} where
   pub unused_name : Unused P t → name_at P t ≡ 0
   unused_name u = omega (arith, u.zero 0 (lit< tt), u.zero 1 (lit< tt), u.zero 2 (lit< tt))
 
-  -- ---- SYS and MAP
+  -- ---- a place named SYS, with the entry by which it is judged
 
-  -- a place named SYS, or MAP, with the entry by which it is judged
   module _ {name other : Name} {m : Bool} (n : NameIn P t name) (test : m ≡ eqb (packed name) (packed other)) where
     pub judged_sys : {r : Bool} (expected : Expected) → NameIs other SYS → m ≡ true
         → Decides r (HoldsEntry P t (system_entry (packed name) expected.size expected.catalog.index.0 expected.reserved)) → Decides r (SystemLegal P (own_entry expected) t)
@@ -61,35 +55,8 @@ module _ {P : ℕ → ℕ → ℕ} {t : ℕ} where
           not = λ z l. h.not z (l.sys_words f);
         }
 
-    pub judged-map : {r : Bool} {sys : List ℕ} → NameIs other MAP → m ≡ true
-        → Decides r (HoldsEntry P t (system_entry (packed name) 1 7 1)) → Decides r (SystemLegal P sys t)
-    judged-map {r} o y d =
-        let e : packed name ≡ MAP = eqb-true _ _ (sym test ∙ y) ∙ o.packed in
-        let h = subst (λ (x : ℕ). Decides r (HoldsEntry P t (system_entry x 1 7 1))) e d in
-        let f : name_at P t ≡ MAP = sym (name_packed n) ∙ e in
-        record {
-          yes = λ z. record { sys_words = λ x. absurd (omega arith); map_words = λ _. h.yes z };
-          not = λ z l. h.not z (l.map_words f);
-        }
-
-    pub other_name : {x : ℕ} → NameIs other x → m ≡ false → name_at P t ≡ x → ⊥
-    other_name o y e = eqb-false _ _ (sym test ∙ y) (name_packed n ∙ e ∙ sym o.packed)
-
-  pub ordinary : {sys : List ℕ} → (name_at P t ≡ SYS → ⊥) → (name_at P t ≡ MAP → ⊥) → SystemLegal P sys t
-  ordinary a b = record { sys_words = λ e. absurd (a e); map_words = λ e. absurd (b e) }
-
   -- ---- a whole place
   module _ {H k : ℕ} {sys : List ℕ} where
-    -- a place whose first word is 0 is legal exactly if it is unused
-    pub judged_unused : {name : Name} {r : Bool} → NameIn P t name → name.0 ≡ 0 → Decides r (Unused P t) → Decides r (PlaceLegal P H k sys t)
-    judged_unused n z d = record {
-      yes = λ y.
-          let u = d.yes y in
-          let e = unused_name u in
-          record { name = λ x. absurd (x u); key = λ x. absurd (x u); system = ordinary (λ s. omega arith) (λ m. omega arith) };
-      not = λ y p. zero_unused n p z (d.not y);
-    }
-
     -- a used place: its name, its key, and the rest
     module _ {name : Name} (n : NameIn P t name) (used : Used P t) where
       pub judged_name : {r : Bool} → r ≡ legal_name (packed name) → r ≡ false → PlaceLegal P H k sys t → ⊥
@@ -110,6 +77,18 @@ module _ {P : ℕ → ℕ → ℕ} {t : ℕ} where
                 };
             not = λ y p. d.not y p.system;
           }
+
+-- ---- a place alone, by its words
+
+-- `==` of the words of a place and those of an entry
+pub words_are : {r : Bool} (words entry : List ℕ) → length words ≡ 16 → length entry ≡ 16 → r ≡ pointwise eqb words entry
+    → Decides r (HoldsEntry (place_of words) 0 entry)
+words_are {r} words entry long full e =
+    let d = slice_eq-Decides Decides-eqb words entry r e in
+    record {
+      yes = λ y. record { at = λ w h. ap (λ (l : List ℕ). get_or l w 0) (d.0 y) };
+      not = λ n p. true≢false (sym (d.1 (same_number_lists words entry (long ∙ sym full) (λ k h. p.at k (omega arith)))) ∙ n);
+    }
 
 -- ---- the same words in another array of places
 

@@ -1,7 +1,6 @@
 -- A legal place, by its words: of a sector, of a run of sectors, of all of SYS.
-use Rattle.std.specs.Prelude.{◌≡◌, ℕ, ◌+◌, ◌*◌, ◌/◌, ◌%◌, ◌<◌, ◌≤◌, T, List, slice_index}
+use Rattle.std.specs.Prelude.{◌≡◌, ℕ, ◌*◌, ◌/◌, ◌%◌, ◌<◌, ◌≤◌, T, List, slice_index}
 use Rattle.types.specs.declared.Name.{Name}
-use Rattle.disc.specs.Words.{word}
 use Rattle.disc.specs.Names.{legal_name, key_of, SYS, MAP}
 use Rattle.disc.specs.Entries.{name_at, system_entry, map_entry}
 use Rattle.sound.specs.Places.{Used}
@@ -9,9 +8,9 @@ use Rattle.kit.specs.declared.Geometry.{Geometry}
 use Rattle.sound_entries.specs.declared.Expected.{Expected}
 use Rattle.sound_entries.specs.Sys.{SysIn}
 
--- The sixteen places of sector q: "Entry, 16 words".
-abbrev pub sector_places : List ℕ → ℕ → ℕ → ℕ → ℕ
-sector_places image q i w = word image q (i * 16 + w)
+-- A place alone, whatever its number, by its words: "Entry, 16 words".
+abbrev pub place_of : List ℕ → ℕ → ℕ → ℕ
+place_of words t w = slice_index words w
 
 -- A name of the code is the one in place t.
 pub record NameIn (P : ℕ → ℕ → ℕ) (t : ℕ) (name : Name) : Type 0 where

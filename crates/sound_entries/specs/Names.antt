@@ -1,12 +1,11 @@
 -- The names in SYS's first `count` places: legal, entered, alone; and the number of SYS's layers.
-use Rattle.std.specs.Prelude.{◌≡◌, ℕ, ◌*◌, ◌/◌, ◌<◌, ◌≤◌, cond, ◌&&◌, List, length, ◌==◌, ◌≢◌}
+use Rattle.std.specs.Prelude.{◌≡◌, ℕ, ◌*◌, ◌/◌, ◌<◌, ◌≤◌, cond, ◌&&◌, List, length, ◌==◌, Option, Some, None, IfSome}
+use Rattle.catalog.specs.declared.Place.{Place}
 use Rattle.disc.specs.Numbers.{ceil_div}
 use Rattle.disc.specs.Names.{SYS, MAP}
 use Rattle.disc.specs.Entries.{name_at}
 use Rattle.sound.specs.Places.{Used}
 use Rattle.catalog.specs.declared.Catalog.{Catalog}
-use Rattle.catalog.specs.declared.Found.{Found}
-use Rattle.catalog.specs.declared.Found.TheVariants.{At, Nothing}
 use Rattle.catalog.specs.Catalog.{sys_value, entry_word, place_named}
 use Rattle.kit.specs.declared.Geometry.{Geometry}
 use Rattle.sound_entries.specs.Sys.{sys_slices, SysNames}
@@ -28,23 +27,23 @@ pub record NamesLegal (P : ℕ → ℕ → ℕ) (H : ℕ) (sys : List ℕ) (coun
 pub record NamesAlone (P : ℕ → ℕ → ℕ) (count : ℕ) : Type 0 where
   pub alone : (t u : ℕ) → t < count → u < count → Used P t → Used P u → name_at P t ≡ name_at P u → t ≡ u
 
--- "SYS has length H times L and H times L / s slices, rounded up": L by the length, where SYS has `count` slices; 0 if there is no such L.
-abbrev pub layers_by : ℕ → ℕ → ℕ → ℕ → ℕ
-layers_by H s count size = cond (size / H * H == size && ceil_div size s == count) (size / H) 0
+-- "SYS has length H times L and H times L / s slices, rounded up": L by the length, where SYS has `count` slices; none if there is no such L.
+abbrev pub layers_by : ℕ → ℕ → ℕ → ℕ → Option ℕ
+layers_by H s count size = cond (size / H * H == size && ceil_div size s == count) (Some (size / H)) None
 
 -- SYS with all complete layers that fit its slices: "SYS has H times L sectors".
 abbrev pub full_sys : List ℕ → Geometry → Catalog
 full_sys image g = sys_value g.keys (g.slice * length (sys_slices image g) / g.keys)
 
--- L as SYS's own entry says it, in the place where a search found it; 0 if it found none.
-abbrev pub layers_in : List ℕ → Geometry → Found → ℕ
-layers_in image g (At place) = layers_by g.keys g.slice (length (sys_slices image g)) (entry_word image place 7)
-layers_in image g Nothing = 0
+-- L as SYS's own entry says it, in the place where a search found it; none if it found none.
+abbrev pub layers_in : List ℕ → Geometry → Option Place → Option ℕ
+layers_in image g (Some place) = layers_by g.keys g.slice (length (sys_slices image g)) (entry_word image place 7)
+layers_in image g None = None
 
--- r is read from the first place named SYS. So it is a number of layers that fits SYS's slices, or 0; and no other number of layers
--- has sound names.
-pub record LayersOf (image : List ℕ) (g : Geometry) (r : ℕ) : Type 0 where
+-- r is read from the first place named SYS. So it is a number of layers that fits SYS's slices, or none; and no other number of
+-- layers has sound names.
+pub record LayersOf (image : List ℕ) (g : Geometry) (r : Option ℕ) : Type 0 where
   pub read : r ≡ layers_in image g (place_named image (full_sys image g) SYS)
-  pub fits : (r ≢ 0) → (1 ≤ r) × (length (sys_slices image g) ≡ ceil_div (g.keys * r) g.slice)
+  pub fits : IfSome r (λ L. (1 ≤ L) × (length (sys_slices image g) ≡ ceil_div (g.keys * L) g.slice))
   pub only : (L : ℕ) → 1 ≤ L → length (sys_slices image g) ≡ ceil_div (g.keys * L) g.slice
-      → SysNames image g L → r ≡ L
+      → SysNames image g L → r ≡ Some L

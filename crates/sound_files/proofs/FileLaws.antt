@@ -1,39 +1,33 @@
 -- Laws of one file: its booked numbers, its index block, all its rules, and that they are those of a sound unit.
 use mathlib.Core.Path.{◌≡◌, refl, sym, ap, ◌∙◌, subst}
 use mathlib.Core.Bool.{Bool, true, false}
-use mathlib.Core.Bool as B
-use mathlib.Core.List.{List, ◌++◌, append-nil}
-use mathlib.Core.Option.{Option, some}
+use mathlib.Core.List.{List, append-nil}
+use mathlib.Core.Option as maybe
+use mathlib.Core.Option.{none, some}
+use Rattle.std.specs.Prelude.{Option, Some, None, MatchOption}
+use Rattle.std.specs.Bool.{then_some}
 use Prim.Native.Nat.{ℕ, zero, suc, ◌*◌, ◌/◌, ◌≤◌}
-use native.Mathlib.Nat.{add-zero, mul_comm, mul-div_cancel_left}
-use native.Mathlib.Omega.{arith}
-use lib.Dec.{T, eqb}
-use lib.ListN.{length, get_or, get_or-eq_default}
+use native.Mathlib.Nat.{mul_comm, mul-div_cancel_left}
+use lib.Dec.{eqb}
 use borrow.Author.Tests.{eqb-true, eqb-false}
 use Rattle.types.specs.declared.Area.{Area}
 use Rattle.types.specs.declared.State.{State}
 use Rattle.disc.specs.Decide.{Decides}
 use Rattle.disc.specs.Numbers.{need}
-use Rattle.disc.specs.Words.{word}
-use Rattle.disc.specs.Slices.{InRangeOnce}
 use Rattle.disc.specs.Entries.{name_at}
-use Rattle.disc.specs.Attributes.{legal_attributes, legal_with}
-use Rattle.disc.proofs.Compare.{below_or}
-use Rattle.disc.proofs.DecideLaws.{true≢false, decides_eq}
+use Rattle.disc.proofs.DecideLaws.{decides_eq}
 use Rattle.kit.specs.declared.Geometry.{Geometry}
-use Rattle.kit.specs.Geometry.{UnitOf}
 use Rattle.marks.specs.declared.Indexed.{Indexed}
-use Rattle.marks.specs.Marked.{Marked}
-use Rattle.marks.specs.Indexed.{IndexMarking}
-use Rattle.marks.proofs.MarkLaws.{refuses}
-use Rattle.sound.specs.Places.{slices_from, OwnIndex, index_if, Booked}
+use Rattle.marks.specs.Indexed.{PairsMarking, IndexMarking}
+use Rattle.marks.proofs.MarkLaws.{marks, refuses}
+use Rattle.sound.specs.Places.{index_if, Booked}
 use Rattle.sound.specs.State.{open_area, live_index, live_length}
 use Rattle.sound.specs.Sound.{SoundFile}
-use Rattle.sound_files.specs.declared.Live.{Live}
+use Rattle.sound_files.specs.declared.files.Live.{Live}
 use Rattle.sound_files.specs.declared.Entry.{Entry}
 use Rattle.sound_files.specs.Live.{live_of, index_by, length_by}
-use Rattle.sound_files.specs.Rules.{FileNumbers, FileRules, DataSector, OwnMarking, FileMarking}
-use Rattle.sound_files.proofs.LiveLaws.{index_of_lem, length_of_lem, live_shut, live_open}
+use Rattle.sound_files.specs.Rules.{FileNumbers, FileRules, OwnMarking, FileMarking}
+use Rattle.sound_files.proofs.LiveLaws.{index_of_lem, length_of_lem}
 
 -- ---- the numbers of an entry beside an open area process
 
@@ -59,96 +53,53 @@ module _ {s size index reserved len q count : ℕ} (pos : 1 ≤ s) where
       (λ i. record { slices = reserved / s; sectors = sym whole ∙ mul_comm (reserved / s) s; length_low = short; slices_low = few; covered = enough; at = i ∙ sym e })
       (λ b. b.at ∙ ap (λ (n : ℕ). index_if n q) (booked_own b) ∙ e)
 
--- ---- all numbers of an entry
-
-module _ {s : ℕ} {entry : Entry} {live : Live} {count : ℕ} (allowed : T (legal_attributes entry.attributes)) (only : T (legal_with entry.attributes count))
-    (short : length_by live entry.size ≤ 32767) (enough : need s (length_by live entry.size) ≤ count) where
-  pub numbers_open : {r : Bool} → live.opened ≡ true → Decides r (Booked s entry.size entry.index.0 entry.reserved live.length live.index.0 count)
-      → Decides r (FileNumbers s entry live count)
-  numbers_open o d = record {
-    yes = λ y. record { allowed = allowed; entry_only = only; short = short; covered = enough; closed = λ f. absurd (true≢false (sym o ∙ f)); booked = λ _. d.yes y };
-    not = λ y n. d.not y (n.booked o);
-  }
-
-  pub numbers_closed : live.opened ≡ false → Decides (eqb entry.reserved (s * count)) (FileNumbers s entry live count)
-  numbers_closed o = decides_eq entry.reserved (s * count)
-      (λ e. record { allowed = allowed; entry_only = only; short = short; covered = enough; closed = λ _. e; booked = λ f. absurd (true≢false (sym f ∙ o)) })
-      (λ n. n.closed o)
-
 -- ---- the index block
 
 module _ {image : List ℕ} {g : Geometry} where
-  pub own_none : {before : List ℕ} {q : ℕ} (r : Indexed) → q ≡ 0 → r.good ≡ true → r.slices ≡ 0 → OwnMarking image g q before before r
-  own_none {before} {q} r z good count = subst (λ (n : ℕ). OwnMarking image g n before before r) (sym z) (record {
-    marking = λ held k. record {
-      yes = λ _. let e = append-nil held in (λ d. absurd (d refl), rw e k.once, rw e k.is);
-      not = λ e. absurd (true≢false (sym good ∙ e));
-    };
-    slices = λ _. count;
+  pub own_none : {before : List ℕ} {q : ℕ} → q ≡ 0 → OwnMarking image g q before before (Some 0)
+  own_none {before} {q} z = subst (λ (n : ℕ). OwnMarking image g n before before (Some 0)) (sym z) (record {
+    marking = λ held k. marks (λ d. absurd (d refl)) (rw append-nil k);
+    slices = refl;
   })
 
-  pub own_some : {before after : List ℕ} (q : ℕ) {found : Indexed} (r : Indexed) → (q ≡ 0 → ⊥) → IndexMarking image g q before after found
-      → r.good ≡ eqb found.start.0 q → r.slices ≡ found.slices → OwnMarking image g q before after r
-  own_some zero r d found good count = absurd (d refl)
-  own_some {before} {after} (suc q) {found} r d m good count = record {
-    marking = λ held k. record {
-      yes = λ e.
-          let f = start_is e in
-          let y = (m.marking held k.is k.once).yes (is_good f) in
-          (λ _. record { block = y.0; first = sym (m.start (is_good f)) ∙ f }, y.1, y.2);
-      not = λ e own once. go found.good refl (λ f. eqb-false found.start.0 (suc q) (sym good ∙ e) f) held k (own d) once;
-    };
-    slices = λ e. count ∙ m.slices (is_good (start_is e));
+  -- the block is refused
+  pub own_refused : {before after : List ℕ} (q : ℕ) → (q ≡ 0 → ⊥) → IndexMarking image g q before after None → OwnMarking image g q before after None
+  own_refused zero d m = absurd (d refl)
+  own_refused (suc q) d m = record {
+    marking = λ held k. refuses (λ own once. (m.pairs.marking held k.is k.once).not refl (own d).block once);
+    slices = tt;
   }
-    where
-      start_is : r.good ≡ true → found.start.0 ≡ suc q
-      start_is e = eqb-true found.start.0 (suc q) (sym good ∙ e)
 
-      by : (b : Bool) → found.good ≡ b → found.start.0 ≡ suc q → found.good ≡ true
-      by true e f = e
-      by false e f = absurd (omega (arith, (m.refused e).start))
-
-      is_good : found.start.0 ≡ suc q → found.good ≡ true
-      is_good f = by found.good refl f
-
-      go : (b : Bool) → found.good ≡ b → (found.start.0 ≡ suc q → ⊥) → (held : List ℕ) → Marked g.slices before held → OwnIndex image g.first.0 g.slice (suc q)
-          → InRangeOnce g.slices (held ++ slices_from image g.first.0 g.slice (suc q)) → ⊥
-      go true e ne held k own once = ne (m.start e ∙ own.first)
-      go false e ne held k own once = (m.marking held k.is k.once).not e own.block once
-
-  -- no slice starts below F, and past the image's end stands nothing
-  pub own_outside : {before : List ℕ} (q : ℕ) (r : Indexed) → UnitOf image g → (q ≡ 0 → ⊥) → (DataSector g q → ⊥) → r.good ≡ false → OwnMarking image g q before before r
-  own_outside q r unit named outside bad = record {
-    marking = λ held k. record {
-      yes = λ e. absurd (true≢false (sym e ∙ bad));
-      not = λ e own once. refuted (own named);
-    };
-    slices = λ e. absurd (true≢false (sym e ∙ bad));
+  -- it is legal: its first sector decides
+  pub own_some : {before after : List ℕ} (q : ℕ) {found : Indexed} (r : Bool) → r ≡ eqb found.start.0 q → (q ≡ 0 → ⊥) → PairsMarking image g q before after (Some found)
+      → OwnMarking image g q before after (then_some r found.slices)
+  own_some zero r e d m = absurd (d refl)
+  own_some (suc q) {found} true e d m = record {
+    marking = λ held k.
+        let y = (m.marking held k.is k.once).yes refl in
+        marks (λ _. record { block = y.0; first = sym m.start ∙ eqb-true found.start.0 (suc q) (sym e) }) (record { is = y.2; once = y.1 });
+    slices = m.slices;
   }
-    where
-      past_image : length image ≤ q * 256 → word image q 0 ≡ 0
-      past_image h = ap (λ (i : ℕ). get_or image i 0) (add-zero (q * 256)) ∙ get_or-eq_default image 0 h
-
-      refuted : OwnIndex image g.first.0 g.slice q → ⊥
-      refuted own = below_or q g.sectors
-          (λ high. outside (record { low = omega (arith, own.first); high = high }))
-          (λ past. omega (arith, own.block.some, past_image (omega (arith, unit.size))))
+  own_some (suc q) {found} false e d m = record {
+    marking = λ held k. refuses (λ own once. eqb-false found.start.0 (suc q) (sym e) (m.start ∙ (own d).first));
+    slices = tt;
+  }
 
   -- ---- the whole file
 
-  module _ {before after : List ℕ} {q : ℕ} (entry : Entry) (live : Live) {found : Indexed} (at : q ≡ index_by live entry.index.0) where
-    moved : OwnMarking image g q before after found → OwnMarking image g (index_by live entry.index.0) before after found
-    moved = subst (λ (n : ℕ). OwnMarking image g n before after found) at
+  module _ {before after : List ℕ} {q : ℕ} (entry : Entry) (live : Option Live) (at : q ≡ index_by live entry.index.0) where
+    moved : {found : Option ℕ} → OwnMarking image g q before after found → OwnMarking image g (index_by live entry.index.0) before after found
+    moved {found} = subst (λ (n : ℕ). OwnMarking image g n before after found) at
 
-    pub file_refused : OwnMarking image g q before after found → found.good ≡ false → FileMarking image g entry live before after false
-    file_refused own e = record { marking = λ held k. refuses (λ rules. ((moved own).marking held k).not e rules.index) }
+    pub file_refused : OwnMarking image g q before after None → FileMarking image g entry live before after false
+    file_refused own = record { marking = λ held k. refuses (λ rules. ((moved own).marking held k).not refl rules.index) }
 
-    pub file_judged : {r : Bool} → OwnMarking image g q before after found → found.good ≡ true → Decides r (FileNumbers g.slice entry live found.slices)
+    pub file_judged : {found : ℕ} {r : Bool} → OwnMarking image g q before after (Some found) → Decides r (FileNumbers g.slice entry live found)
         → FileMarking image g entry live before after r
-    file_judged own e d = record {
+    file_judged own d = record {
       marking = λ held k.
-          let y = ((moved own).marking held k).yes e in
-          let count = (moved own).slices e in
+          let y = ((moved own).marking held k).yes refl in
+          let count = (moved own).slices in
           record {
             yes = λ t. (record { index = y.0; numbers = subst (λ (n : ℕ). FileNumbers g.slice entry live n) count (d.yes t) }, y.1, y.2);
             not = λ f rules _. d.not f (subst (λ (n : ℕ). FileNumbers g.slice entry live n) (sym count) rules.numbers);
@@ -157,11 +108,24 @@ module _ {image : List ℕ} {g : Geometry} where
 
 -- ---- the rules of a sound unit
 
+-- what holds of a closed file, and of the area process of an open one
+beside : {A : Type 0} (B : Live → Type 0) (o : maybe.Option Area) → (o ≡ none → A) → ((a : Area) → o ≡ some a → B (record { index = a.index; length = a.length }))
+    → MatchOption (live_of o) A B
+beside B none shut live = shut refl
+beside B (some a) shut live = live a refl
+
+beside_none : {A : Type 0} (B : Live → Type 0) (o : maybe.Option Area) → o ≡ none → MatchOption (live_of o) A B → A
+beside_none B none e m = m
+beside_none B (some a) e m = absurd cc
+
+beside_some : (A : Type 0) (B : Live → Type 0) (o : maybe.Option Area) {a : Area} → o ≡ some a → MatchOption (live_of o) A B → B (record { index = a.index; length = a.length })
+beside_some A B o e m = rw e at m
+
 module _ (image : List ℕ) (state : State) (F s : ℕ) (P : ℕ → ℕ → ℕ) (t : ℕ) where
   abbrev pub entry_in : Entry
   entry_in = record { attributes = P t 6; size = P t 7; index = record { 0 = P t 8 }; reserved = P t 9 }
 
-  abbrev area : Option Area
+  abbrev area : maybe.Option Area
   area = open_area state (name_at P t)
 
   -- what counts, by the entry's numbers beside the area process
@@ -176,8 +140,8 @@ module _ (image : List ℕ) (state : State) (F s : ℕ) (P : ℕ → ℕ → ℕ
       let n = r.numbers in
       record {
         legal = rw (← length_is, ← index_is) (record { allowed = n.allowed; entry_only = n.entry_only; short = n.short; covered = n.covered; index = r.index });
-        closed = λ e. rw (← index_is) (n.closed (ap (λ (o : Option Area). (live_of o).opened) e));
-        booked = λ a e. let b = n.booked (ap (λ (o : Option Area). (live_of o).opened) e) in rw e (rw e at b);
+        closed = λ e. rw (← index_is) (beside_none _ area e n.booked);
+        booked = λ a e. let b = beside_some _ _ area e n.booked in rw e (rw e at b);
       }
 
   pub sound_rules : SoundFile image state F s P t → FileRules image F s entry_in (live_of area)
@@ -190,7 +154,6 @@ module _ (image : List ℕ) (state : State) (F s : ℕ) (P : ℕ → ℕ → ℕ
           entry_only = rw index_is l.entry_only;
           short = rw length_is l.short;
           covered = rw (length_is, index_is) l.covered;
-          closed = λ e. rw index_is (f.closed (live_shut area e));
-          booked = λ e. let o = live_open area e in let b = f.booked o.0 o.1 in rw o.1 (rw o.1 at b);
+          booked = beside _ area (λ e. rw index_is (f.closed e)) (λ a e. let b = f.booked a e in rw e (rw e at b));
         };
       }

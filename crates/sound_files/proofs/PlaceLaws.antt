@@ -3,6 +3,7 @@ use mathlib.Core.Path.{◌≡◌, refl, sym, ap, ◌∙◌, subst}
 use mathlib.Core.Bool.{Bool, true, false}
 use mathlib.Core.List.{List, [], ◌∷◌, ◌++◌, append-nil}
 use Prim.Native.Nat.{ℕ, zero, suc}
+use Rattle.std.specs.Prelude.{Option}
 use Rattle.disc.specs.Names.{is_system, SYS, MAP}
 use Rattle.disc.specs.Entries.{name_by}
 use Rattle.disc.specs.Catalog.{is_one_of}
@@ -11,7 +12,7 @@ use Rattle.marks.specs.Marked.{Marked}
 use Rattle.marks.proofs.MarkLaws.{marks}
 use Rattle.sound.specs.Sound.{held_by}
 use Rattle.sound_entries.proofs.PlaceLaws.{T_of, T_not}
-use Rattle.sound_files.specs.declared.Live.{Live}
+use Rattle.sound_files.specs.declared.files.Live.{Live}
 use Rattle.sound_files.specs.Rules.{entry_of, file_slices, FileMarking}
 use Rattle.sound_files.specs.Walk.{place_slices, PlaceRules, PlaceMarking}
 use Rattle.sound_files.proofs.SequenceLaws.{marking-map}
@@ -27,7 +28,7 @@ pub held_file : (reserved : List ℕ) (n : ℕ) (l : List ℕ) → (n ≡ 0 → 
 held_file reserved zero l d e = absurd (d refl)
 held_file reserved (suc n) l d e = rw e
 
-module _ {image : List ℕ} {g : Geometry} {lives : ℕ → Live} {w : ℕ → ℕ} where
+module _ {image : List ℕ} {g : Geometry} {lives : ℕ → Option Live} {w : ℕ → ℕ} where
   none_held : {before : List ℕ} → PlaceRules image g lives w → place_slices image g lives w ≡ [] → PlaceMarking image g lives w before before true
   none_held {before} rules e = record {
     marking = λ held k. marks rules (subst (λ (l : List ℕ). Marked g.slices before (held ++ l)) (sym e) (rw append-nil k));
@@ -43,7 +44,7 @@ module _ {image : List ℕ} {g : Geometry} {lives : ℕ → Live} {w : ℕ → �
       let t : is_system (name_by w) ≡ true = ap is_system (sym e) ∙ sym s ∙ y in
       none_held (record { file = λ _ d. absurd (d (T_of t)) }) (held_reserved (SYS ∷ MAP ∷ []) (name_by w) _ t)
 
-  pub place_file : {before after : List ℕ} {r a : Bool} {live : Live} (name : ℕ) → name ≡ name_by w → (name ≡ 0 → ⊥) → r ≡ is_system name → r ≡ false → live ≡ lives name
+  pub place_file : {before after : List ℕ} {r a : Bool} {live : Option Live} (name : ℕ) → name ≡ name_by w → (name ≡ 0 → ⊥) → r ≡ is_system name → r ≡ false → live ≡ lives name
       → FileMarking image g (entry_of w) live before after a → PlaceMarking image g lives w before after a
   unfolding place_slices
   place_file {before} {after} {r} {a} name e d s y l m =

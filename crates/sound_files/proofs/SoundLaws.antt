@@ -18,8 +18,10 @@ use Rattle.sound.specs.Places.{slices_from}
 use Rattle.sound.specs.State.{open_area}
 use Rattle.sound.specs.Sound.{slices_of, held_by, slices_below}
 use Rattle.sound.specs.Parts.{Marking}
-use Rattle.sound_files.specs.declared.Live.{Live}
-use Rattle.sound_files.specs.Live.{live_of, index_by, live_in, FlatOf, OpenUpto}
+use Rattle.std.specs.Prelude.{Option}
+use Rattle.sound_files.specs.declared.files.Live.{Live}
+use Rattle.sound_files.specs.declared.files.OpenFiles.{OpenFiles}
+use Rattle.sound_files.specs.Live.{live_of, index_by, lives, OpenOf}
 use Rattle.sound_files.specs.Rules.{entry_of, FileRules}
 use Rattle.sound_files.specs.Walk.{place_slices, joined, PlaceRules, PlacesMarking, NamesKnown, OrdinaryPlaces, SysFiles, sys_held}
 use Rattle.sound_files.proofs.LiveLaws.{live_state, index_of_lem}
@@ -41,22 +43,22 @@ held_same : (reserved : List ℕ) (n : ℕ) {a b : List ℕ} → ((n ≡ 0 → �
 held_same reserved zero e = refl
 held_same reserved (suc n) e = ap (held_by reserved (suc n)) (e (λ z. omega arith))
 
-module _ (image : List ℕ) (state : State) (g : Geometry) (names indexes lengths : List ℕ) {upto : ℕ} (eight : length state.areas ≡ 8) (flat : FlatOf state names indexes lengths) (none : OpenUpto names upto) where
+module _ (image : List ℕ) (state : State) (g : Geometry) {files : OpenFiles} (eight : length state.areas ≡ 8) (open-of : OpenOf state files) where
   abbrev P : ℕ → ℕ → ℕ
   P = places_in image g
 
-  abbrev lives : ℕ → Live
-  lives = live_in names indexes lengths upto
+  abbrev known : ℕ → Option Live
+  known = lives files
 
-  live_at_lem : (t : ℕ) → (name_at P t ≡ 0 → ⊥) → lives (name_at P t) ≡ live_of (open_area state (name_at P t))
-  live_at_lem t d = live_state names indexes lengths (name_at P t) d state eight flat none
+  live_at_lem : (t : ℕ) → (name_at P t ≡ 0 → ⊥) → known (name_at P t) ≡ live_of (open_area state (name_at P t))
+  live_at_lem t d = live_state (name_at P t) d eight open-of
 
-  slices_same : (t : ℕ) → place_slices image g lives (P t) ≡ held_by (SYS ∷ MAP ∷ []) (name_at P t) (slices_of image state g.first.0 g.slice P t)
+  slices_same : (t : ℕ) → place_slices image g known (P t) ≡ held_by (SYS ∷ MAP ∷ []) (name_at P t) (slices_of image state g.first.0 g.slice P t)
   unfolding place_slices
   slices_same t = held_same (SYS ∷ MAP ∷ []) (name_at P t) (λ d.
-      ap (slices_from image g.first.0 g.slice) (ap (λ (l : Live). index_by l (P t 8)) (live_at_lem t d) ∙ index_of_lem (open_area state (name_at P t)) (P t 8)))
+      ap (slices_from image g.first.0 g.slice) (ap (λ (l : Option Live). index_by l (P t 8)) (live_at_lem t d) ∙ index_of_lem (open_area state (name_at P t)) (P t 8)))
 
-  slices_below_lem : (L n : ℕ) → joined (λ t. place_slices image g lives (P t)) n ≡ slices_below image state g.first.0 g.slice (sys_with image g L) n
+  slices_below_lem : (L n : ℕ) → joined (λ t. place_slices image g known (P t)) n ≡ slices_below image state g.first.0 g.slice (sys_with image g L) n
   unfolding joined
   slices_below_lem L zero = refl
   slices_below_lem L (suc n) = ap₂ (λ (a b : List ℕ). a ++ b) (slices_below_lem L n) (slices_same n)
@@ -65,18 +67,18 @@ module _ (image : List ℕ) (state : State) (g : Geometry) (names indexes length
     abbrev count : ℕ
     count = place_count g.keys L
 
-    to : ((t : ℕ) → t < count → PlaceRules image g lives (P t)) → SysFiles image state g L
+    to : ((t : ℕ) → t < count → PlaceRules image g known (P t)) → SysFiles image state g L
     to all t h used ordinary =
         let d : name_at P t ≡ 0 → ⊥ = legal_some (name_at P t) (legal.legal t h used) in
         rules_sound image state g.first.0 g.slice P t (subst (FileRules image g.first.0 g.slice (entry_of (P t))) (live_at_lem t d) ((all t h).file d ordinary))
 
-    fro : SysFiles image state g L → (t : ℕ) → t < count → PlaceRules image g lives (P t)
-    fro files t h = record {
+    fro : SysFiles image state g L → (t : ℕ) → t < count → PlaceRules image g known (P t)
+    fro sound t h = record {
       file = λ d ordinary.
           subst (FileRules image g.first.0 g.slice (entry_of (P t))) (sym (live_at_lem t d))
-          (sound_rules image state g.first.0 g.slice P t (files t h (λ u. d (unused_name u)) ordinary));
+          (sound_rules image state g.first.0 g.slice P t (sound t h (λ u. d (unused_name u)) ordinary));
     }
 
-    pub files_marked : {before after : List ℕ} {r : Bool} → PlacesMarking image g lives P count before after r → Marked g.slices before (sys_slices image g)
+    pub files_marked : {before after : List ℕ} {r : Bool} → PlacesMarking image g known P count before after r → Marked g.slices before (sys_slices image g)
         → Marking r (SysFiles image state g L) g.slices after (sys_slices image g) (sys_held image state g L)
     files_marked m k = marking-map to fro (slices_below_lem L count) (m.marking (sys_slices image g) k)

@@ -4,14 +4,15 @@ use mathlib.Core.Bool.{Bool, true, false}
 use mathlib.Core.List.{List}
 use Prim.Native.Nat.{ℕ, ◌+◌, ◌≤◌, ◌<◌}
 use native.Mathlib.Omega.{arith}
+use Rattle.std.specs.Prelude.{Option}
 use Rattle.kit.specs.declared.Geometry.{Geometry}
 use Rattle.marks.specs.Marked.{Marked, SomeMarked}
 use Rattle.sound.specs.Parts.{Marking}
-use Rattle.sound_files.specs.declared.Live.{Live}
+use Rattle.sound_files.specs.declared.files.Live.{Live}
 use Rattle.sound_files.specs.Walk.{place_slices, joined, PlaceRules, PlaceMarking, PlacesMarking}
 use Rattle.sound_files.proofs.SequenceLaws.{marking-map, joined_same, Passed, passed_none, passed_some, passed_more, passed_stop, passed_all, one_more}
 
-module _ (image : List ℕ) (g : Geometry) (lives : ℕ → Live) (P : ℕ → ℕ → ℕ) where
+module _ (image : List ℕ) (g : Geometry) (lives : ℕ → Option Live) (P : ℕ → ℕ → ℕ) where
   abbrev slices : ℕ → List ℕ
   slices t = place_slices image g lives (P t)
 

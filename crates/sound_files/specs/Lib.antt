@@ -1,3 +1,4 @@
+pub mod Cells
 pub mod Live
 pub mod Rules
 pub mod Walk

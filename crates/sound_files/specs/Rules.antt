@@ -1,13 +1,12 @@
 -- The rules of an ordinary file, over the words of its entry and what is known of its area process.
-use Rattle.std.specs.Prelude.{◌≡◌, Bool, true, false, List, ℕ, ◌+◌, ◌*◌, ◌≤◌, ◌<◌, length, get_or, T}
+use Rattle.std.specs.Prelude.{◌≡◌, Bool, true, false, List, ℕ, ◌+◌, ◌*◌, ◌≤◌, ◌<◌, length, get_or, T, Option, None, is_some, IfSome, MatchOption}
 use Rattle.disc.specs.Numbers.{need}
 use Rattle.disc.specs.Attributes.{legal_attributes, legal_with, entry_only}
 use Rattle.sound.specs.Places.{slices_from, OwnIndex, Booked}
 use Rattle.sound.specs.Parts.{Marking}
 use Rattle.kit.specs.declared.Geometry.{Geometry}
-use Rattle.marks.specs.declared.Indexed.{Indexed}
 use Rattle.marks.specs.Marked.{Marked}
-use Rattle.sound_files.specs.declared.Live.{Live}
+use Rattle.sound_files.specs.declared.files.Live.{Live}
 use Rattle.sound_files.specs.declared.Entry.{Entry}
 use Rattle.sound_files.specs.Live.{index_by, length_by}
 
@@ -25,23 +24,23 @@ entry_at image at = entry_of (words_at image at)
 -- The rules on the numbers of a file with `count` slices: "legal attributes, length at most 32,767, at least need(length)
 -- slices"; "13 only with no slices"; "9 reserved = s times slices". Where its area process is open, the entry may lag: "neither
 -- above the live ones, the slices at least need of the length".
-pub record FileNumbers (s : ℕ) (entry : Entry) (live : Live) (count : ℕ) : Type 0 where
+pub record FileNumbers (s : ℕ) (entry : Entry) (live : Option Live) (count : ℕ) : Type 0 where
   pub allowed : T (legal_attributes entry.attributes)
   pub entry_only : T (legal_with entry.attributes count)
   pub short : length_by live entry.size ≤ 32767
   pub covered : need s (length_by live entry.size) ≤ count
-  pub closed : live.opened ≡ false → entry.reserved ≡ s * count
-  pub booked : live.opened ≡ true → Booked s entry.size entry.index.0 entry.reserved live.length live.index.0 count
+  pub booked : MatchOption live (entry.reserved ≡ s * count) (λ process.
+      Booked s entry.size entry.index.0 entry.reserved process.length process.index.0 count)
 
 -- "An ordinary file's index block is the first sector of its first slice"; a file without slices has none.
 abbrev pub OwnIfAny : List ℕ → ℕ → ℕ → ℕ → Type 0
 OwnIfAny image F s q = (q ≡ 0 → ⊥) → OwnIndex image F s q
 
 -- The slices of the file, and all its rules.
-abbrev pub file_slices : List ℕ → ℕ → ℕ → Entry → Live → List ℕ
+abbrev pub file_slices : List ℕ → ℕ → ℕ → Entry → Option Live → List ℕ
 file_slices image F s entry live = slices_from image F s (index_by live entry.index.0)
 
-pub record FileRules (image : List ℕ) (F s : ℕ) (entry : Entry) (live : Live) : Type 0 where
+pub record FileRules (image : List ℕ) (F s : ℕ) (entry : Entry) (live : Option Live) : Type 0 where
   pub index : OwnIfAny image F s (index_by live entry.index.0)
   pub numbers : FileNumbers s entry live (length (file_slices image F s entry live))
 
@@ -51,15 +50,15 @@ pub record DataSector (g : Geometry) (q : ℕ) : Type 0 where
   pub high : q < g.sectors
 
 -- The index block of a file is legal and its own, and its slices beside those marked before are the unit's and stand once; then
--- they are marked, and the answer has their number.
-pub record OwnMarking (image : List ℕ) (g : Geometry) (q : ℕ) (before after : List ℕ) (answer : Indexed) : Type 0 where
+-- they are marked, and the answer is their number.
+pub record OwnMarking (image : List ℕ) (g : Geometry) (q : ℕ) (before after : List ℕ) (answer : Option ℕ) : Type 0 where
   pub marking : (held : List ℕ) → Marked g.slices before held
-      → Marking answer.good (OwnIfAny image g.first.0 g.slice q) g.slices after held
+      → Marking (is_some answer) (OwnIfAny image g.first.0 g.slice q) g.slices after held
       (slices_from image g.first.0 g.slice q)
-  pub slices : answer.good ≡ true → answer.slices ≡ length (slices_from image g.first.0 g.slice q)
+  pub slices : IfSome answer (λ n. n ≡ length (slices_from image g.first.0 g.slice q))
 
 -- The same of the file with all its rules.
-pub record FileMarking (image : List ℕ) (g : Geometry) (entry : Entry) (live : Live) (before after : List ℕ) (answer : Bool) : Type 0 where
+pub record FileMarking (image : List ℕ) (g : Geometry) (entry : Entry) (live : Option Live) (before after : List ℕ) (answer : Bool) : Type 0 where
   pub marking : (held : List ℕ) → Marked g.slices before held
       → Marking answer (FileRules image g.first.0 g.slice entry live) g.slices after held
       (file_slices image g.first.0 g.slice entry live)
@@ -73,5 +72,5 @@ pub record PlainNumbers (entry : Entry) : Type 0 where
 -- The answer true says that the file keeps all rules if no area process of it is open, and that its slices are marked now; false
 -- says only that nothing was changed.
 pub record ClosedMarking (image : List ℕ) (g : Geometry) (entry : Entry) (before after : List ℕ) (answer : Bool) : Type 0 where
-  pub yes : answer ≡ true → (live : Live) → live.opened ≡ false → FileMarking image g entry live before after true
+  pub yes : answer ≡ true → FileMarking image g entry None before after true
   pub not : answer ≡ false → after ≡ before

@@ -1,5 +1,5 @@
 -- The places of SYS as they are judged one after the other: the rules of each, and the slices that they hold.
-use Rattle.std.specs.Prelude.{◌≡◌, Bool, true, false, List, [], ◌∷◌, ◌++◌, ℕ, zero, suc, ◌+◌, ◌*◌, ◌≤◌, ◌<◌, length, T}
+use Rattle.std.specs.Prelude.{◌≡◌, Bool, true, false, List, [], ◌∷◌, ◌++◌, ℕ, zero, suc, ◌+◌, ◌*◌, ◌≤◌, ◌<◌, length, T, Option, None}
 use Rattle.types.specs.declared.State.{State}
 use Rattle.disc.specs.Names.{legal_name, is_system, SYS, MAP}
 use Rattle.disc.specs.Kit.{sys_index_sector}
@@ -14,16 +14,17 @@ use Rattle.kit.specs.declared.Geometry.{Geometry}
 use Rattle.kit.specs.Geometry.{UnitOf}
 use Rattle.marks.specs.Marked.{Marked}
 use Rattle.sound_entries.specs.Sys.{sys_slices, places_in, sys_with}
-use Rattle.sound_files.specs.declared.Live.{Live}
+use Rattle.sound_files.specs.declared.files.Live.{Live}
+use Rattle.sound_files.specs.declared.files.OpenFiles.{OpenFiles}
 use Rattle.sound_files.specs.Live.{Unopened}
 use Rattle.sound_files.specs.Rules.{entry_of, words_at, file_slices, FileRules}
 
 -- The slices that the place with these words holds; the area processes are known by name.
-unfoldable pub place_slices : List ℕ → Geometry → (ℕ → Live) → (ℕ → ℕ) → List ℕ
+unfoldable pub place_slices : List ℕ → Geometry → (ℕ → Option Live) → (ℕ → ℕ) → List ℕ
 place_slices image g lives w = held_by (SYS ∷ MAP ∷ []) (name_by w) (file_slices image g.first.0 g.slice (entry_of w) (lives (name_by w)))
 
 -- "Every other file has legal attributes, ..": neither an unused place nor SYS or MAP has more rules.
-pub record PlaceRules (image : List ℕ) (g : Geometry) (lives : ℕ → Live) (w : ℕ → ℕ) : Type 0 where
+pub record PlaceRules (image : List ℕ) (g : Geometry) (lives : ℕ → Option Live) (w : ℕ → ℕ) : Type 0 where
   pub file : (name_by w ≡ 0 → ⊥) → (T (is_system (name_by w)) → ⊥) → FileRules image g.first.0 g.slice (entry_of w) (lives (name_by w))
 
 -- The first n of a sequence of lists, joined.
@@ -32,12 +33,12 @@ joined f zero = []
 joined f (suc n) = joined f n ++ f n
 
 -- One place is judged and its slices marked, and the first n places of a sequence.
-pub record PlaceMarking (image : List ℕ) (g : Geometry) (lives : ℕ → Live) (w : ℕ → ℕ) (before after : List ℕ) (answer : Bool)
+pub record PlaceMarking (image : List ℕ) (g : Geometry) (lives : ℕ → Option Live) (w : ℕ → ℕ) (before after : List ℕ) (answer : Bool)
     : Type 0 where
   pub marking : (held : List ℕ) → Marked g.slices before held
       → Marking answer (PlaceRules image g lives w) g.slices after held (place_slices image g lives w)
 
-pub record PlacesMarking (image : List ℕ) (g : Geometry) (lives : ℕ → Live) (P : ℕ → ℕ → ℕ) (n : ℕ) (before after : List ℕ) (answer : Bool)
+pub record PlacesMarking (image : List ℕ) (g : Geometry) (lives : ℕ → Option Live) (P : ℕ → ℕ → ℕ) (n : ℕ) (before after : List ℕ) (answer : Bool)
     : Type 0 where
   pub marking : (held : List ℕ) → Marked g.slices before held
       → Marking answer ((t : ℕ) → t < n → PlaceRules image g lives (P t)) g.slices after held
@@ -75,15 +76,15 @@ OrdinaryPlaces P n = (t : ℕ) → t < n → OrdinaryPlace (P t)
 -- The answer true says that the place is legal if no area process of its name is open, and that its slices are marked now; false
 -- says only that nothing was changed.
 pub record PlainMarking (image : List ℕ) (g : Geometry) (w : ℕ → ℕ) (before after : List ℕ) (answer : Bool) : Type 0 where
-  pub yes : answer ≡ true → (lives : ℕ → Live) → (lives (name_by w)).opened ≡ false → PlaceMarking image g lives w before after true
+  pub yes : answer ≡ true → (lives : ℕ → Option Live) → lives (name_by w) ≡ None → PlaceMarking image g lives w before after true
   pub not : answer ≡ false → after ≡ before
 
 -- So many of the first `count` places of a sequence are legal, if no area process of an unopened name is open, and their slices
 -- marked.
-pub record PlainPlaces (image : List ℕ) (g : Geometry) (P : ℕ → ℕ → ℕ) (count upto : ℕ) (cells before after : List ℕ) (answer : ℕ)
-    : Type 0 where
+pub record PlainPlaces (image : List ℕ) (g : Geometry) (P : ℕ → ℕ → ℕ) (count : ℕ) (files : OpenFiles) (before after : List ℕ)
+    (answer : ℕ) : Type 0 where
   pub high : answer ≤ count
-  pub marking : (lives : ℕ → Live) → ((n : ℕ) → Unopened upto cells n → (lives n).opened ≡ false)
+  pub marking : (lives : ℕ → Option Live) → ((n : ℕ) → Unopened files n → lives n ≡ None)
       → PlacesMarking image g lives P answer before after true
 
 -- The ordinary files in SYS with so many layers, and the slices that they hold.

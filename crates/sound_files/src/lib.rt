@@ -3,12 +3,13 @@
 
 #![tactic(auto)]
 
-ghost use Rattle.std.specs.Prelude.{◌≡◌, false, [], ◌+◌, ◌*◌, ◌/◌, ◌≤◌, ◌<◌, length};
+ghost use Rattle.std.specs.Prelude.{◌≡◌, false, [], ◌+◌, ◌*◌, ◌/◌, ◌≤◌, ◌<◌, length, take, IsFalse};
 ghost use Rattle.disc.specs.Decide.{Decides};
 ghost use Rattle.disc.specs.Entries.{place_count, name_by};
 ghost use Rattle.sound.specs.Places.{Booked};
 ghost use Rattle.sound.specs.Parts.{Marking, MarksOf};
-ghost use Rattle.sound_files.specs.Live.{index_by, length_by, live_in, open_name, name_cell, CellsOf, FlatOf, OpenUpto};
+ghost use Rattle.sound_files.specs.Cells.{open_name, open_file, FlatOf, OpenUpto, name_cell, CellsOf};
+ghost use Rattle.sound_files.specs.Live.{index_by, length_by, lives, OpenOf, Unopened};
 ghost use Rattle.kit.specs.Geometry.{UnitOf};
 ghost use Rattle.marks.specs.Marked.{SomeMarked};
 ghost use Rattle.sound_entries.specs.Sys.{sys_slices, places_in};
@@ -17,21 +18,18 @@ ghost use Rattle.sound_files.specs.Walk.{OrdinaryPlace, OrdinaryPlaces, PlainMar
 ghost use Rattle.sound_files.specs.Rules.{words_at, entry_at, FileNumbers, DataSector, OwnMarking};
 ghost use Rattle.sound_files.specs.Rules.{FileMarking, PlainNumbers, ClosedMarking};
 
+mod files;
+
 use catalog::Catalog;
+pub use files::{Live, OpenFile, OpenFiles};
 use kit::Geometry;
-use marks::Indexed;
 use types::{Area, Name, Sector, State};
 
-// What is known of a file's area process: whether it is open, and then its index sector and length.
-#[derive(Clone, Copy)]
-pub struct Live {
-    pub opened: bool,
-    pub index: Sector,
-    pub length: u16,
-}
+// The greatest length of a file: "length at most 32,767".
+const LONGEST: u16 = 32767;
 
 // The words of an entry that say what its file is.
-#[derive(Clone, Copy)]
+#[derive(Clone, Copy, Debug, PartialEq, Eq)]
 pub struct Entry {
     pub attributes: u16,
     pub size: u16,
@@ -49,102 +47,107 @@ fn open_name(area: Area) -> u64
     0
 }
 
-// Writes names, index sectors and lengths of the descriptors into lists, which are lent from place to place.
-pub fn flatten(state: State, names: &mut [u64; 8], indexes: &mut [u16; 8], lengths: &mut [u16; 8])
-    requires { (length names.old ≡ 8) × (length indexes.old ≡ 8) × (length lengths.old ≡ 8) }
-    ensures { FlatOf state names.new indexes.new lengths.new }
+// What a descriptor says.
+fn open_file(area: Area) -> OpenFile
+    ensures { result ≡ open_file area }
 {
-    let mut j: usize = 0;
-    while j < 8 {
-        let area = state.areas[j];
-        let index = area.index;
-        names[j] = open_name(area);
-        indexes[j] = index.0;
-        lengths[j] = area.length;
-        j += 1;
+    OpenFile {
+        name: open_name(area),
+        live: Live {
+            index: area.index,
+            length: area.length,
+        },
     }
 }
 
-// How many names have to be compared: no descriptor from there on is open.
-fn open_upto(names: &[u64; 8]) -> usize
-    ensures { OpenUpto names.now result }
+// What the descriptors say.
+pub fn flatten(state: State) -> [OpenFile; 8]
+    ensures { FlatOf state result }
 {
-    let mut n: usize = 8;
-    while 0 < n {
-        if names[n - 1] != 0 {
-            return n;
-        }
-        n -= 1;
+    let shut = OpenFile {
+        name: 0,
+        live: Live {
+            index: Sector(0),
+            length: 0,
+        },
+    };
+    let mut list = [shut; 8];
+    for (j, area) in state.areas.iter().enumerate() {
+        list[j] = open_file(*area);
     }
-    n
+    list
 }
 
-// The cell of a name in the table of open names: most names have another cell than those few.
+// How many descriptors have to be compared: none from there on is open.
+fn open_upto(list: &[OpenFile; 8]) -> usize
+    ensures { OpenUpto list.now result }
+{
+    list.iter()
+        .rposition(|file| file.name != 0)
+        .map_or(0, |last| last + 1)
+}
+
+// The cell of a name in the table of open names.
 fn name_cell(name: u64) -> usize
     ensures { (result ≡ name_cell name) × (result < 256) }
 {
     ((name / 4294967296 + name / 65536 % 65536 + name % 65536) % 251) as usize
 }
 
-// Fills the cells of the first `upto` names.
-fn fill_cells(names: &[u64; 8], upto: usize, cells: &mut [u8; 256])
-    requires { (upto ≤ 8) × (length cells.old ≡ 256) }
-    ensures { CellsOf names.now upto cells.new }
+// A table in which the cells of these names are filled.
+fn cells_of(list: &[OpenFile]) -> [u8; 256]
+    ensures { CellsOf list.now result }
 {
-    let mut j: usize = 0;
-    while j < upto {
-        cells[name_cell(names[j])] = 1;
-        j += 1;
+    let mut cells = [0; 256];
+    for file in list {
+        cells[name_cell(file.name)] = 1;
     }
+    cells
 }
 
-// What the first `upto` numbers of the lists say of a name.
-pub fn live_of(
-    names: &[u64; 8],
-    indexes: &[u16; 8],
-    lengths: &[u16; 8],
-    upto: usize,
-    name: u64,
-) -> Live
-    requires { upto ≤ 8 }
-    ensures { result ≡ live_in names.now indexes.now lengths.now upto name }
-{
-    let mut j: usize = 0;
-    while j < upto {
-        if names::same_number(names[j], name) {
-            return Live {
-                opened: true,
-                index: Sector(indexes[j]),
-                length: lengths[j],
-            };
-        }
-        j += 1;
+impl OpenFiles {
+    // The open area processes of a state.
+    pub fn of(state: State) -> OpenFiles
+        ensures { OpenOf state result }
+    {
+        let list = flatten(state);
+        let upto = open_upto(&list);
+        let cells = cells_of(&list[..upto]);
+        OpenFiles { list, upto, cells }
     }
-    Live {
-        opened: false,
-        index: Sector(0),
-        length: 0,
+
+    // What is known of the area process of a name.
+    pub fn live_of(&self, name: u64) -> Option<Live>
+        ensures { result ≡ lives self.now name }
+    {
+        for file in &self.list[..self.upto] {
+            if names::same_number(file.name, name) {
+                return Some(file.live);
+            }
+        }
+        None
+    }
+
+    // Whether the name may be that of an open area process.
+    fn may_have(&self, name: u64) -> bool
+        ensures { IsFalse result → Unopened self.now name }
+    {
+        self.cells[name_cell(name)] != 0
     }
 }
 
 // The index sector that counts.
-fn live_index(live: Live, booked: Sector) -> Sector
+fn live_index(live: Option<Live>, booked: Sector) -> Sector
     ensures { result.0 ≡ index_by live booked.0 }
 {
-    if live.opened {
-        return live.index;
-    }
-    booked
+    live.map_or(booked, |process| process.index)
 }
 
 // The length that counts.
-fn live_length(live: Live, booked: u16) -> u16
+fn live_length(live: Option<Live>, booked: u16) -> u16
     ensures { result ≡ length_by live booked }
 {
-    if live.opened {
-        return live.length;
-    }
-    booked
+    live.map_or(booked, |process| process.length)
 }
 
 // The words of the entry that stands at a word of the image.
@@ -165,116 +168,86 @@ fn booked_legal(entry: Entry, live: Live, slices: u16, s: u16) -> bool
     requires { 1 ≤ s }
     ensures { Decides result (Booked s entry.size entry.index.0 entry.reserved live.length live.index.0 slices) }
 {
-    let index = entry.index;
-    let live_at = live.index;
     let own = entry.reserved / s;
-    if own * s != entry.reserved {
+    if own * s != entry.reserved
+        || slices < own
+        || live.length < entry.size
+        || !numbers::covered(s, entry.size, own)
+    {
         return false;
     }
-    if slices < own {
-        return false;
-    }
-    if live.length < entry.size {
-        return false;
-    }
-    if !numbers::covered(s, entry.size, own) {
-        return false;
-    }
-    if own == 0 {
-        return index.0 == 0;
-    }
-    index.0 == live_at.0
+    let index = if own == 0 { Sector(0) } else { live.index };
+    entry.index == index
 }
 
 // Whether the numbers of a file with so many slices are legal.
-fn numbers_legal(entry: Entry, live: Live, slices: u16, s: u16) -> bool
+fn numbers_legal(entry: Entry, live: Option<Live>, slices: u16, s: u16) -> bool
     requires { 1 ≤ s }
     ensures { Decides result (FileNumbers s entry live slices) }
 {
-    if !attributes::legal(entry.attributes) {
-        return false;
-    }
-    if !attributes::legal_with(entry.attributes, slices) {
-        return false;
-    }
     let size = live_length(live, entry.size);
-    if 32767 < size {
+    if !attributes::legal(entry.attributes)
+        || !attributes::legal_with(entry.attributes, slices)
+        || LONGEST < size
+        || !numbers::covered(s, size, slices)
+    {
         return false;
     }
-    if !numbers::covered(s, size, slices) {
-        return false;
+    match live {
+        Some(process) => booked_legal(entry, process, slices, s),
+        None => entry.reserved as u32 == s as u32 * slices as u32,
     }
-    if live.opened {
-        return booked_legal(entry, live, slices, s);
-    }
-    entry.reserved as u32 == s as u32 * slices as u32
 }
 
 // Whether sector q is a data sector of the unit.
 fn is_data_sector(q: Sector, g: Geometry) -> bool
     ensures { Decides result (DataSector g q.0) }
 {
-    let first = g.first;
-    if q.0 < first.0 {
-        return false;
-    }
-    q.0 < g.sectors
+    g.first <= q && q.0 < g.sectors
 }
 
-// Judges the index block in sector q, which must be the first sector of the first slice, and marks the slices; for q = 0 there
-// are none. No block is read in another sector than a data sector. A refused block says that its first slice begins at sector 0.
-fn own_index(image: &[u16], q: Sector, g: Geometry, marks: &mut [u8; 4096]) -> Indexed
+// Judges the index block in sector q, which must be the first sector of the first slice, marks the slices and answers their number;
+// for q = 0 there are none. No block is read in another sector than a data sector.
+fn own_index(image: &[u16], q: Sector, g: Geometry, marks: &mut [u8; 4096]) -> Option<u16>
     requires { UnitOf image.now g × SomeMarked g.slices marks.old }
     ensures { OwnMarking image.now g q.0 marks.old marks.new result }
 {
     if q.0 == 0 {
-        return Indexed {
-            good: true,
-            slices: 0,
-            start: Sector(0),
-        };
+        return Some(0);
     }
     if !is_data_sector(q, g) {
-        return Indexed {
-            good: false,
-            slices: 0,
-            start: Sector(0),
-        };
+        return None;
     }
-    let found = marks::mark_index(image, q, g, marks);
-    let start = found.start;
-    Indexed {
-        good: start.0 == q.0,
-        slices: found.slices,
-        start: start,
-    }
+    let found = marks::mark_index(image, q, g, marks)?;
+    (found.start == q).then_some(found.slices)
 }
 
 // Judges the file whose entry stands at a word of the image, and marks its slices.
-fn file_sound(image: &[u16], at: usize, live: Live, g: Geometry, marks: &mut [u8; 4096]) -> bool
+fn file_sound(
+    image: &[u16],
+    at: usize,
+    live: Option<Live>,
+    g: Geometry,
+    marks: &mut [u8; 4096],
+) -> bool
     requires { UnitOf image.now g × SomeMarked g.slices marks.old × (at + 16 ≤ length image.now) }
     ensures { FileMarking image.now g (entry_at image.now at) live
         marks.old marks.new result }
 {
     let entry = entry_at(image, at);
-    let found = own_index(image, live_index(live, entry.index), g, marks);
-    if !found.good {
+    let Some(slices) = own_index(image, live_index(live, entry.index), g, marks) else {
         return false;
-    }
-    numbers_legal(entry, live, found.slices, g.slice)
+    };
+    numbers_legal(entry, live, slices, g.slice)
 }
 
 // Whether the numbers of an entry are those of a closed file with some slices, where so many sectors are reserved.
 fn plain_numbers(entry: Entry) -> bool
     ensures { Decides result (PlainNumbers entry) }
 {
-    if entry.reserved <= entry.size {
-        return false;
-    }
-    if attributes::entry_only(entry.attributes) {
-        return false;
-    }
-    attributes::legal(entry.attributes)
+    entry.size < entry.reserved
+        && !attributes::entry_only(entry.attributes)
+        && attributes::legal(entry.attributes)
 }
 
 // The same of a closed file whose slices are all in one stretch. Of any other file it says false and marks nothing.
@@ -290,10 +263,8 @@ fn plain_file(
     ensures { ClosedMarking image.now g (entry_at image.now at) marks.old marks.new result }
 {
     let entry = entry_at(image, at);
-    if !plain_numbers(entry) {
-        return false;
-    }
-    marks::mark_single(image, entry.index, entry.reserved, g, reciprocal, marks)
+    plain_numbers(entry)
+        && marks::mark_single(image, entry.index, entry.reserved, g, reciprocal, marks)
 }
 
 // The name that stands at a word of the image, as one number.
@@ -308,26 +279,19 @@ fn name_at(image: &[u16], at: usize) -> u64
 fn place_sound(
     image: &[u16],
     at: usize,
-    names: &[u64; 8],
-    indexes: &[u16; 8],
-    lengths: &[u16; 8],
-    upto: usize,
+    files: &OpenFiles,
     g: Geometry,
     marks: &mut [u8; 4096],
 ) -> bool
-    requires { UnitOf image.now g × SomeMarked g.slices marks.old × (at + 16 ≤ length image.now) × (upto ≤ 8) }
-    ensures { PlaceMarking image.now g (live_in names.now indexes.now lengths.now upto)
+    requires { UnitOf image.now g × SomeMarked g.slices marks.old × (at + 16 ≤ length image.now) }
+    ensures { PlaceMarking image.now g (lives files.now)
         (words_at image.now at) marks.old marks.new result }
 {
     let name = name_at(image, at);
-    if name == 0 {
+    if name == 0 || names::is_system_number(name) {
         return true;
     }
-    if names::is_system_number(name) {
-        return true;
-    }
-    let live = live_of(names, indexes, lengths, upto, name);
-    file_sound(image, at, live, g, marks)
+    file_sound(image, at, files.live_of(name), g, marks)
 }
 
 // Judges the place that stands at a word of the image, if it is unused or that of a closed file whose slices are all in one
@@ -343,171 +307,105 @@ fn plain_place(
         × (reciprocal ≡ 65536 / g.slice + 1) × OrdinaryPlace (words_at image.now at) }
     ensures { PlainMarking image.now g (words_at image.now at) marks.old marks.new result }
 {
-    let first = g.first;
-    if image[at + 8] < first.0 {
+    if image[at + 8] < g.first.0 {
         return name_at(image, at) == 0;
     }
     plain_file(image, at, g, reciprocal, marks)
 }
 
-// Judges places from a word of the image on up to the first that `plain_place` leaves, or whose name may be open, and says how
-// many.
-fn guarded_run(
+// Judges places from a word of the image on up to the first that `plain_place` leaves, or whose name may be open, and says how many.
+// Where no area process is open there is no look at the names: the loop is short then, so that the index blocks of many files are read
+// at once.
+fn quick_run<const GUARDED: bool>(
     image: &[u16],
     at: usize,
     count: usize,
-    upto: usize,
-    cells: &[u8; 256],
+    files: &OpenFiles,
     g: Geometry,
     marks: &mut [u8; 4096],
 ) -> usize
     requires { UnitOf image.now g × SomeMarked g.slices marks.old × (at + 16 * count ≤ length image.now)
-        × OrdinaryPlaces (places_from image.now at) count }
-    ensures { PlainPlaces image.now g (places_from image.now at) count upto cells.now
-        marks.old marks.new result }
+        × OrdinaryPlaces (places_from image.now at) count × (IsFalse GUARDED → files.now.upto ≡ 0) }
+    ensures { PlainPlaces image.now g (places_from image.now at) count files.now marks.old marks.new result }
 {
     let reciprocal = numbers::reciprocal(g.slice);
-    let mut i: usize = 0;
-    while i < count {
-        if cells[name_cell(name_at(image, at + 16 * i))] != 0 {
+    for i in 0..count {
+        if GUARDED && files.may_have(name_at(image, at + 16 * i)) {
             return i;
         }
         if !plain_place(image, at + 16 * i, g, reciprocal, marks) {
             return i;
         }
-        i += 1;
     }
-    i
+    count
 }
 
-// The same, with no look at the names where no area process is open. The loop is short, so that the index blocks of many files are
-// read at once.
+// The same, guarded where an area process is open.
 fn plain_run(
     image: &[u16],
     at: usize,
     count: usize,
-    upto: usize,
-    cells: &[u8; 256],
+    files: &OpenFiles,
     g: Geometry,
     marks: &mut [u8; 4096],
 ) -> usize
     requires { UnitOf image.now g × SomeMarked g.slices marks.old × (at + 16 * count ≤ length image.now)
         × OrdinaryPlaces (places_from image.now at) count }
-    ensures { PlainPlaces image.now g (places_from image.now at) count upto cells.now
-        marks.old marks.new result }
+    ensures { PlainPlaces image.now g (places_from image.now at) count files.now marks.old marks.new result }
 {
-    if upto != 0 {
-        return guarded_run(image, at, count, upto, cells, g, marks);
+    if files.upto == 0 {
+        return quick_run::<false>(image, at, count, files, g, marks);
     }
-    let reciprocal = numbers::reciprocal(g.slice);
-    let mut i: usize = 0;
-    while i < count {
-        if !plain_place(image, at + 16 * i, g, reciprocal, marks) {
-            return i;
-        }
-        i += 1;
-    }
-    i
+    quick_run::<true>(image, at, count, files, g, marks)
 }
 
-// Judges so many places, which stand one after the other from a word of the image on: the first by all the rules, then others the
-// quick way as far as that goes, and so on.
-fn rest_sound(
-    image: &[u16],
-    at: usize,
-    count: usize,
-    names: &[u64; 8],
-    indexes: &[u16; 8],
-    lengths: &[u16; 8],
-    upto: usize,
-    cells: &[u8; 256],
-    g: Geometry,
-    marks: &mut [u8; 4096],
-) -> bool
-    requires { UnitOf image.now g × SomeMarked g.slices marks.old × (at + 16 * count ≤ length image.now) × (upto ≤ 8)
-        × CellsOf names.now upto cells.now × OrdinaryPlaces (places_from image.now at) count }
-    ensures { PlacesMarking image.now g (live_in names.now indexes.now lengths.now upto)
-        (places_from image.now at) count marks.old marks.new result }
-{
-    let mut i: usize = 0;
-    while i < count {
-        if !place_sound(image, at + 16 * i, names, indexes, lengths, upto, g, marks) {
-            return false;
-        }
-        i += 1;
-        i += plain_run(image, at + 16 * i, count - i, upto, cells, g, marks);
-    }
-    true
-}
-
-// The same, with the quick way tried first.
+// Judges so many places, which stand one after the other from a word of the image on: the quick way as far as that goes, then one by
+// all the rules, and so on. A turn takes more than one place, so that there is no range to go through.
 fn run_sound(
     image: &[u16],
     at: usize,
     count: usize,
-    names: &[u64; 8],
-    indexes: &[u16; 8],
-    lengths: &[u16; 8],
-    upto: usize,
-    cells: &[u8; 256],
+    files: &OpenFiles,
     g: Geometry,
     marks: &mut [u8; 4096],
 ) -> bool
-    requires { UnitOf image.now g × SomeMarked g.slices marks.old × (at + 16 * count ≤ length image.now) × (upto ≤ 8)
-        × CellsOf names.now upto cells.now × OrdinaryPlaces (places_from image.now at) count }
-    ensures { PlacesMarking image.now g (live_in names.now indexes.now lengths.now upto)
-        (places_from image.now at) count marks.old marks.new result }
+    requires { UnitOf image.now g × SomeMarked g.slices marks.old × (at + 16 * count ≤ length image.now)
+        × OrdinaryPlaces (places_from image.now at) count }
+    ensures { PlacesMarking image.now g (lives files.now) (places_from image.now at) count marks.old marks.new result }
 {
-    let n = plain_run(image, at, count, upto, cells, g, marks);
-    rest_sound(
-        image,
-        at + 16 * n,
-        count - n,
-        names,
-        indexes,
-        lengths,
-        upto,
-        cells,
-        g,
-        marks,
-    )
+    let mut i: usize = 0;
+    loop {
+        i += plain_run(image, at + 16 * i, count - i, files, g, marks);
+        if i == count {
+            return true;
+        }
+        if !place_sound(image, at + 16 * i, files, g, marks) {
+            return false;
+        }
+        i += 1;
+    }
 }
 
-// Judges the places of all blocks of SYS, stretch by stretch.
+// Judges the places of all blocks of SYS, stretch by stretch. A turn takes the blocks of a stretch, so that there is no range to go
+// through.
 fn stretches_sound(
     image: &[u16],
     sys: Catalog,
-    names: &[u64; 8],
-    indexes: &[u16; 8],
-    lengths: &[u16; 8],
-    upto: usize,
-    cells: &[u8; 256],
+    files: &OpenFiles,
     g: Geometry,
     marks: &mut [u8; 4096],
 ) -> bool
-    requires { SysMarked image.now g marks.old sys × (upto ≤ 8) × CellsOf names.now upto cells.now
-        × OrdinaryPlaces (places_in image.now g) (place_count g.keys sys.layers) }
-    ensures { PlacesMarking image.now g (live_in names.now indexes.now lengths.now upto)
+    requires { SysMarked image.now g marks.old sys × OrdinaryPlaces (places_in image.now g) (place_count g.keys sys.layers) }
+    ensures { PlacesMarking image.now g (lives files.now)
         (places_in image.now g) (place_count g.keys sys.layers) marks.old marks.new result }
 {
     let size = g.keys * sys.layers;
     let mut b: u16 = 0;
     let mut j: usize = 0;
     while b < size {
-        let n = sound_entries::lesser(index::pair_length(image, sys.index, j), size - b);
-        let start = index::pair_start(image, sys.index, j);
-        if !run_sound(
-            image,
-            start.0 as usize * 256,
-            16 * n as usize,
-            names,
-            indexes,
-            lengths,
-            upto,
-            cells,
-            g,
-            marks,
-        ) {
+        let n = index::pair_length(image, sys.index, j).min(size - b);
+        let at = index::pair_start(image, sys.index, j).0 as usize * 256;
+        if !run_sound(image, at, 16 * n as usize, files, g, marks) {
             return false;
         }
         b += n;
@@ -530,16 +428,8 @@ pub fn files_sound(
     ensures marking { Marking result (SysFiles image.now state g sys.layers) g.slices marks.new
         (sys_slices image.now g) (sys_held image.now state g sys.layers) }
 {
-    let mut names: [u64; 8] = [0; 8];
-    let mut indexes: [u16; 8] = [0; 8];
-    let mut lengths: [u16; 8] = [0; 8];
-    flatten(state, &mut names, &mut indexes, &mut lengths);
-    let upto = open_upto(&names);
-    let mut cells: [u8; 256] = [0; 256];
-    fill_cells(&names, upto, &mut cells);
-    if !stretches_sound(
-        image, sys, &names, &indexes, &lengths, upto, &cells, g, marks,
-    ) {
+    let files = OpenFiles::of(state);
+    if !stretches_sound(image, sys, &files, g, marks) {
         marks::unmark_all(marks);
         return false;
     }

@@ -1,4 +1,5 @@
 -- Laws of the scan: one place more, by what its judgement, the filter and the search say of it.
+use Rattle.std.specs.Prelude.{Option, Some, None}
 use mathlib.Core.Path.{◌≡◌, refl, sym, ap, ◌∙◌, subst}
 use mathlib.Core.Bool.{Bool, true, false}
 use mathlib.Core.List.{List}
@@ -18,8 +19,6 @@ use Rattle.disc.proofs.DecideLaws.{true≢false}
 use Rattle.sound.specs.Places.{Used}
 use Rattle.catalog.specs.declared.Catalog.{Catalog}
 use Rattle.catalog.specs.declared.Place.{Place}
-use Rattle.catalog.specs.declared.Found.{Found}
-use Rattle.catalog.specs.declared.Found.TheVariants.{At, Nothing}
 use Rattle.catalog.specs.Catalog.{NamePlace}
 use Rattle.kit.specs.declared.Geometry.{Geometry}
 use Rattle.sound_entries.specs.declared.Expected.{Expected}
@@ -138,7 +137,7 @@ some_name name d = omega arith
 -- ---- what the search says of a place that has the name
 
 module _ {image : List ℕ} {g : Geometry} {c : Catalog} (sys : SysIn image g c) {n q b i : ℕ} (at : Standing image g c.layers n q b i)
-    {r : Found} (found : NamePlace image c n r) where
+    {r : Option Place} (found : NamePlace image c n r) where
   abbrev t : ℕ
   t = 16 * b + i
 
@@ -151,10 +150,10 @@ module _ {image : List ℕ} {g : Geometry} {c : Catalog} (sys : SysIn image g c)
   key : t / 16 % g.keys ≡ key_of g.keys n
   key = ap (λ (x : ℕ). x % g.keys) block ∙ at.key
 
-  pub found_some : r ≡ Nothing → ⊥
+  pub found_some : r ≡ None → ⊥
   found_some e = (sys_none sys refl found e).lacks t (omega (arith, at.inside, at.place)) key at.named
 
-  module _ {p : Place} (e : r ≡ At p) where
+  module _ {p : Place} (e : r ≡ Some p) where
     first : FirstNamed image g c.layers n p
     first = sys_at_lem sys refl found e
 

@@ -1,7 +1,7 @@
 -- Laws of the filter: the bits of one name are added to its word, and those of other names stay.
 use mathlib.Core.Path.{◌≡◌, sym, ap, ap₂, ◌∙◌, subst}
 use mathlib.Core.List.{List}
-use Prim.Native.Nat.{ℕ, ◌+◌, ◌*◌, ◌/◌, ◌%◌, ◌<◌, min}
+use Prim.Native.Nat.{ℕ, ◌+◌, ◌*◌, ◌/◌, ◌%◌, min}
 use native.Mathlib.Omega.{arith}
 use native.Mathlib.Nat.{div-add-mod'}
 use lib.Arith.{bin_ind}
@@ -10,15 +10,8 @@ use lib.Dec.{eqb}
 use lib.ListN.{length, get_or, set, length-set}
 use lib.Seq.{get_or-set_same, get_or-set_other}
 use borrow.Author.Tests.{eqb-false}
-use Rattle.disc.specs.Names.{pack}
 use Rattle.disc.proofs.Compare.{same_or}
-use Rattle.disc.proofs.NameLaws.{pack_first, pack_second, pack_third}
 use Rattle.sound_names.specs.Filter.{mixed, cell_by, mask_by, Has, Noted}
-
--- the number that the code mixes
-pub mixed_words : (a b c : ℕ) → b < 65536 → c < 65536 → a * 173961102589770 + b * 9202655381969 + c * 836226975143 ≡ mixed (pack a b c)
-mixed_words a b c p q =
-    omega (arith, ap (λ (x : ℕ). x * 173961102589770) (pack_first a b c p q), ap (λ (x : ℕ). x * 9202655381969) (pack_second a b c p q), ap (λ (x : ℕ). x * 836226975143) (pack_third a b c q))
 
 -- ---- a word with some bits more
 

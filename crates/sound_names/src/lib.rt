@@ -3,7 +3,7 @@
 
 #![tactic(auto)]
 
-ghost use Rattle.std.specs.Prelude.{◌≡◌, ℕ, ◌+◌, ◌*◌, ◌%◌, ◌<◌, length};
+ghost use Rattle.std.specs.Prelude.{◌≡◌, ℕ, ◌+◌, ◌*◌, ◌%◌, ◌<◌, ◌≤◌, length};
 ghost use Rattle.disc.specs.Decide.{Decides};
 ghost use Rattle.disc.specs.Names.{packed};
 ghost use Rattle.disc.specs.Stretches.{sector_in};
@@ -14,7 +14,7 @@ ghost use Rattle.sound_entries.specs.Names.{NamesAlone};
 ghost use Rattle.sound_names.specs.Scan.{Standing, NoneBefore, Passed, Scanned};
 ghost use Rattle.sound_names.specs.Filter.{mixed, mask_by, Noted};
 
-use catalog::{Catalog, Found};
+use catalog::Catalog;
 use kit::Geometry;
 use sound_entries::Expected;
 use types::{Block, Name, Sector};
@@ -46,153 +46,103 @@ fn note(filter: &mut [u64; 4096], name: Name) -> bool
     more == word
 }
 
-// Whether no place before place i of block b, which is sector q and has the name, has it too: it is the one that a search finds.
-fn is_first(
-    image: &[u16],
+// What SYS's places are scanned by: the image and its numbers, what is expected of the places, and the classes of characters.
+#[derive(Clone, Copy)]
+struct Scan<'a> {
+    image: &'a [u16],
     g: Geometry,
-    q: Sector,
-    b: Block,
-    i: usize,
-    name: Name,
-    sys: Catalog,
-) -> bool
-    requires { SysIn image.now g sys × Standing image.now g sys.layers (packed name) q.0 b.0 i }
-    ensures { Decides result
-        (NoneBefore (places_in image.now g) g.keys (packed name) (16 * b.0 + i)) }
-{
-    let Found::At(place) = catalog::find(image, sys, name) else {
-        return false;
-    };
-    let sector = place.sector;
-    if sector.0 != q.0 {
-        return false;
-    }
-    place.slot as usize == i
+    expected: Expected,
+    classes: &'a [u8; 256],
+    ghost judging: { Judging image.now g expected expected.size },
+    ghost classed: { ClassesOf classes.now },
 }
 
-// Whether place i of block b, which is sector q, is legal, and no place before it has its name; the name is put in the filter.
-fn place_sound(
-    image: &[u16],
-    g: Geometry,
-    q: Sector,
-    b: Block,
-    i: usize,
-    key: u16,
-    expected: Expected,
-    classes: &[u8; 256],
-    filter: &mut [u64; 4096],
-) -> bool
-    requires { Judging image.now g expected (b.0 + 1) × ClassesOf classes.now
-        × (q.0 ≡ sector_in g.first.0 g.slice (sys_slices image.now g) b.0) × (key ≡ b.0 % g.keys) × (i < 16)
-        × Passed (places_in image.now g) g.keys (own_entry expected) filter.old (16 * b.0 + i) }
-    ensures { Scanned result (places_in image.now g) g.keys (own_entry expected) filter.new (16 * b.0 + i + 1) }
-{
-    if !sound_entries::place_legal(image, q, i, key, expected, classes) {
-        return false;
+impl Scan<'_> {
+    // Whether no place before place i of block b, which is sector q and has the name, has it too: it is the one that a search finds.
+    fn is_first(&self, q: Sector, b: Block, i: usize, name: Name) -> bool
+        requires { let s = self.now in Standing s.image.now s.g s.expected.catalog.layers (packed name) q.0 b.0 i }
+        ensures { let s = self.now in
+            Decides result (NoneBefore (places_in s.image.now s.g) s.g.keys (packed name) (16 * b.0 + i)) }
+    {
+        let Some(place) = catalog::find(self.image, self.expected.catalog, name) else {
+            return false;
+        };
+        place.sector == q && place.slot as usize == i
     }
-    let name = sound_entries::place_name(image, q, i);
-    if name.0 == 0 {
-        return true;
-    }
-    if !note(filter, name) {
-        return true;
-    }
-    let sys = expected.catalog;
-    is_first(image, g, q, b, i, name, sys)
-}
 
-// Whether the places of block b, which is sector q, are legal, and the names in them alone, with those before it.
-fn sector_sound(
-    image: &[u16],
-    g: Geometry,
-    q: Sector,
-    b: Block,
-    key: u16,
-    expected: Expected,
-    classes: &[u8; 256],
-    filter: &mut [u64; 4096],
-) -> bool
-    requires { Judging image.now g expected (b.0 + 1) × ClassesOf classes.now
-        × (q.0 ≡ sector_in g.first.0 g.slice (sys_slices image.now g) b.0) × (key ≡ b.0 % g.keys)
-        × Passed (places_in image.now g) g.keys (own_entry expected) filter.old (16 * b.0) }
-    ensures { Scanned result (places_in image.now g) g.keys (own_entry expected) filter.new (16 * (b.0 + 1)) }
-{
-    let mut i = 0;
-    while i < 16 {
-        if !place_sound(image, g, q, b, i, key, expected, classes, filter) {
+    // Whether place i of block b, which is sector q, is legal, and no place before it has its name; the name is put in the filter.
+    fn place_sound(&self, q: Sector, b: Block, i: usize, key: u16, filter: &mut [u64; 4096]) -> bool
+        requires { let s = self.now in (b.0 < s.expected.size)
+            × (q.0 ≡ sector_in s.g.first.0 s.g.slice (sys_slices s.image.now s.g) b.0) × (key ≡ b.0 % s.g.keys) × (i < 16)
+            × Passed (places_in s.image.now s.g) s.g.keys (own_entry s.expected) filter.old (16 * b.0 + i) }
+        ensures { let s = self.now in
+            Scanned result (places_in s.image.now s.g) s.g.keys (own_entry s.expected) filter.new (16 * b.0 + i + 1) }
+    {
+        // Sixteen words are an array of sixteen: `unwrap` is proved, and asks nothing at run time.
+        let at = q.0 as usize * 256 + i * 16;
+        let place = self.image[at..at + 16].as_array().unwrap();
+        if !sound_entries::place_legal(place, key, self.expected, self.classes) {
             return false;
         }
-        i += 1;
+        let name = sound_entries::place_name(place);
+        name.0 == 0 || !note(filter, name) || self.is_first(q, b, i, name)
     }
-    true
-}
 
-// The same of the n blocks from block b on, which are the sectors from sector q on.
-fn stretch_sound(
-    image: &[u16],
-    g: Geometry,
-    q: Sector,
-    n: u16,
-    b: Block,
-    expected: Expected,
-    classes: &[u8; 256],
-    filter: &mut [u64; 4096],
-) -> bool
-    requires { Judging image.now g expected (b.0 + n) × ClassesOf classes.now
-        × ((c : ℕ) → c < n → sector_in g.first.0 g.slice (sys_slices image.now g) (b.0 + c) ≡ q.0 + c) × (q.0 + n < 65536)
-        × Passed (places_in image.now g) g.keys (own_entry expected) filter.old (16 * b.0) }
-    ensures { Scanned result (places_in image.now g) g.keys (own_entry expected) filter.new (16 * (b.0 + n)) }
-{
-    let first = q.0;
-    let block = b.0;
-    let keys = g.keys;
-    let mut key = block % keys;
-    let mut c = 0;
-    while c < n {
-        if !sector_sound(
-            image,
-            g,
-            Sector(first + c),
-            Block(block + c),
-            key,
-            expected,
-            classes,
-            filter,
-        ) {
-            return false;
+    // Whether the places of block b, which is sector q, are legal, and the names in them alone, with those before it.
+    fn sector_sound(&self, q: Sector, b: Block, key: u16, filter: &mut [u64; 4096]) -> bool
+        requires { let s = self.now in (b.0 < s.expected.size)
+            × (q.0 ≡ sector_in s.g.first.0 s.g.slice (sys_slices s.image.now s.g) b.0) × (key ≡ b.0 % s.g.keys)
+            × Passed (places_in s.image.now s.g) s.g.keys (own_entry s.expected) filter.old (16 * b.0) }
+        ensures { let s = self.now in
+            Scanned result (places_in s.image.now s.g) s.g.keys (own_entry s.expected) filter.new (16 * (b.0 + 1)) }
+    {
+        for i in 0..16 {
+            if !self.place_sound(q, b, i, key, filter) {
+                return false;
+            }
         }
-        key = sound_entries::next_key(key, keys);
-        c += 1;
+        true
     }
-    true
-}
 
-// The same of all blocks of SYS, stretch by stretch.
-fn stretches_sound(
-    image: &[u16],
-    g: Geometry,
-    expected: Expected,
-    classes: &[u8; 256],
-    filter: &mut [u64; 4096],
-) -> bool
-    requires { Judging image.now g expected expected.size × ClassesOf classes.now × (length filter.old ≡ 4096) }
-    ensures { Scanned result (places_in image.now g) g.keys (own_entry expected) filter.new
-        (16 * expected.size) }
-{
-    let size = expected.size;
-    let sys = expected.catalog;
-    let mut b = Block(0);
-    let mut j = 0;
-    while b.0 < size {
-        let n = sound_entries::lesser(index::pair_length(image, sys.index, j), size - b.0);
-        let start = index::pair_start(image, sys.index, j);
-        if !stretch_sound(image, g, start, n, b, expected, classes, filter) {
-            return false;
+    // The same of the n blocks from block b on, which are the sectors from sector q on.
+    fn stretch_sound(&self, q: Sector, n: u16, b: Block, filter: &mut [u64; 4096]) -> bool
+        requires { let s = self.now in (b.0 + n ≤ s.expected.size)
+            × ((c : ℕ) → c < n → sector_in s.g.first.0 s.g.slice (sys_slices s.image.now s.g) (b.0 + c) ≡ q.0 + c) × (q.0 + n < 65536)
+            × Passed (places_in s.image.now s.g) s.g.keys (own_entry s.expected) filter.old (16 * b.0) }
+        ensures { let s = self.now in
+            Scanned result (places_in s.image.now s.g) s.g.keys (own_entry s.expected) filter.new (16 * (b.0 + n)) }
+    {
+        let mut key = b.0 % self.g.keys;
+        for c in 0..n {
+            if !self.sector_sound(Sector(q.0 + c), Block(b.0 + c), key, filter) {
+                return false;
+            }
+            key = sound_entries::next_key(key, self.g.keys);
         }
-        b = Block(b.0 + n);
-        j += 1;
+        true
     }
-    true
+
+    // The same of all blocks of SYS, stretch by stretch. The loop ends by the blocks that are left, not by the number of stretches.
+    fn stretches_sound(&self, filter: &mut [u64; 4096]) -> bool
+        requires { length filter.old ≡ 4096 }
+        ensures { let s = self.now in
+            Scanned result (places_in s.image.now s.g) s.g.keys (own_entry s.expected) filter.new (16 * s.expected.size) }
+    {
+        let size = self.expected.size;
+        let index = self.expected.catalog.index;
+        let mut b = 0;
+        let mut j = 0;
+        while b < size {
+            let n = index::pair_length(self.image, index, j).min(size - b);
+            let start = index::pair_start(self.image, index, j);
+            if !self.stretch_sound(start, n, Block(b), filter) {
+                return false;
+            }
+            b += n;
+            j += 1;
+        }
+        true
+    }
 }
 
 // Whether all places of SYS are legal, and the names in them alone.
@@ -202,8 +152,13 @@ fn places_sound(image: &[u16], g: Geometry, expected: Expected) -> bool
         × NamesAlone (places_in image.now g) (16 * expected.size)) }
 {
     let classes = names::classes();
-    let mut filter = [0u64; 4096];
-    stretches_sound(image, g, expected, &classes, &mut filter)
+    let scan = Scan {
+        image,
+        g,
+        expected,
+        classes: &classes,
+    };
+    scan.stretches_sound(&mut [0; 4096])
 }
 
 // Whether the names in SYS's layers are those of a sound unit.
@@ -217,8 +172,5 @@ pub fn names_sound(image: &[u16], g: Geometry, sys: Catalog) -> bool
         size: g.keys * sys.layers,
         reserved: sound_entries::sys_sectors(image, g, sys.index),
     };
-    if !places_sound(image, g, expected) {
-        return false;
-    }
-    sound_entries::system_entered(image, g, expected)
+    places_sound(image, g, expected) && sound_entries::system_entered(image, g, expected)
 }

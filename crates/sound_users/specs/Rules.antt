@@ -1,5 +1,5 @@
 -- The rules about users in the parts in which they are decided: one entry, two entries, one open descriptor.
-use Rattle.std.specs.Prelude.{◌≡◌, Bool, true, false, ℕ, ◌≤◌}
+use Rattle.std.specs.Prelude.{◌≡◌, Bool, true, false, ℕ, ◌≤◌, Some}
 use Rattle.types.specs.declared.Role.{Role}
 use Rattle.types.specs.declared.Role.TheVariants.{Sharing, ExclusiveWriter, ExclusiveUser}
 use Rattle.types.specs.declared.User.{User}
@@ -7,7 +7,6 @@ use Rattle.types.specs.declared.Area.{Area}
 use Rattle.types.specs.declared.State.{State}
 use Rattle.sound.specs.State.{area_name, LegalUsers}
 use Rattle.state.specs.Areas.{area_named}
-use Rattle.state.specs.declared.Found.TheVariants.{At}
 
 -- "Users .. not 0": an entry with identification 0 is vacant and has no rule.
 abbrev pub Taken : User → Type 0
@@ -36,5 +35,5 @@ pub record LegalPair (a b : User) : Type 0 where
 
 -- Open descriptor j: "area names are distinct", so it is the first of its name; and its users.
 pub record LegalArea (state : State) (area : Area) (j : ℕ) : Type 0 where
-  pub first : area_named (area_name area) state ≡ At j
+  pub first : area_named (area_name area) state ≡ Some j
   pub users : LegalUsers area

@@ -1,4 +1,5 @@
 -- A name is entered exactly if it is found in the sectors of its key.
+use Rattle.std.specs.Prelude.{Option, Some, None}
 use mathlib.Core.Path.{◌≡◌, refl, ◌∙◌, subst, ap}
 use mathlib.Core.List.{List}
 use Prim.Native.Nat.{ℕ, ◌≤◌, ◌<◌}
@@ -8,8 +9,6 @@ use Rattle.disc.specs.Names.{pack, is_system, legal_name, key_of}
 use Rattle.disc.specs.Entries.{place_count}
 use Rattle.catalog.specs.declared.Catalog.{Catalog}
 use Rattle.catalog.specs.declared.Place.{Place}
-use Rattle.catalog.specs.declared.Found.{Found}
-use Rattle.catalog.specs.declared.Found.TheVariants.{At, Nothing}
 use Rattle.catalog.specs.Catalog.{NamePlace}
 use Rattle.kit.specs.declared.Geometry.{Geometry}
 use Rattle.sound_entries.specs.Sys.{places_in}
@@ -29,13 +28,13 @@ module _ {image : List ℕ} {g : Geometry} {c : Catalog} (sys : LegalSys image g
       let t = e.entered in
       legal_first (pack x y z) (subst (λ (n : ℕ). T (legal_name n)) t.3 (sys.legal t.0 t.1 t.2).name) (omega arith)
 
-  module _ {n : ℕ} {r : Found} (found : NamePlace image c n r) where
-    pub entered_found : r ≡ Nothing → Entered n → ⊥
+  module _ {n : ℕ} {r : Option Place} (found : NamePlace image c n r) where
+    pub entered_found : r ≡ None → Entered n → ⊥
     entered_found none e =
         let t = e.entered in
         (sys_none sys.catalog refl found none).lacks t.0 t.1 ((sys.legal t.0 t.1 t.2).key ∙ ap (key_of g.keys) t.3) t.3
 
-    pub found_entered : {p : Place} → 1 ≤ n → (T (is_system n) → ⊥) → r ≡ At p → Entered n
+    pub found_entered : {p : Place} → 1 ≤ n → (T (is_system n) → ⊥) → r ≡ Some p → Entered n
     found_entered some ordinary at =
         let f = sys_at_lem sys.catalog refl found at in
         record { entered = (f.place, f.inside, named_used _ f.place (omega (arith, f.has, some)), f.has); ordinary = ordinary }

@@ -1,19 +1,18 @@
 -- The rules once SYS's layers are known, as they are decided one after the other: names, areas, files, map.
 use mathlib.Core.Path.{◌≡◌, sym, ◌∙◌}
 use mathlib.Core.Bool.{Bool, true, false}
-use mathlib.Core.Bool as B
 use mathlib.Core.List.{List}
 use Prim.Native.Nat.{ℕ, ◌*◌, ◌<◌}
 use native.Mathlib.Omega.{arith}
 use lib.Dec.{lit<}
-use borrow.Author.Tests.{not-true, not-false, ne_eqb}
+use borrow.Author.Tests.{ne_eqb}
 use Rattle.types.specs.declared.State.{State}
 use Rattle.disc.specs.Decide.{Decides}
 use Rattle.disc.specs.Slices.{InRangeOnce}
 use Rattle.disc.specs.Names.{SYS, MAP, is_system}
 use Rattle.disc.specs.Entries.{place_count, name_at}
 use Rattle.disc.proofs.Compare.{same_or}
-use Rattle.disc.proofs.DecideLaws.{true≢false, fails}
+use Rattle.disc.proofs.DecideLaws.{true≢false}
 use Rattle.sound.specs.Sound.{SoundMap}
 use Rattle.sound.specs.Parts.{MarksOf, Marking}
 use Rattle.kit.specs.declared.Geometry.{Geometry}
@@ -43,20 +42,16 @@ module _ {image : List ℕ} {g : Geometry} {L : ℕ} where
     pub names_known : NamesKnown image g (place_count g.keys L)
     names_known = record { legal = λ t h u. (names.legal t h u).name; system = system_low }
 
-  -- the files or their slices are not those of a sound unit, or the map decides
-  module _ {state : State} {r : Bool} {marks : List ℕ}
-      (files : Marking r (SysFiles image state g L) g.slices marks (sys_slices image g) (sys_held image state g L)) where
-    pub files_refused : B.not r ≡ true → Decides false (SoundLayers image state g L)
-    files_refused e = fails (λ s. files.not (not-true r e) s.files s.once)
-
-    pub map_decides : {a : Bool} → B.not r ≡ false → SysNames image g L
-        → AreasEntered state (places_in image g) (place_count g.keys L)
-        → ((all : List ℕ) → MarksOf marks all → InRangeOnce g.slices all → Decides a (SoundMap image g.slices all))
-        → Decides a (SoundLayers image state g L)
-    map_decides e names areas agrees =
-        let f = files.yes (not-false r e) in
-        let d = agrees (unit_slices image state g L) f.2 f.1 in
-        record {
-          yes = λ y. record { names = names; areas = areas; files = f.0; once = f.1; map = d.yes y };
-          not = λ n s. d.not n s.map;
-        }
+  -- the files and their slices are those of a sound unit, and the map decides
+  pub map_decides : {state : State} {r : Bool} {marks : List ℕ}
+      → Marking r (SysFiles image state g L) g.slices marks (sys_slices image g) (sys_held image state g L) → r ≡ true
+      → {a : Bool} → SysNames image g L → AreasEntered state (places_in image g) (place_count g.keys L)
+      → ((all : List ℕ) → MarksOf marks all → InRangeOnce g.slices all → Decides a (SoundMap image g.slices all))
+      → Decides a (SoundLayers image state g L)
+  map_decides {state} files e names areas agrees =
+      let f = files.yes e in
+      let d = agrees (unit_slices image state g L) f.2 f.1 in
+      record {
+        yes = λ y. record { names = names; areas = areas; files = f.0; once = f.1; map = d.yes y };
+        not = λ n s. d.not n s.map;
+      }

@@ -1,11 +1,11 @@
 -- What the marking of SYS's index block tells: its slices stand once, and the first of them is slice 1 exactly if it begins
 -- where the data begin.
 use mathlib.Core.Path.{◌≡◌, refl, ap, ◌∙◌}
-use mathlib.Core.Bool.{true, false}
 use mathlib.Core.List.{List, [], ◌∷◌}
 use Prim.Native.Nat.{ℕ, ◌-◌, ◌≤◌}
 use native.Mathlib.Omega.{arith}
 use native.Mathlib.Nat.{mul-le-mul_right}
+use Rattle.std.specs.Prelude.{Option, Some, None}
 use Rattle.disc.specs.Numbers.{slice_start}
 use Rattle.disc.specs.Words.{word, Holds}
 use Rattle.disc.specs.Slices.{InRangeOnce, first_of}
@@ -19,7 +19,7 @@ use Rattle.kit.specs.declared.Geometry.{Geometry}
 use Rattle.kit.specs.Geometry.{UnitOf}
 use Rattle.marks.specs.declared.Indexed.{Indexed}
 use Rattle.marks.specs.Marked.{Marked}
-use Rattle.marks.specs.Indexed.{IndexMarking}
+use Rattle.marks.specs.Indexed.{PairsMarking, IndexMarking}
 use Rattle.sound_entries.specs.Sys.{sys_slices, SysOf}
 use Rattle.sound_entries.specs.Names.{LayersOf}
 use Rattle.soundness.specs.Layers.{SysMarking}
@@ -33,17 +33,16 @@ first_some F s m (x ∷ l) holds some once = (in_unit_out m x (omega (arith, onc
 starts_first : (F s k : ℕ) → 1 ≤ s → 1 ≤ k → slice_start F s k ≡ F → k ≡ 1
 starts_first F s k pos some e = same_or k 1 (λ one. one) (λ d. let l : 1 ≤ k - 1 = omega arith in absurd (omega (arith, mul-le-mul_right s l)))
 
-module _ {image : List ℕ} {g : Geometry} {before after : List ℕ} {sys : Indexed} (unit : UnitOf image g) (none : Marked g.slices before [])
-    (marked : IndexMarking image g sys_index_sector before after sys) where
-  pub sys_refused_lem : {marks : List ℕ} → sys.good ≡ false → SysMarking image g marks 0
-  sys_refused_lem e = record {
-    known = λ d. absurd (d refl);
-    only = λ L sound names. absurd ((marked.marking [] none.is none.once).not e sound.index sound.once);
+module _ {image : List ℕ} {g : Geometry} {before after : List ℕ} (unit : UnitOf image g) (none : Marked g.slices before []) where
+  pub sys_refused_lem : {marks : List ℕ} → IndexMarking image g sys_index_sector before after None → SysMarking image g marks None
+  sys_refused_lem marked = record {
+    known = tt;
+    only = λ L sound names. absurd ((marked.pairs.marking [] none.is none.once).not refl sound.index sound.once);
   }
 
-  module _ (good : sys.good ≡ true) where
+  module _ {sys : Indexed} (marked : PairsMarking image g sys_index_sector before after (Some sys)) where
     read : IndexBlock image g.first.0 g.slice sys_index_sector × InRangeOnce g.slices (sys_slices image g) × MarksOf after (sys_slices image g)
-    read = (marked.marking [] none.is none.once).yes good
+    read = (marked.marking [] none.is none.once).yes refl
 
     pub sys_of_lem : SysOf image g
     sys_of_lem = record { unit = unit; index = read.0; once = read.1 }
@@ -52,26 +51,26 @@ module _ {image : List ℕ} {g : Geometry} {before after : List ℕ} {sys : Inde
     first_one e =
         starts_first g.first.0 g.slice (first_of (sys_slices image g)) (omega (arith, unit.limits.slice_low))
         (first_some g.first.0 g.slice g.slices (sys_slices image g) read.0.pairs read.0.some read.1)
-        (omega (arith, e, marked.start good))
+        (omega (arith, e, marked.start))
 
     one_first : first_of (sys_slices image g) ≡ 1 → sys.start.0 ≡ g.first.0
     one_first e =
         let f : slice_start g.first.0 g.slice 1 ≡ g.first.0 = omega arith in
-        marked.start good ∙ ap (slice_start g.first.0 g.slice) e ∙ f
+        marked.start ∙ ap (slice_start g.first.0 g.slice) e ∙ f
 
     -- SYS begins elsewhere
-    pub sys_elsewhere : {marks : List ℕ} → (sys.start.0 ≡ g.first.0 → ⊥) → SysMarking image g marks 0
+    pub sys_elsewhere : {marks : List ℕ} → (sys.start.0 ≡ g.first.0 → ⊥) → SysMarking image g marks None
     sys_elsewhere d = record {
-      known = λ n. absurd (n refl);
+      known = tt;
       only = λ L sound names. absurd (d (one_first sound.first));
     }
 
-    pub sys_layers_lem : {r : ℕ} → sys.start.0 ≡ g.first.0 → LayersOf image g r → SysMarking image g after r
-    sys_layers_lem {r} e layers = record {
-      known = λ d.
-          let fits = layers.fits d in (
-            record { some = fits.0; index = read.0; once = read.1; first = first_one e; count = fits.1 },
-            record { is = read.2; once = read.1 },
-          );
+    pub sys_layers_lem : (r : Option ℕ) → sys.start.0 ≡ g.first.0 → LayersOf image g r → SysMarking image g after r
+    sys_layers_lem None e layers = record { known = tt; only = λ L sound names. layers.only L sound.some sound.count names }
+    sys_layers_lem (Some L) e layers = record {
+      known = (
+        record { some = layers.fits.0; index = read.0; once = read.1; first = first_one e; count = layers.fits.1 },
+        record { is = read.2; once = read.1 },
+      );
       only = λ L sound names. layers.only L sound.some sound.count names;
     }

@@ -1,11 +1,13 @@
 -- The rules of a sound unit are those on users and kit, on SYS's slices and layers, and on the rest, said of the geometry that
 -- was read.
+use Rattle.std.specs.Prelude.{Option, Some, None}
 use mathlib.Core.Path.{◌≡◌, refl, sym, subst}
 use mathlib.Core.Bool.{Bool}
 use mathlib.Core.List.{List}
 use Prim.Native.Nat.{ℕ, ◌*◌}
 use native.Mathlib.Omega.{arith}
 use lib.ListN.{length}
+use Rattle.std.specs.Prelude.{Some, None}
 use Rattle.types.specs.declared.State.{State}
 use Rattle.disc.specs.Decide.{Decides}
 use Rattle.disc.specs.Words.{Words}
@@ -23,8 +25,6 @@ use Rattle.kit.proofs.KitLaws.{sound_unit}
 use Rattle.marks.specs.Marked.{Marked}
 use Rattle.sound_entries.specs.Sys.{sys_slices, sys_with}
 use Rattle.sound_files.specs.Walk.{SysKnown, sys_held}
-use Rattle.soundness.specs.declared.Judged.{Judged}
-use Rattle.soundness.specs.declared.Judged.TheVariants.{Sound, Unsound}
 use Rattle.soundness.specs.Layers.{SysSound, SysMarking, SoundLayers}
 use Rattle.soundness.specs.Judged.{NumbersBy, Judges}
 
@@ -77,10 +77,13 @@ module _ {image : List ℕ} {g : Geometry} (is : GeometryOf image g) where
     }
 
     -- the number of layers that was found is the only one
-    layers_are : {marks : List ℕ} {r : ℕ} → SysMarking image g marks r → (u : SoundUnit image state) → r ≡ u.layers
-    layers_are found u = let w = by_geometry u in found.only u.layers (by_sys w) (by_layers w).names
+    layers_are : {marks : List ℕ} {r : ℕ} → SysMarking image g marks (Some r) → (u : SoundUnit image state) → r ≡ u.layers
+    layers_are found u = let w = by_geometry u in let e = found.only u.layers (by_sys w) (by_layers w).names in cc
 
-    pub unit_layers : {marks : List ℕ} {r : ℕ} → SysMarking image g marks r → SoundUnit image state
+    pub no_layers : {marks : List ℕ} → SysMarking image g marks None → SoundUnit image state → ⊥
+    no_layers found u = let w = by_geometry u in let e = found.only u.layers (by_sys w) (by_layers w).names in cc
+
+    pub unit_layers : {marks : List ℕ} {r : ℕ} → SysMarking image g marks (Some r) → SoundUnit image state
         → SysSound image g r × SoundLayers image state g r
     unit_layers {r = r} found u =
         let w = by_geometry u in
@@ -117,7 +120,7 @@ module _ {image : List ℕ} {g : Geometry} (is : GeometryOf image g) where
 
     -- all steps before were answered yes: the last answer is that of the whole
     pub decides_unit : {marks : List ℕ} {L : ℕ} (r : Bool) → Words image → Shaped state → SoundUsers state → SoundByKit image
-        → SysMarking image g marks L → SysSound image g L → Decides r (SoundLayers image state g L) → Decides r (SoundUnit image state)
+        → SysMarking image g marks (Some L) → SysSound image g L → Decides r (SoundLayers image state g L) → Decides r (SoundUnit image state)
     decides_unit r words shaped users kit found s d = record {
       yes = λ e. layers_unit words shaped users kit s (d.yes e);
       not = λ e u. d.not e (unit_layers found u).1;
@@ -125,7 +128,7 @@ module _ {image : List ℕ} {g : Geometry} (is : GeometryOf image g) where
 
     -- ---- the numbers
 
-    pub numbers_by : {marks : List ℕ} {r : ℕ} → SysMarking image g marks r → (u : SoundUnit image state)
+    pub numbers_by : {marks : List ℕ} {r : ℕ} → SysMarking image g marks (Some r) → (u : SoundUnit image state)
         → NumbersBy image state u (record { slice = g.slice; first = g.first; slices = g.slices; catalog = sys_value g.keys r })
     numbers_by found u = record {
       slice = is.slice;
@@ -137,7 +140,7 @@ module _ {image : List ℕ} {g : Geometry} (is : GeometryOf image g) where
 -- ---- the answer
 
 module _ {image : List ℕ} {state : State} where
-  pub not_sound : (SoundUnit image state → ⊥) → Judges image state Unsound
+  pub not_sound : (SoundUnit image state → ⊥) → Judges image state None
   not_sound refuted = record {
     sound = fails refuted;
     area_sound = fails refuted;
@@ -145,16 +148,16 @@ module _ {image : List ℕ} {state : State} where
   }
 
   pub is_sound : {u : Unit} → SoundUnit image state → ((unit : SoundUnit image state) → NumbersBy image state unit u)
-      → Judges image state (Sound u)
+      → Judges image state (Some u)
   is_sound {u} sound numbers = record {
     sound = holds sound;
     area_sound = holds sound;
     numbers = λ v e unit. let z : u ≡ v = cc in subst (NumbersBy image state unit) z (numbers unit);
   }
 
-  module _ {r : Judged} (judged : Judges image state r) where
-    pub judged_sound : {u : Unit} → r ≡ Sound u → SoundUnit image state
+  module _ {r : Option Unit} (judged : Judges image state r) where
+    pub judged_sound : {u : Unit} → r ≡ Some u → SoundUnit image state
     judged_sound e = (rw e at judged.sound).yes refl
 
-    pub judged_unsound : r ≡ Unsound → SoundUnit image state → ⊥
+    pub judged_unsound : r ≡ None → SoundUnit image state → ⊥
     judged_unsound e = (rw e at judged.sound).not refl

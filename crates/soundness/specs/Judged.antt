@@ -1,5 +1,5 @@
 -- What the soundness check answers: whether image and state are a sound unit, and the numbers of one that is.
-use Rattle.std.specs.Prelude.{◌≡◌, List, ℕ, eqb}
+use Rattle.std.specs.Prelude.{◌≡◌, List, ℕ, eqb, Option, Some, None}
 use Rattle.types.specs.declared.State.{State}
 use Rattle.disc.specs.Decide.{Decides}
 use Rattle.disc.specs.Numbers.{slice_count}
@@ -10,8 +10,6 @@ use Rattle.disc.specs.Catalog.{sys_catalog}
 use Rattle.sound.specs.Sound.{SoundUnit}
 use Rattle.catalog.specs.declared.Unit.{Unit}
 use Rattle.catalog.specs.Value.{CatalogIs}
-use Rattle.soundness.specs.declared.Judged.{Judged}
-use Rattle.soundness.specs.declared.Judged.TheVariants.{Sound, Unsound}
 
 -- "Kit words 0 to 5: H (SYS size), s (sectors in a slice), N (sectors), free sectors, F (first data sector), top = N"; "M = (N - F) / s";
 -- SYS with H keys, the L of the rules and the slices that its index block describes.
@@ -23,19 +21,19 @@ pub record NumbersBy (image : List ℕ) (state : State) (unit : SoundUnit image 
       (sys_catalog unit.layers (slices_at image (word image kit_sector 4) (word image kit_sector 1) sys_index_sector))
 
 -- The result word for each case of the answer, where `refusal` is the word of the question's no.
-abbrev pub word_of : ℕ → Judged → ℕ
-word_of refusal (Sound u) = 0
-word_of refusal Unsound = refusal
+abbrev pub word_of : ℕ → Option Unit → ℕ
+word_of refusal (Some u) = 0
+word_of refusal None = refusal
 
 -- "2. Image sound with the state? 9000h", and of area create and remove and of the area messages "sound? 8800h".
-abbrev pub sound_word : Judged → ℕ
+abbrev pub sound_word : Option Unit → ℕ
 sound_word r = word_of 0x9000 r
 
-abbrev pub area_sound_word : Judged → ℕ
+abbrev pub area_sound_word : Option Unit → ℕ
 area_sound_word r = word_of 0x8800 r
 
 -- Each word is 0 exactly if image and state are a sound unit; then the numbers are those that the rules have.
-pub record Judges (image : List ℕ) (state : State) (r : Judged) : Type 0 where
+pub record Judges (image : List ℕ) (state : State) (r : Option Unit) : Type 0 where
   pub sound : Decides (eqb (sound_word r) 0) (SoundUnit image state)
   pub area_sound : Decides (eqb (area_sound_word r) 0) (SoundUnit image state)
-  pub numbers : (u : Unit) → r ≡ Sound u → (unit : SoundUnit image state) → NumbersBy image state unit u
+  pub numbers : (u : Unit) → r ≡ Some u → (unit : SoundUnit image state) → NumbersBy image state unit u

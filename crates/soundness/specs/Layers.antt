@@ -1,5 +1,5 @@
 -- The rules of a sound unit in the two steps in which they are decided once the kit is read: SYS's slices and layers, and the rest.
-use Rattle.std.specs.Prelude.{◌≡◌, List, ℕ, ◌*◌, ◌≤◌, length}
+use Rattle.std.specs.Prelude.{◌≡◌, List, ℕ, ◌*◌, ◌≤◌, length, Option, Some, IfSome}
 use Rattle.types.specs.declared.State.{State}
 use Rattle.disc.specs.Numbers.{ceil_div}
 use Rattle.disc.specs.Slices.{InRangeOnce, first_of}
@@ -21,10 +21,10 @@ pub record SysSound (image : List ℕ) (g : Geometry) (L : ℕ) : Type 0 where
   pub first : first_of (sys_slices image g) ≡ 1
   pub count : length (sys_slices image g) ≡ ceil_div (g.keys * L) g.slice
 
--- The answer is a number of layers that fits SYS's slices, which are marked then, or 0; and no other number has sound names.
-pub record SysMarking (image : List ℕ) (g : Geometry) (marks : List ℕ) (r : ℕ) : Type 0 where
-  pub known : (r ≡ 0 → ⊥) → SysSound image g r × Marked g.slices marks (sys_slices image g)
-  pub only : (L : ℕ) → SysSound image g L → SysNames image g L → r ≡ L
+-- The answer is a number of layers that fits SYS's slices, which are marked then, or none; and no other number has sound names.
+pub record SysMarking (image : List ℕ) (g : Geometry) (marks : List ℕ) (r : Option ℕ) : Type 0 where
+  pub known : IfSome r (λ L. SysSound image g L × Marked g.slices marks (sys_slices image g))
+  pub only : (L : ℕ) → SysSound image g L → SysNames image g L → r ≡ Some L
 
 -- The slices that all files have, SYS's first.
 abbrev pub unit_slices : List ℕ → State → Geometry → ℕ → List ℕ

@@ -17,29 +17,19 @@ ghost use Rattle.soundness.specs.Areas.{OrdinaryEntered, AreasEntered};
 ghost use Rattle.soundness.specs.Layers.{SysMarking, SoundLayers};
 ghost use Rattle.soundness.specs.Judged.{Judges};
 
-use catalog::{Catalog, Found, Unit};
+use catalog::{Catalog, Unit};
 use kit::Geometry;
 use types::{Name, Sector, State};
-
-// Whether a unit is sound, and the numbers of one that is.
-#[derive(Clone, Copy)]
-pub enum Judged {
-    Sound(Unit),
-    Unsound,
-}
 
 // Whether a name is entered in SYS, and not SYS or MAP.
 fn name_entered(image: &[u16], g: Geometry, sys: Catalog, name: Name) -> bool
     requires { LegalSys image.now g sys }
     ensures { Decides result (OrdinaryEntered (places_in image.now g) (place_count g.keys sys.layers) (packed name)) }
 {
-    if name.0 == 0 {
+    if name.0 == 0 || names::is_system(name) {
         return false;
     }
-    if names::is_system(name) {
-        return false;
-    }
-    let Found::At(_) = catalog::find(image, sys, name) else {
+    let Some(_) = catalog::find(image, sys, name) else {
         return false;
     };
     true
@@ -50,30 +40,22 @@ pub fn areas_entered(image: &[u16], g: Geometry, sys: Catalog, state: State) -> 
     requires { LegalSys image.now g sys }
     ensures { Decides result (AreasEntered state (places_in image.now g) (place_count g.keys sys.layers)) }
 {
-    let mut j: usize = 0;
-    while j < 8 {
-        let area = state.areas[j];
-        if state::is_open(area) && !name_entered(image, g, sys, area.name) {
+    for area in &state.areas {
+        if state::is_open(*area) && !name_entered(image, g, sys, area.name) {
             return false;
         }
-        j += 1;
     }
     true
 }
 
-// Marks SYS's slices and finds the number of SYS's layers; 0 if its index or its slices are not those of a sound unit.
-fn mark_sys(image: &[u16], g: Geometry, marks: &mut [u8; 4096]) -> u16
+// Marks SYS's slices and finds the number of SYS's layers; none if its index or its slices are not those of a sound unit.
+fn mark_sys(image: &[u16], g: Geometry, marks: &mut [u8; 4096]) -> Option<u16>
     requires { UnitOf image.now g × Marked g.slices marks.old [] }
     ensures { SysMarking image.now g marks.new result }
 {
-    let sys = marks::mark_index(image, Sector(6), g, marks);
-    if !sys.good {
-        return 0;
-    }
-    let start = sys.start;
-    let first = g.first;
-    if start.0 != first.0 {
-        return 0;
+    let sys = marks::mark_index(image, Sector(6), g, marks)?;
+    if sys.start != g.first {
+        return None;
     }
     sound_entries::find_layers(image, g)
 }
@@ -89,42 +71,31 @@ fn layers_sound(
     requires { SysKnown image.now g marks.old (g.keys * sys.layers) × (sys ≡ sys_value g.keys sys.layers) }
     ensures { Decides result (SoundLayers image.now state g sys.layers) }
 {
-    if !sound_names::names_sound(image, g, sys) {
-        return false;
-    }
-    if !areas_entered(image, g, sys, state) {
-        return false;
-    }
-    if !sound_files::files_sound(image, state, g, sys, marks) {
-        return false;
-    }
-    marks::map_agrees(image, marks, g)
+    sound_names::names_sound(image, g, sys)
+        && areas_entered(image, g, sys, state)
+        && sound_files::files_sound(image, state, g, sys, marks)
+        && marks::map_agrees(image, marks, g)
 }
 
 // Whether image and state are a sound unit. The numbers of one that is need not be read again.
-pub fn judge(image: &[u16], state: State) -> Judged
+pub fn judge(image: &[u16], state: State) -> Option<Unit>
     ensures { Judges image.now state result }
 {
-    if !sound_users::users_sound(state) {
-        return Judged::Unsound;
-    }
-    if !kit::kit_sound(image) {
-        return Judged::Unsound;
+    if !sound_users::users_sound(state) || !kit::kit_sound(image) {
+        return None;
     }
     let g = kit::geometry_of(image);
-    let mut marks: [u8; 4096] = [0; 4096];
-    let layers = mark_sys(image, g, &mut marks);
-    if layers == 0 {
-        return Judged::Unsound;
-    }
+    let mut marks = [0; 4096];
+    let Some(layers) = mark_sys(image, g, &mut marks) else {
+        return None;
+    };
     let sys = catalog::sys(g.keys, layers);
     if !layers_sound(image, state, g, sys, &mut marks) {
-        return Judged::Unsound;
+        return None;
     }
-    let first = g.first;
-    Judged::Sound(Unit {
+    Some(Unit {
         slice: g.slice,
-        first: first,
+        first: g.first,
         slices: g.slices,
         catalog: sys,
     })
@@ -134,8 +105,5 @@ pub fn judge(image: &[u16], state: State) -> Judged
 pub fn sound(image: &[u16], state: State) -> bool
     ensures { Decides result (SoundUnit image.now state) }
 {
-    match judge(image, state) {
-        Judged::Sound(_) => true,
-        Judged::Unsound => false,
-    }
+    matches!(judge(image, state), Some(_))
 }

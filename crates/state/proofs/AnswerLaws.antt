@@ -1,18 +1,16 @@
--- What the searches and the raised role promise: a question's word is 0 exactly if an element passes the test; a role only rises.
-use mathlib.Core.Path.{◌≡◌, refl, sym, ap, ◌∙◌}
+-- What the searches promise: std's are those of the definitions, and a question's word is 0 exactly if an element passes the test.
+use mathlib.Core.Path.{◌≡◌, refl, ap, ◌∙◌}
 use mathlib.Core.Bool.{Bool, true, false, ◌||◌, cond}
 use mathlib.Core.List.{List, [], ◌∷◌}
-use Prim.Native.Nat.{ℕ, suc, ◌≤◌}
+use Prim.Native.Nat.{ℕ, suc}
 use native.Mathlib.Omega.{arith}
-use lib.Dec.{eqb}
-use borrow.Author.Tests.{eqb-true, eqb-false}
-use Rattle.types.specs.declared.Role.{Role}
-use Rattle.types.specs.declared.Role.TheVariants.{Sharing, ExclusiveWriter, ExclusiveUser}
+use Rattle.std.proofs.Common.{Option, Some, add-one, position, count_by, ◌+◌}
+use Rattle.std.proofs.lemmas.Iterator.Adapters.{position_from-zero}
+use Rattle.std.proofs.lemmas.List.Recursion.{is_count_by}
+use Rattle.std.specs.List.{position_from, list_any}
 use Rattle.types.specs.declared.Area.{Area}
 use Rattle.types.specs.declared.State.{State}
-use Rattle.state.specs.declared.Found.{Found}
-use Rattle.state.specs.declared.Found.TheVariants.{At}
-use Rattle.state.specs.Areas.{first_from, any_of, word_of, is_named, area_named, AreaFound, is_vacant, vacant_area_of, VacantFound, has_id, entry_of, UserFound, raised, role_number, role_rank, RoleRaised}
+use Rattle.state.specs.Areas.{first_from, any_of, count_of, word_of, is_named, area_named, AreaFound, is_vacant, vacant_area_of, VacantFound, has_id, entry_of, UserFound}
 
 pub first_word : {A : Type 0} (test : A → Bool) (refusal i : ℕ) (l : List A) → word_of refusal (first_from test i l) ≡ cond (any_of test l) 0 refusal
 unfolding first_from any_of
@@ -20,40 +18,43 @@ first_word test refusal i [] = refl
 first_word {A} test refusal i (x ∷ l) = go (test x) (first_word test refusal (suc i) l)
   where
     go : (b : Bool) → word_of refusal (first_from test (suc i) l) ≡ cond (any_of test l) 0 refusal
-        → word_of refusal (cond b (At i) (first_from test (suc i) l)) ≡ cond (b || any_of test l) 0 refusal
+        → word_of refusal (cond b (Some i) (first_from test (suc i) l)) ≡ cond (b || any_of test l) 0 refusal
     go true ih = refl
     go false ih = ih
 
-pub area_found : {n : ℕ} {state : State} {r : Found} → r ≡ area_named n state → AreaFound n state r
+-- ---- the searches of std
+
+first_by : {A : Type 0} (test : A → Bool) (i : ℕ) (l : List A) → position_from test i l ≡ first_from test i l
+unfolding first_from
+first_by test i [] = refl
+first_by {A} test i (x ∷ l) = go (test x) (first_by test (suc i) l)
+  where
+    go : (b : Bool) → position_from test (suc i) l ≡ first_from test (suc i) l → cond b (Some i) (position_from test (i + 1) l) ≡ cond b (Some i) (first_from test (suc i) l)
+    go true ih = refl
+    go false ih = rw add-one ih
+
+pub first_position : {A : Type 0} (test : A → Bool) (l : List A) {o : Option ℕ} → o ≡ position test l → o ≡ first_from test 0 l
+first_position test l e = e ∙ position_from-zero test l ∙ first_by test 0 l
+
+pub any_by : {A : Type 0} (test : A → Bool) (l : List A) → list_any test l ≡ any_of test l
+unfolding any_of
+any_by test [] = refl
+any_by test (x ∷ l) = ap (λ (b : Bool). test x || b) (any_by test l)
+
+pub count_is : {A : Type 0} (test : A → Bool) (l : List A) → count_of test l ≡ count_by test l
+unfolding count_of
+count_is {A} test l = is_count_by (count_of test) test refl (λ x rest. go (test x) (count_of test rest)) l
+  where
+    go : (b : Bool) (n : ℕ) → cond b 1 0 + n ≡ cond b (1 + n) n
+    go true n = refl
+    go false n = omega arith
+
+pub area_found : {n : ℕ} {state : State} {r : Option ℕ} → r ≡ area_named n state → AreaFound n state r
 area_found {n} {state} e = rw e (record { first = refl; word = first_word (is_named n) 0x4800 0 state.areas })
 
-pub vacant_found : {state : State} {r : Found} → r ≡ vacant_area_of state → VacantFound state r
+pub vacant_found : {state : State} {r : Option ℕ} → r ≡ vacant_area_of state → VacantFound state r
 vacant_found {state} e = rw e (record { first = refl; word = first_word is_vacant 0x0900 0 state.areas })
 
-pub user_found : {id : ℕ} {area : Area} {r : Found} → r ≡ entry_of id area → UserFound id area r
+pub user_found : {id : ℕ} {area : Area} {r : Option ℕ} → r ≡ entry_of id area → UserFound id area r
 user_found {id} {area} e =
     rw e (record { first = refl; user = first_word (has_id id) 0x0810 0 area.users; entry = first_word (has_id id) 0x0808 0 area.users })
-
--- ---- roles
-
-sharing_asked : (count : ℕ) → 2 ≤ count → count ≤ 4 → role_number (raised count Sharing) ≡ count
-sharing_asked count low high = go (eqb count 4) refl (eqb count 2) refl
-  where
-    go : (four : Bool) → eqb count 4 ≡ four → (two : Bool) → eqb count 2 ≡ two
-        → role_number (cond four ExclusiveUser (cond two ExclusiveWriter Sharing)) ≡ count
-    go true e two f = sym (eqb-true count 4 e)
-    go false e true f = sym (eqb-true count 2 f)
-    go false e false f = let a = eqb-false count 4 e in let b = eqb-false count 2 f in omega arith
-
-role_rises : (count : ℕ) (role : Role) → role_rank role ≤ role_rank (raised count role)
-role_rises count Sharing = omega arith
-role_rises count ExclusiveWriter = go (eqb count 4)
-  where
-    go : (four : Bool) → 1 ≤ role_rank (cond four ExclusiveUser ExclusiveWriter)
-    go true = omega arith
-    go false = omega arith
-role_rises count ExclusiveUser = omega arith
-
-pub role_raised : {count : ℕ} {role r : Role} → r ≡ raised count role → RoleRaised count role r
-role_raised {count} {role} e =
-    rw e (record { is = refl; asked = λ s low high. ap (λ (x : Role). role_number (raised count x)) s ∙ sharing_asked count low high; rises = role_rises count role })

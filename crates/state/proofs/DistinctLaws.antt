@@ -1,4 +1,5 @@
 -- Laws of lists in which the elements that pass a test have distinct keys: user entries by identification, descriptors by name.
+use Rattle.std.specs.Prelude.{Some}
 use mathlib.Core.Path.{◌≡◌, refl, sym, ap, ◌∙◌}
 use mathlib.Core.List.{List, ◌∷◌}
 use mathlib.Core.Bool.{Bool, true, false, ◌&&◌, true≢false}
@@ -10,7 +11,6 @@ use lib.Seq.{get_or-set_same, get_or-set_other}
 use lib.Dec.{eqb}
 use borrow.Author.Tests.{eq-eqb, ne_eqb, eqb-true}
 use Rattle.disc.proofs.Compare.{same_or}
-use Rattle.state.specs.declared.Found.TheVariants.{At}
 use Rattle.state.specs.Areas.{first_from}
 use Rattle.state.proofs.SearchLaws.{FirstAt, Nowhere, at_first}
 
@@ -55,7 +55,7 @@ module _ {A : Type 0} (test : A → Bool) (key : A → ℕ) (d : A) where
   distinct_rest l j o h t v k n = keyed_false test key (key (get_or l j d)) (get_or l v d) (λ tv e. n (o.only v j k h tv t e))
 
   -- such an element is the first under its key
-  pub distinct_first : (l : List A) (j : ℕ) → Distinct test key d l → j < length l → test (get_or l j d) ≡ true → first_from (keyed test key (key (get_or l j d))) 0 l ≡ At j
+  pub distinct_first : (l : List A) (j : ℕ) → Distinct test key d l → j < length l → test (get_or l j d) ≡ true → first_from (keyed test key (key (get_or l j d))) 0 l ≡ Some j
   distinct_first l j o h t =
       let e : 0 + j ≡ j = omega arith in
       let first : FirstAt (keyed test key (key (get_or l j d))) d l j = record {
@@ -63,7 +63,7 @@ module _ {A : Type 0} (test : A → Bool) (key : A → ℕ) (d : A) where
         passes = rw (t, eq-eqb (key (get_or l j d)) (key (get_or l j d)) refl);
         before = λ v k. distinct_rest l j o h t v (omega arith) (omega arith);
       } in
-      at_first (keyed test key (key (get_or l j d))) d 0 l j first ∙ ap At e
+      at_first (keyed test key (key (get_or l j d))) d 0 l j first ∙ ap Some e
 
   -- kept if the new element's key is under no other place
   pub distinct-set : (l : List A) (j : ℕ) (new : A) → Distinct test key d l

@@ -1,61 +1,19 @@
--- Laws of the searches in a list: their steps, their ends, and what they found.
+-- Laws of the searches in a list: what they found.
+use Rattle.std.specs.Prelude.{Some, None}
 use mathlib.Core.Path.{◌≡◌, refl, sym, ap, ◌∙◌}
 use mathlib.Core.List.{List, [], ◌∷◌}
 use mathlib.Core.Bool.{Bool, true, false, not, cond, ◌||◌}
 use mathlib.Core.Logic.{◌≢◌}
 use mathlib.Core.Option.{Option, none, some}
 use Prim.Native.Nat.{ℕ, zero, suc, ◌+◌, ◌≤◌, ◌<◌}
-use native.Mathlib.Numerals.{add-one}
 use native.Mathlib.Omega.{arith}
-use lib.ListN.{length, drop, get_or, set, drop_of_length-le, length-set}
-use lib.Seq.{drop-cons, lt-length-set, get_or-set_same, get_or-set_other}
+use lib.ListN.{length, get_or, set, length-set}
+use lib.Seq.{lt-length-set, get_or-set_same, get_or-set_other}
 use lib.Dec.{ltb}
 use borrow.Author.Tests.{lt-ltb}
 use Rattle.disc.proofs.Compare.{same_or}
 use Rattle.disc.proofs.DecideLaws.{never_true}
-use Rattle.state.specs.declared.Found.TheVariants.{At, Absent}
 use Rattle.state.specs.Areas.{first_from, any_of, count_of}
-
--- a search's step at the i-th of n elements, and its end
-module _ {A : Type 0} (test : A → Bool) (l : List A) (n i : ℕ) (d : A) (len : length l ≡ n) where
-  inside : i < n → i < length l
-  inside h = omega (arith, len)
-
-  pub first_hit : i < n → test (get_or l i d) ≡ true → first_from test i (drop i l) ≡ At i
-  unfolding first_from
-  first_hit h t = rw (drop-cons l i d (inside h), t)
-
-  pub first_miss : i < n → test (get_or l i d) ≡ false → first_from test i (drop i l) ≡ first_from test (i + 1) (drop (i + 1) l)
-  unfolding first_from
-  first_miss h t = rw (add-one, drop-cons l i d (inside h), t)
-
-  pub first_end : n ≤ i → first_from test i (drop i l) ≡ Absent
-  unfolding first_from
-  first_end h = rw (drop_of_length-le l {i = i} (omega (arith, len)))
-
-  pub any_hit : i < n → test (get_or l i d) ≡ true → any_of test (drop i l) ≡ true
-  unfolding any_of
-  any_hit h t = rw (drop-cons l i d (inside h), t)
-
-  pub any_miss : i < n → test (get_or l i d) ≡ false → any_of test (drop i l) ≡ any_of test (drop (i + 1) l)
-  unfolding any_of
-  any_miss h t = rw (add-one, drop-cons l i d (inside h), t)
-
-  pub any_end : n ≤ i → any_of test (drop i l) ≡ false
-  unfolding any_of
-  any_end h = rw (drop_of_length-le l {i = i} (omega (arith, len)))
-
-  pub count_hit : i < n → test (get_or l i d) ≡ true → count_of test (drop i l) ≡ suc (count_of test (drop (i + 1) l))
-  unfolding count_of
-  count_hit h t = rw (add-one, drop-cons l i d (inside h), t) (omega arith)
-
-  pub count_miss : i < n → test (get_or l i d) ≡ false → count_of test (drop i l) ≡ count_of test (drop (i + 1) l)
-  unfolding count_of
-  count_miss h t = rw (add-one, drop-cons l i d (inside h), t) (omega arith)
-
-  pub count_end : n ≤ i → count_of test (drop i l) ≡ 0
-  unfolding count_of
-  count_end h = rw (drop_of_length-le l {i = i} (omega (arith, len)))
 
 -- ---- what a search found
 
@@ -90,20 +48,20 @@ module _ {A : Type 0} (test : A → Bool) (d : A) where
       at zero h = e
       at (suc v) h = f.fails v (omega arith)
 
-  first_from_lem : (i : ℕ) (l : List A) (j : ℕ) → first_from test i l ≡ At j → (k : ℕ) × (j ≡ i + k) × FirstAt test d l k
+  first_from_lem : (i : ℕ) (l : List A) (j : ℕ) → first_from test i l ≡ Some j → (k : ℕ) × (j ≡ i + k) × FirstAt test d l k
   unfolding first_from
   first_from_lem i [] j e = absurd (let z : ◌≡◌ {A = ℕ} 0 1 = cc in omega arith)
   first_from_lem i (x ∷ l) j e = go (test x) refl (first_from_lem (suc i) l j) e
     where
-      go : (b : Bool) → test x ≡ b → (first_from test (suc i) l ≡ At j → (k : ℕ) × (j ≡ suc i + k) × FirstAt test d l k)
-          → cond b (At i) (first_from test (suc i) l) ≡ At j → (k : ℕ) × (j ≡ i + k) × FirstAt test d (x ∷ l) k
+      go : (b : Bool) → test x ≡ b → (first_from test (suc i) l ≡ Some j → (k : ℕ) × (j ≡ suc i + k) × FirstAt test d l k)
+          → cond b (Some i) (first_from test (suc i) l) ≡ Some j → (k : ℕ) × (j ≡ i + k) × FirstAt test d (x ∷ l) k
       go true t ih e = let q : i ≡ j = cc in (0, omega arith, here x l t)
       go false t ih e = let r = ih e in (suc r.0, omega (arith, r.1), later x l r.0 t r.2)
 
-  pub first_at : (l : List A) (j : ℕ) → first_from test 0 l ≡ At j → FirstAt test d l j
+  pub first_at : (l : List A) (j : ℕ) → first_from test 0 l ≡ Some j → FirstAt test d l j
   first_at l j e = let r = first_from_lem 0 l j e in let q : j ≡ r.0 = omega (arith, r.1) in rw q r.2
 
-  pub at_first : (i : ℕ) (l : List A) (j : ℕ) → FirstAt test d l j → first_from test i l ≡ At (i + j)
+  pub at_first : (i : ℕ) (l : List A) (j : ℕ) → FirstAt test d l j → first_from test i l ≡ Some (i + j)
   unfolding first_from
   at_first i [] j f = absurd (omega (arith, f.inside))
   at_first i (x ∷ l) zero f = let q : i + 0 ≡ i = omega arith in rw (f.passes, q)
@@ -112,12 +70,12 @@ module _ {A : Type 0} (test : A → Bool) (d : A) where
       let rest : FirstAt test d l j = record { inside = omega (arith, f.inside); passes = f.passes; before = λ v h. f.before (suc v) (omega arith) } in
       rw (f.before 0 (omega arith), q) (at_first (suc i) l j rest)
 
-  pub first_nowhere : (i : ℕ) (l : List A) → first_from test i l ≡ Absent → Nowhere test d l
+  pub first_nowhere : (i : ℕ) (l : List A) → first_from test i l ≡ None → Nowhere test d l
   unfolding first_from
   first_nowhere i [] e = nothing
   first_nowhere i (x ∷ l) e = go (test x) refl (first_nowhere (suc i) l) e
     where
-      go : (b : Bool) → test x ≡ b → (first_from test (suc i) l ≡ Absent → Nowhere test d l) → cond b (At i) (first_from test (suc i) l) ≡ Absent → Nowhere test d (x ∷ l)
+      go : (b : Bool) → test x ≡ b → (first_from test (suc i) l ≡ None → Nowhere test d l) → cond b (Some i) (first_from test (suc i) l) ≡ None → Nowhere test d (x ∷ l)
       go true t ih e = absurd (let z : ◌≡◌ {A = ℕ} 0 1 = cc in omega arith)
       go false t ih e = none_more x l t (ih e)
 
@@ -198,22 +156,22 @@ module _ {A : Type 0} (test : A → Bool) where
 
 -- a list where an element passes the opposite test, and one where none does
 module _ {A : Type 0} (test vacant : A → Bool) (opposite : (x : A) → test x ≡ not (vacant x)) where
-  pub count_full : (i : ℕ) (l : List A) → first_from vacant i l ≡ Absent → count_of test l ≡ length l
+  pub count_full : (i : ℕ) (l : List A) → first_from vacant i l ≡ None → count_of test l ≡ length l
   unfolding first_from count_of
   count_full i [] e = refl
   count_full i (x ∷ l) e = go (vacant x) (opposite x) (count_full (suc i) l) e
     where
-      go : (b : Bool) → test x ≡ not b → (first_from vacant (suc i) l ≡ Absent → count_of test l ≡ length l) → cond b (At i) (first_from vacant (suc i) l) ≡ Absent
+      go : (b : Bool) → test x ≡ not b → (first_from vacant (suc i) l ≡ None → count_of test l ≡ length l) → cond b (Some i) (first_from vacant (suc i) l) ≡ None
           → cond (test x) 1 0 + count_of test l ≡ suc (length l)
       go true t ih e = absurd (let z : ◌≡◌ {A = ℕ} 0 1 = cc in omega arith)
       go false t ih e = rw t (omega (arith, ih e))
 
-  pub count_room : (i : ℕ) (l : List A) (j : ℕ) → first_from vacant i l ≡ At j → count_of test l < length l
+  pub count_room : (i : ℕ) (l : List A) (j : ℕ) → first_from vacant i l ≡ Some j → count_of test l < length l
   unfolding first_from count_of
   count_room i [] j e = absurd (let z : ◌≡◌ {A = ℕ} 0 1 = cc in omega arith)
   count_room i (x ∷ l) j e = go (vacant x) (opposite x) (count_room (suc i) l j) e
     where
-      go : (b : Bool) → test x ≡ not b → (first_from vacant (suc i) l ≡ At j → count_of test l < length l) → cond b (At i) (first_from vacant (suc i) l) ≡ At j
+      go : (b : Bool) → test x ≡ not b → (first_from vacant (suc i) l ≡ Some j → count_of test l < length l) → cond b (Some i) (first_from vacant (suc i) l) ≡ Some j
           → cond (test x) 1 0 + count_of test l < suc (length l)
       go true t ih e = rw t (omega (arith, count_most test l))
       go false t ih e = rw t (omega (arith, ih e))

@@ -1,5 +1,5 @@
 -- Operations on the state by value: area descriptors and user entries, searches among them, Reserve, Release and positions.
-use Rattle.std.specs.Prelude.{◌≡◌, Bool, true, false, not, ◌&&◌, ◌||◌, cond, List, [], ◌∷◌, ℕ, suc, ◌+◌, ◌-◌, ◌≤◌, set, replicate, leb, ltb, eqb}
+use Rattle.std.specs.Prelude.{◌≡◌, Bool, true, false, not, ◌&&◌, ◌||◌, cond, List, [], ◌∷◌, ℕ, suc, ◌+◌, ◌-◌, ◌≤◌, set, replicate, leb, ltb, eqb, Option, Some, None, Result}
 use Rattle.types.specs.declared.Sector.{Sector}
 use Rattle.types.specs.declared.Block.{Block}
 use Rattle.types.specs.declared.Name.{Name}
@@ -8,19 +8,18 @@ use Rattle.types.specs.declared.Role.TheVariants.{Sharing, ExclusiveWriter, Excl
 use Rattle.types.specs.declared.User.{User}
 use Rattle.types.specs.declared.Area.{Area}
 use Rattle.types.specs.declared.State.{State}
+use Rattle.types.specs.declared.Refusal.{Refusal}
+use Rattle.types.specs.Words.{result_word, left_of}
 use Rattle.types.specs.State.{vacant_user, vacant_area, user_at, is_open}
 use Rattle.disc.specs.Names.{packed}
-use Rattle.state.specs.declared.Found.{Found}
-use Rattle.state.specs.declared.Found.TheVariants.{At, Absent}
 use Rattle.state.specs.declared.Kind.{Kind}
 use Rattle.state.specs.declared.Kind.TheVariants.{AnyUser, Writer, Exclusive}
-use Rattle.state.specs.declared.Reserved.{Reserved}
 
 module _ {A : Type 0} where
   -- The place, counted from i, of the first element that passes the test.
-  unfoldable pub first_from : (A → Bool) → ℕ → List A → Found
-  first_from test i [] = Absent
-  first_from test i (x ∷ l) = cond (test x) (At i) (first_from test (suc i) l)
+  unfoldable pub first_from : (A → Bool) → ℕ → List A → Option ℕ
+  first_from test i [] = None
+  first_from test i (x ∷ l) = cond (test x) (Some i) (first_from test (suc i) l)
 
   -- Does an element pass the test?
   unfoldable pub any_of : (A → Bool) → List A → Bool
@@ -33,9 +32,9 @@ module _ {A : Type 0} where
   count_of test (x ∷ l) = cond (test x) 1 0 + count_of test l
 
 -- The result word for each case of a search's answer, where `refusal` is the word of the question's no.
-abbrev pub word_of : ℕ → Found → ℕ
-word_of refusal (At j) = 0
-word_of refusal Absent = refusal
+abbrev pub word_of : ℕ → Option ℕ → ℕ
+word_of refusal (Some j) = 0
+word_of refusal None = refusal
 
 -- ---- area descriptors: "eight area processes"
 
@@ -55,24 +54,24 @@ abbrev pub is_named : ℕ → Area → Bool
 is_named n area = is_open area && eqb (packed area.name) n
 
 -- "Area messages .. : open? 4800h": the first open descriptor of name n.
-abbrev pub area_named : ℕ → State → Found
+abbrev pub area_named : ℕ → State → Option ℕ
 area_named n state = first_from (is_named n) 0 state.areas
 
-abbrev pub open_word : Found → ℕ
+abbrev pub open_word : Option ℕ → ℕ
 open_word r = word_of 0x4800 r
 
-pub record AreaFound (n : ℕ) (state : State) (r : Found) : Type 0 where
+pub record AreaFound (n : ℕ) (state : State) (r : Option ℕ) : Type 0 where
   pub first : r ≡ area_named n state
   pub word : open_word r ≡ cond (any_of (is_named n) state.areas) 0 0x4800
 
 -- "Already open, or one of eight vacant? 0900h": the lowest vacant descriptor.
-abbrev pub vacant_area_of : State → Found
+abbrev pub vacant_area_of : State → Option ℕ
 vacant_area_of state = first_from is_vacant 0 state.areas
 
-abbrev pub vacant_word : Found → ℕ
+abbrev pub vacant_word : Option ℕ → ℕ
 vacant_word r = word_of 0x0900 r
 
-pub record VacantFound (state : State) (r : Found) : Type 0 where
+pub record VacantFound (state : State) (r : Option ℕ) : Type 0 where
   pub first : r ≡ vacant_area_of state
   pub word : vacant_word r ≡ cond (any_of is_vacant state.areas) 0 0x0900
 
@@ -106,17 +105,17 @@ abbrev pub has_id : ℕ → User → Bool
 has_id id user = eqb user.id id
 
 -- "Sender a user?": the sender's entry. The lowest vacant entry is that of 0.
-abbrev pub entry_of : ℕ → Area → Found
+abbrev pub entry_of : ℕ → Area → Option ℕ
 entry_of id area = first_from (has_id id) 0 area.users
 
 -- "Sender a user? 0810h", and of Reserve "entry vacant or own ..? 0808h".
-abbrev pub user_word : Found → ℕ
+abbrev pub user_word : Option ℕ → ℕ
 user_word r = word_of 0x0810 r
 
-abbrev pub entry_word : Found → ℕ
+abbrev pub entry_word : Option ℕ → ℕ
 entry_word r = word_of 0x0808 r
 
-pub record UserFound (id : ℕ) (area : Area) (r : Found) : Type 0 where
+pub record UserFound (id : ℕ) (area : Area) (r : Option ℕ) : Type 0 where
   pub first : r ≡ entry_of id area
   pub user : user_word r ≡ cond (any_of (has_id id) area.users) 0 0x0810
   pub entry : entry_word r ≡ cond (any_of (has_id id) area.users) 0 0x0808
@@ -179,15 +178,24 @@ inserted sender count = record { id = sender; role = raised count Sharing; opens
 abbrev pub opened_again : ℕ → User → User
 opened_again count user = record { id = user.id; role = raised count user.role; opens = user.opens + 1; position = user.position }
 
+-- The answer of Reserve: the result word, and the area after it.
+pub record Reserved : Type 0 where
+  pub word : ℕ
+  pub area : Area
+
 abbrev pub answered : ℕ → Area → Reserved
 answered word area = record { word = word; area = area }
 
+-- A Reserve that is refused leaves the area as it was.
+abbrev pub reserve_of : Area → Result Area Refusal → Reserved
+reserve_of area r = answered (result_word r) (left_of area r)
+
 -- "Entry vacant or own, count below 65,535? 0808h": by where the sender's entry and a vacant one stand.
-abbrev pub placed_at : Area → ℕ → ℕ → Found → Found → Reserved
-placed_at area sender count (At u) vacant =
+abbrev pub placed_at : Area → ℕ → ℕ → Option ℕ → Option ℕ → Reserved
+placed_at area sender count (Some u) vacant =
     cond (ltb (user_at area u).opens 65535) (answered 0 (set_user area u (opened_again count (user_at area u)))) (answered 0x0808 area)
-placed_at area sender count Absent (At v) = answered 0 (set_user area v (inserted sender count))
-placed_at area sender count Absent Absent = answered 0x0808 area
+placed_at area sender count None (Some v) = answered 0 (set_user area v (inserted sender count))
+placed_at area sender count None None = answered 0x0808 area
 
 abbrev pub placed : Area → ℕ → ℕ → Reserved
 placed area sender count = placed_at area sender count (entry_of sender area) (entry_of 0 area)

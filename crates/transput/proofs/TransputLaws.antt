@@ -10,6 +10,7 @@ use native.Mathlib.Numerals.{add-one}
 use lib.Dec.{leb, eqb}
 use lib.ListN.{length, get_or}
 use borrow.Author.Tests.{lt-ltb, le-ltb, le-leb, lt-leb, eq-eqb, ne_eqb, leb-true}
+use Rattle.types.specs.declared.User.{User}
 use Rattle.types.specs.declared.Area.{Area}
 use Rattle.types.specs.declared.State.{State}
 use Rattle.types.specs.State.{area_at, user_at}
@@ -30,8 +31,7 @@ use Rattle.refine.proofs.StateLaws.{named_name}
 use Rattle.preservation.proofs.Whole.{on_disc}
 use Rattle.preservation.proofs.AreaMessages.{area_other}
 use Rattle.preservation.proofs.OutputStep.{input_filled}
-use Rattle.lookup.specs.Unit.{NumbersOf, Searchable}
-use Rattle.lookup.proofs.UnitLaws.{searchable}
+use Rattle.lookup.specs.Unit.{NumbersOf}
 use Rattle.area_users.specs.declared.AreaReply.{AreaReply}
 use Rattle.area_users.specs.AreaUsers.{area_reply, at_position, position_word, position_reached}
 use Rattle.area_users.specs.Seat.{Seat, area_users, area_user}
@@ -292,8 +292,9 @@ module _ {image : List ℕ} {state : State} {o : Unit} {p : Plain} {n j sender u
 
 -- ---- every unit on the image, by what the code finds
 
-pub seated_searches : {image : List ℕ} {state : State} {o : Unit} {j sender u : ℕ} → Seated image state o j sender u → Searchable image o
-seated_searches s = searchable (record { unit = s.p; on = on_disc s.seat.good s.seat.represents; numbers = s.numbers })
+-- the sender's own position
+pub own_is : (state : State) (j u : ℕ) {area : Area} {user : User} → area ≡ area_at state j → user ≡ user_at area u → user.position.0 ≡ (user_at (area_at state j) u).position.0
+own_is state j u a e = ap (λ (x : User). x.position.0) (e ∙ ap (λ (y : Area). user_at y u) a)
 
 module _ {image : List ℕ} {state : State} {o : Unit} {j sender u operation bytes : ℕ} (block : ℕ) (lent : List ℕ) {area : Area} (own : area ≡ area_at state j)
     {w : ℕ} (asks : RefusalFor image o area sender operation bytes (length lent) w) where

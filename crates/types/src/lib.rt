@@ -4,31 +4,33 @@
 
 ghost use Rattle.std.specs.Prelude.{◌≡◌};
 ghost use Rattle.types.specs.State.{vacant_user, vacant_area, fresh_state};
+ghost use Rattle.types.specs.Words.{refusal_word, result_word};
 
 // Numbers that name different things: a sector of the disc, a slice of the unit, a block of a file.
-#[derive(Clone, Copy)]
+#[derive(Clone, Copy, Debug, PartialEq, Eq, PartialOrd, Ord)]
 pub struct Sector(pub u16);
 
-#[derive(Clone, Copy)]
+#[derive(Clone, Copy, Debug, PartialEq, Eq, PartialOrd, Ord)]
 pub struct Slice(pub u16);
 
-#[derive(Clone, Copy)]
+#[derive(Clone, Copy, Debug, PartialEq, Eq, PartialOrd, Ord)]
 pub struct Block(pub u16);
 
 // Three words: five characters, high half first, and the sixth character.
-#[derive(Clone, Copy)]
+#[derive(Clone, Copy, Debug, PartialEq, Eq)]
 pub struct Name(pub u16, pub u16, pub u16);
 
 // What a user may do on an area; a role only rises, in this order.
-#[derive(Clone, Copy)]
+#[derive(Clone, Copy, Debug, PartialEq, Eq, PartialOrd, Ord)]
 pub enum Role {
     Sharing,
     ExclusiveWriter,
     ExclusiveUser,
 }
 
-// A user's entry in an area descriptor; vacant if the identification is 0.
-#[derive(Clone, Copy)]
+// A user's entry in an area descriptor; vacant if the identification is 0. No `Option`: the mirror of C programs has these words, and a vacant
+// entry keeps its other ones (`export/Mirror` `MirrorClaims`).
+#[derive(Clone, Copy, Debug, PartialEq, Eq)]
 pub struct User {
     pub id: u16,
     pub role: Role,
@@ -36,8 +38,8 @@ pub struct User {
     pub position: Block,
 }
 
-// An area descriptor: the index sector and the live length are the process's own.
-#[derive(Clone, Copy)]
+// An area descriptor: the index sector and the live length are the process's own. It is open if `live`, and no `Option`, as a user's entry.
+#[derive(Clone, Copy, Debug, PartialEq, Eq)]
 pub struct Area {
     pub live: bool,
     pub name: Name,
@@ -47,15 +49,15 @@ pub struct Area {
 }
 
 // The unit's state: its number, whether it is initialized, and its eight area descriptors.
-#[derive(Clone, Copy)]
+#[derive(Clone, Copy, Debug, PartialEq, Eq)]
 pub struct State {
     pub unit: u16,
     pub initialized: bool,
     pub areas: [Area; 8],
 }
 
-// What a message to an area process asks for (source document, chapter 5).
-#[derive(Clone, Copy)]
+// What a message to an area process asks for (source document, chapter 5). Counts and operations are the caller's numbers: any may come from C.
+#[derive(Clone, Copy, Debug, PartialEq, Eq)]
 pub enum Operation {
     Reserve(u16),
     Position(u16),
@@ -69,7 +71,7 @@ pub enum Operation {
 }
 
 // A call, with its numbers; the words lent to it come beside it.
-#[derive(Clone, Copy)]
+#[derive(Clone, Copy, Debug, PartialEq, Eq)]
 pub enum Message {
     Init {
         unit: u16,
@@ -111,13 +113,53 @@ pub enum Message {
     },
 }
 
-// The answer to a call: the result word, and what the call hands back beside it.
-#[derive(Clone, Copy)]
+// The answer to a call: the result word, and what the call hands back beside it. A word and no `Result`: it is what C programs are given.
+#[derive(Clone, Copy, Debug, PartialEq, Eq)]
 pub struct Answer {
     pub result: u16,
     pub bytes: u16,
     pub block: Block,
     pub entries: u32,
+}
+
+// A refused call: one case for each result word but 0, with that word.
+#[derive(Clone, Copy, Debug, PartialEq, Eq)]
+pub enum Refusal {
+    CatalogParameter = 0x1200,
+    CatalogUnsound = 0x9000,
+    NoEntry = 0x5000,
+    EntryExists = 0x1010,
+    DiscFull = 0x1100,
+    IndexFull = 0x1008,
+    FormatRecord = 0x1080,
+    AreaIllegal = 0x0A00,
+    AreaUnsound = 0x8800,
+    NoArea = 0x4800,
+    AreaFull = 0x0900,
+    AreaReserved = 0x0200,
+    NotUserOrPastEnd = 0x0810,
+    UsersOrIndexFull = 0x0808,
+    BlockSize = 0x0880,
+    WriteProtected = 0x0C00,
+}
+
+impl Refusal {
+    // The result word.
+    pub fn word(self) -> u16
+        ensures { result ≡ refusal_word self }
+    {
+        self as u16
+    }
+}
+
+// The result word of a call: 0, or that of its refusal.
+pub fn result_word(done: Result<(), Refusal>) -> u16
+    ensures { result ≡ result_word done }
+{
+    match done {
+        Ok(()) => 0,
+        Err(refusal) => refusal.word(),
+    }
 }
 
 // A vacant user entry.
@@ -136,14 +178,12 @@ pub fn vacant_user() -> User
 pub fn vacant_area() -> Area
     ensures { result ≡ vacant_area }
 {
-    let user = vacant_user();
-    let users = [user; 3];
     Area {
         live: false,
         name: Name(0, 0, 0),
         index: Sector(0),
         length: 0,
-        users: users,
+        users: [vacant_user(); 3],
     }
 }
 
@@ -151,11 +191,9 @@ pub fn vacant_area() -> Area
 pub fn fresh_state(unit: u16) -> State
     ensures { result ≡ fresh_state unit }
 {
-    let area = vacant_area();
-    let areas = [area; 8];
     State {
-        unit: unit,
+        unit,
         initialized: false,
-        areas: areas,
+        areas: [vacant_area(); 8],
     }
 }

@@ -1,4 +1,5 @@
 -- The messages to an area process: their contract has a result.
+use Rattle.std.specs.Prelude.{Option, Some, None}
 use mathlib.Core.Path.{◌≡◌, refl}
 use mathlib.Core.Bool.{Bool, true, false}
 use mathlib.Core.List.{List}
@@ -13,8 +14,6 @@ use Rattle.disc.specs.Words.{Words}
 use Rattle.disc.specs.Names.{named, unit_in}
 use Rattle.disc.proofs.Compare.{same_or}
 use Rattle.catalog.specs.declared.Unit.{Unit}
-use Rattle.state.specs.declared.Found.{Found}
-use Rattle.state.specs.declared.Found.TheVariants.{At, Absent}
 use Rattle.state.specs.declared.Kind.TheVariants.{Exclusive}
 use Rattle.state.specs.Areas.{area_named, entry_of, any_other}
 use Rattle.plain.specs.Unit.{Plain, M, sys_of}
@@ -52,9 +51,9 @@ module _ {image : List ℕ} {state : State} {o : Unit} {j sender : ℕ} (lent : 
       (λ z. go z (entry_of sender (area_at state j)) refl)
       (λ d. record { reply = _; filled = _; after = _; holds = operate_reserve image state o j sender operation refl d refl })
     where
-      go : reserve_word operation ≡ 0 → (found : Found) → entry_of sender (area_at state j) ≡ found → SomeReply (Operates image state o j sender operation lent)
-      go z Absent e = record { reply = _; filled = _; after = _; holds = operate_stranger image state o j sender operation refl z refl refl e refl }
-      go z (At u) e =
+      go : reserve_word operation ≡ 0 → (found : Option ℕ) → entry_of sender (area_at state j) ≡ found → SomeReply (Operates image state o j sender operation lent)
+      go z None e = record { reply = _; filled = _; after = _; holds = operate_stranger image state o j sender operation refl z refl refl e refl }
+      go z (Some u) e =
           let s = user_some (operate_seated image state o j sender operation refl z refl refl e can) operation in
           record { reply = s.reply; filled = s.filled; after = s.after; holds = operate_user image state o j sender operation refl z refl refl e s.holds }
 
@@ -65,7 +64,7 @@ module _ {image : List ℕ} {state : State} {o : Unit} (name : Name) (h : Meant 
   Result = SomeReply (AreaMessages image state o name sender operation lent)
 
   -- "open?" is answered yes
-  open_some : (j : ℕ) → area_named (named name) state ≡ At j → Result
+  open_some : (j : ℕ) → area_named (named name) state ≡ Some j → Result
   open_some j e = alone (any_other Exclusive sender (area_at state j)) refl
     where
       asked : any_other Exclusive sender (area_at state j) ≡ false → sender ≢ 0 → (b : Bool) → is_known operation ≡ b → Result
@@ -83,6 +82,6 @@ module _ {image : List ℕ} {state : State} {o : Unit} (name : Name) (h : Meant 
   pub message_some : SomeReply (AreaMessages image state o name sender operation lent)
   message_some = go (area_named (named name) state) refl
     where
-      go : (found : Found) → area_named (named name) state ≡ found → Result
-      go Absent e = record { reply = _; filled = _; after = _; holds = message_shut name h sender operation refl refl e refl }
-      go (At j) e = open_some j e
+      go : (found : Option ℕ) → area_named (named name) state ≡ found → Result
+      go None e = record { reply = _; filled = _; after = _; holds = message_shut name h sender operation refl refl e refl }
+      go (Some j) e = open_some j e

@@ -1,4 +1,5 @@
 -- Create area and Remove area on a unit that image and state represent: their contracts have a result.
+use Rattle.std.specs.Prelude.{Option, Some, None}
 use mathlib.Core.Path.{◌≡◌, refl, sym, ap, ◌∙◌}
 use mathlib.Core.Bool.{not}
 use mathlib.Core.List.{List, []}
@@ -14,8 +15,6 @@ use Rattle.disc.specs.Names.{is_system, named, unit_in}
 use Rattle.disc.specs.Entries.{index_sector}
 use Rattle.disc.proofs.NameLaws.{pack_words}
 use Rattle.names.specs.NameIs.{NameIs}
-use Rattle.state.specs.declared.Found.{Found}
-use Rattle.state.specs.declared.Found.TheVariants.{At, Absent}
 use Rattle.state.specs.Areas.{area_named, vacant_area_of, area_opened, area_closed}
 use Rattle.plain.specs.Table.{Table, table_find, table_put, is_some}
 use Rattle.plain.specs.Unit.{Plain, File, sys_of, AreaUser, entry, with_areas}
@@ -47,12 +46,12 @@ file_name {p} g n f file = record {
 
 module _ {image : List ℕ} {state : State} {p : Plain} (g : Good p) (r : Represents image state p) where
   -- a name that has an area in the unit has one in the state
-  open_at : (n : ℕ) {users : Table AreaUser} → table_find n p.areas ≡ some users → (j : ℕ) × (area_named n state ≡ At j)
+  open_at : (n : ℕ) {users : Table AreaUser} → table_find n p.areas ≡ some users → (j : ℕ) × (area_named n state ≡ Some j)
   open_at n h = go (area_named n state) refl
     where
-      go : (found : Found) → area_named n state ≡ found → (j : ℕ) × (area_named n state ≡ At j)
-      go (At j) e = (j, e)
-      go Absent e = absurd (some≢none (sym h ∙ same_absent state p r.areas n e))
+      go : (found : Option ℕ) → area_named n state ≡ found → (j : ℕ) × (area_named n state ≡ Some j)
+      go (Some j) e = (j, e)
+      go None e = absurd (some≢none (sym h ∙ same_absent state p r.areas n e))
 
   -- ---- Create area
 
@@ -68,9 +67,9 @@ module _ {image : List ℕ} {state : State} {p : Plain} (g : Good p) (r : Repres
         → Ends p (λ (lent : List ℕ). lent) (opens (named name)) (λ lent. done (with_areas p (table_put (named name) [] p.areas)) lent)
     opened f file shut room = go (vacant_area_of state) refl
       where
-        go : (found : Found) → vacant_area_of state ≡ found → Ends p (λ (lent : List ℕ). lent) (opens (named name)) (λ lent. done (with_areas p (table_put (named name) [] p.areas)) lent)
-        go Absent e = absurd (omega (arith, same_full state p r.areas g.area_names e))
-        go (At j) e = finish _ (area_opened state j _ (record { 0 = index_sector p.F p.s (length f.slices) f.slices }) (length f.sectors)) (made (record {
+        go : (found : Option ℕ) → vacant_area_of state ≡ found → Ends p (λ (lent : List ℕ). lent) (opens (named name)) (λ lent. done (with_areas p (table_put (named name) [] p.areas)) lent)
+        go None e = absurd (omega (arith, same_full state p r.areas g.area_names e))
+        go (Some j) e = finish _ (area_opened state j _ (record { 0 = index_sector p.F p.s (length f.slices) f.slices }) (length f.sectors)) (made (record {
           f = f;
           file = file;
           absent = name_absent n state (name_open_lem r.areas n ∙ ap is_some shut);

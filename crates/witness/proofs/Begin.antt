@@ -19,8 +19,7 @@ use Rattle.sound.specs.State.{Shaped}
 use Rattle.sound.specs.Sound.{SoundUnit}
 use Rattle.refine.specs.Represents.{Represents}
 use Rattle.first_question.specs.Known.{Known}
-use Rattle.format.specs.declared.Formatted.{Formatted}
-use Rattle.format.specs.Format.{Formattable, formatted_by, uninitialized, FormatAnswer, written}
+use Rattle.format.specs.Format.{Formattable, formatted_by, uninitialized, Formatted, FormatAnswer, written}
 use Rattle.format.proofs.FormatUnit.{format_unit, format_sound}
 use Rattle.perform.specs.Perform.{performed, Performs, obeyed}
 use Rattle.perform.proofs.ObeyLaws.{init_done_lem, init_obeyed}

@@ -7,7 +7,7 @@ use Rattle.plain.specs.Step.{Call, Reply}
 use Rattle.plain.specs.Claims.{LentWords}
 use Rattle.sound.specs.Sound.{SoundUnit}
 use Rattle.refine.specs.Demands.{Performed, Contract, Run}
-use Rattle.format.specs.declared.Formatted.{Formatted}
+use Rattle.format.specs.Format.{Formatted}
 use Rattle.demands.specs.FormatContract.{FormatContract}
 
 -- A result of one call.

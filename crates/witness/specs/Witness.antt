@@ -11,7 +11,7 @@ use Rattle.examples.specs.Cases.{Case, gives, gives_at, calls_of, expected, answ
 use Rattle.examples.specs.Paper.{pass, zzzzz, sector_of, pass_area, seven_calls}
 use Rattle.sound.specs.Sound.{SoundUnit}
 use Rattle.refine.specs.Demands.{Performed, Contract, AcceptedState}
-use Rattle.format.specs.declared.Formatted.{Formatted}
+use Rattle.format.specs.Format.{Formatted}
 use Rattle.demands.specs.FormatContract.{FormatContract}
 use Rattle.demands.specs.Demands.{Later}
 use Rattle.demands.specs.Paper.{paper_record}

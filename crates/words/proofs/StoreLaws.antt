@@ -4,10 +4,12 @@ use mathlib.Core.Logic.{◌≢◌, ◌⊎◌, ⊎_elim}
 use mathlib.Core.List.{List, [], ◌∷◌, ◌++◌}
 use Prim.Native.Nat.{ℕ, zero, suc, ◌+◌, ◌-◌, ◌*◌, ◌≤◌, ◌<◌}
 use native.Mathlib.Nat.{add-zero}
-use native.Mathlib.Numerals.{add-one}
 use native.Mathlib.Omega.{arith}
-use lib.ListN.{length, get_or, set, take, drop, length-set, length-replicate, length-drop, replicate-append-replicate, get_or-eq_default}
-use lib.Seq.{sets, length-sets, sets-eq, set_comm, get_or-set_same, get_or-set_other, get_or-take, get_or-drop, ext_get_or, length-take-le, set-get_or, take-suc}
+use lib.ListN.{length, get_or, set, take, drop, length-set, length-replicate, length-drop, get_or-eq_default}
+use mathlib.Core.List.{append_assoc}
+use borrow.Rule.Slice.PartMut.{put_mid}
+use Rattle.std.proofs.lemmas.List.{drop-drop}
+use lib.Seq.{sets, length-sets, sets-eq, set_comm, get_or-set_same, get_or-set_other, get_or-take, get_or-drop, ext_get_or, length-take-le, set-get_or}
 use Rattle.disc.specs.Words.{word, Words, Holds}
 use Rattle.disc.proofs.Compare.{below_or}
 use Rattle.disc.proofs.WordLaws.{words-set, words_head, words_tail, words_take, words-drop, words_replicate}
@@ -35,13 +37,12 @@ store_append l i (u ∷ us) vs =
     let e : suc i + length us ≡ i + length (u ∷ us) = omega arith in
     store_append (set l i u) (suc i) us vs ∙ ap (λ (k : ℕ). sets (sets (set l i u) (suc i) us) k vs) e
 
--- one more word at the end of a run
-pub store_snoc : (l : List ℕ) (i : ℕ) (vs : List ℕ) (v : ℕ) → store l i (vs ++ (v ∷ [])) ≡ set (store l i vs) (i + length vs) v
-store_snoc l i vs v = store_append l i vs (v ∷ []) ∙ store_one (store l i vs) (i + length vs) v
-
--- one turn of a loop that stores word after word: j words are stored, and the next is
-pub store_more : (l : List ℕ) (i j v : ℕ) (us vs m : List ℕ) → length us ≡ j → us ++ (v ∷ []) ≡ vs → m ≡ store l i us → set m (i + j) v ≡ store l i vs
-store_more l i j v us vs m n e f = rw (← e, ← n, f) (sym (store_snoc l i us v))
+-- what is left after a write to the part from i up to e
+pub store_part : (l vs : List ℕ) (i e : ℕ) → i + length vs ≡ e → e ≤ length l → put_mid i (e - i) l vs ≡ store l i vs
+unfolding store
+store_part l vs i e n h =
+    let p : i + (e - i) ≡ i + length vs = omega arith in
+    rw drop-drop (ap (λ (k : ℕ). take i l ++ (vs ++ drop k l)) p ∙ sym (sets-eq vs l i (omega arith) ∙ append_assoc (take i l) vs _))
 
 pub store_below : (l : List ℕ) (i : ℕ) (vs : List ℕ) (j : ℕ) → j < i → get_or (store l i vs) j 0 ≡ get_or l j 0
 unfolding store
@@ -110,21 +111,11 @@ get_d_zero_words zero i = refl
 get_d_zero_words (suc n) zero = refl
 get_d_zero_words (suc n) (suc i) = get_d_zero_words n i
 
-pub zero_words_snoc : (n : ℕ) → zero_words n ++ (0 ∷ []) ≡ zero_words (n + 1)
-unfolding zero_words
-zero_words_snoc n = replicate-append-replicate n 1 0
-
 pub words-zero_words : (n : ℕ) → Words (zero_words n)
 unfolding zero_words
 words-zero_words n = words_replicate n 0 (omega arith)
 
 -- ---- parts of a list
-
--- one more word of a part
-pub part_snoc : (l : List ℕ) (i j : ℕ) → i + j < length l → take j (drop i l) ++ (get_or l (i + j) 0 ∷ []) ≡ take (j + 1) (drop i l)
-part_snoc l i j h =
-    let n : j < length (drop i l) = rw length-drop (omega arith) in
-    rw (add-one, take-suc (drop i l) j 0 n, get_or-drop)
 
 pub length_part : (l : List ℕ) (i j : ℕ) → i + j ≤ length l → length (take j (drop i l)) ≡ j
 length_part l i j h = length-take-le j (drop i l) (rw length-drop (omega arith))

@@ -8,27 +8,21 @@ ghost use Rattle.words.specs.Store.{store, sector_words, zero_words};
 
 use types::Sector;
 
-// Word b of sector q; 0 past the image's end.
+// Word b of sector q; 0 past the image's end, where the rules read zeros too (`disc/Words` `word`), so that it is no `Option`.
 pub fn word(image: &[u16], q: Sector, b: usize) -> u16
     ensures { result ≡ word image.now q.0 b }
 {
     let start = q.0 as usize * 256;
-    if image.len() <= start {
-        return 0;
-    }
-    if image.len() - start <= b {
-        return 0;
-    }
-    image[start + b]
+    image.get(start.saturating_add(b)).copied().unwrap_or(0)
 }
 
 // Stores word b of sector q.
+#[tactic(auto, unfolding(crate::specs::Store::store))]
 pub fn set_word(image: &mut [u16], q: Sector, b: usize, v: u16)
     requires { q.0 * 256 + b < length image.old }
     ensures { image.new ≡ store image.old (q.0 * 256 + b) (v ∷ []) }
 {
-    let at = q.0 as usize * 256 + b;
-    image[at] = v;
+    image[q.0 as usize * 256 + b] = v;
 }
 
 // Stores zero in `count` words of sector q, from word `from` on.
@@ -37,14 +31,11 @@ pub fn clear_words(image: &mut [u16], q: Sector, from: usize, count: usize)
     ensures { image.new ≡ store image.old (q.0 * 256 + from) (zero_words count) }
 {
     let at = q.0 as usize * 256 + from;
-    let mut i = 0;
-    while i < count {
-        image[at + i] = 0;
-        i += 1;
-    }
+    image[at..at + count].fill(0);
 }
 
 // Stores zero in all words of sector q.
+#[tactic(auto, using(crate::proofs::StoreLaws::store_start))]
 pub fn clear_sector(image: &mut [u16], q: Sector)
     requires { q.0 * 256 + 256 ≤ length image.old }
     ensures { image.new ≡ store image.old (q.0 * 256) (zero_words 256) }
@@ -57,11 +48,7 @@ pub fn copy_words(src: &[u16], from: usize, dst: &mut [u16], at: usize, count: u
     requires { (from + count ≤ length src.now) × (at + count ≤ length dst.old) }
     ensures { dst.new ≡ store dst.old at (take count (drop from src.now)) }
 {
-    let mut i = 0;
-    while i < count {
-        dst[at + i] = src[from + i];
-        i += 1;
-    }
+    dst[at..at + count].copy_from_slice(&src[from..from + count]);
 }
 
 // Hands out `count` words of sector q, from word `from` on, as the first lent words.

@@ -1,16 +1,6 @@
 -- `area_messages::user_step` meets its contract. Assumes nothing.
-use Rattle.area_users.proofs.UserLaws.{seat_low}
 use Rattle.area_messages.proofs.MessageLaws.{step_release_lem, step_position_lem, step_sense, step_transput_lem, step_other}
 use Rattle.area_messages.proofs.user_step.Goals as goal
-
-pub release-requires : goal.release-requires
-release-requires c = seat_low c.requires.seat
-
-pub position-requires : goal.position-requires
-position-requires c = seat_low c.requires.seat
-
-pub transput-requires : goal.transput-requires
-transput-requires c = c.requires
 
 pub returns-in-Reserve : goal.returns-in-Reserve
 returns-in-Reserve c = rw c.in-Reserve.is (step_release_lem c.release.ensures)
@@ -26,4 +16,4 @@ returns-in-Transput c =
     rw c.in-Transput.is (step_transput_lem c.transput.ensures)
 
 pub returns-in-Other : goal.returns-in-Other
-returns-in-Other c = rw c.in-Other.is (step_other c.reply-in-Other.ensures)
+returns-in-Other c = rw c.in-Other.is (step_other c.refused.ensures)

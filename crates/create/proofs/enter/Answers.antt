@@ -5,4 +5,5 @@ use Rattle.create.proofs.enter.Goals as goal
 pub returns : goal.returns
 returns c =
     let a = c.args in
-    rw (c.entry_words-entry.ensures, entry_whole a.words.now c.requires.0 _ a.attributes a.size a.index.0 a.reserved) at c.write_entry.ensures
+    let f = a.file in
+    rw (c.entry_words-entry.ensures, entry_whole a.words.now c.requires.0 _ f.attributes f.size a.index.0 a.reserved) at c.write_entry.ensures

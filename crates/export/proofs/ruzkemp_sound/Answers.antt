@@ -8,4 +8,4 @@ use Rattle.export.proofs.ruzkemp_sound.Goals as goal
 pub returns : goal.returns
 returns c =
     let args = c.args in
-    subst (λ (s : State). Decides c.sound.result (SoundUnit args.image.now s)) c.state_of-own.ensures c.sound.ensures
+    subst (λ (s : State). Decides c.sound.result (SoundUnit args.image.now s)) c.from.ensures c.sound.ensures

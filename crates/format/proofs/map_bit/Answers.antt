@@ -1,13 +1,14 @@
 -- `format::map_bit` meets its contract. Assumes nothing.
-use native.Mathlib.Omega.{arith}
-use Rattle.format.proofs.MapLaws.{bit_used, bit_past, bit_free}
+use mathlib.Core.Path.{ap, ◌∙◌}
+use mir.Val.{bool_byte}
+use Rattle.format.proofs.MapLaws.{bit_used, bit_tested}
 use Rattle.format.proofs.map_bit.Goals as goal
-
-pub returns-then-k-used : goal.returns-then-k-used
-returns-then-k-used c = let a = c.args in bit_used a.used a.slices a.k.0 (omega arith) (omega arith)
-
-pub returns-then-slices-k : goal.returns-then-slices-k
-returns-then-slices-k c = let a = c.args in bit_past a.used a.slices a.k.0 (omega arith)
+use Rattle.format.proofs.map_bit.Goals.{then-used-k, else-used-k}
 
 pub returns : goal.returns
-returns c = let a = c.args in bit_free a.used a.slices a.k.0 (omega arith) (omega arith) (omega arith)
+returns c =
+    let a = c.args in
+    elim c.if-used-k.branch [
+      | then-used-k w ↦ c.from.ensures ∙ ap bool_byte w.from-is ∙ bit_tested a.used a.slices a.k.0 c.requires w.if-used-k.true
+      | else-used-k w ↦ c.from.ensures ∙ ap bool_byte w.from-is ∙ bit_used a.used a.slices a.k.0 c.requires w.if-used-k.false
+    ]

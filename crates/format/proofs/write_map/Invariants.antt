@@ -1,6 +1,5 @@
 use mathlib.Core.Path.{◌≡◌}
-use Prim.Native.Nat.{◌-◌, ◌*◌, ◌≤◌}
-use lib.ListN.{length}
+use Prim.Native.Nat.{◌*◌}
 use Rattle.disc.specs.Kit.{map_sector}
 use Rattle.disc.specs.Stretches.{span}
 use Rattle.words.specs.Store.{store}
@@ -8,8 +7,4 @@ use Rattle.refine.specs.Format.{map_words}
 use Rattle.format.proofs.write_map.Given as goal
 
 abbrev pub invariant-loop-w : goal.invariant-loop-w
-invariant-loop-w l =
-    (l.w ≤ 256) × (l.image ≡ store l.initial.image (map_sector * 256) (map_words l.slices (span 1 l.used) 0 l.w)) × (length l.image ≡ length l.initial.image)
-
-abbrev pub decreases-loop-w : goal.decreases-loop-w
-decreases-loop-w l = 256 - l.w
+invariant-loop-w l = l.image ≡ store l.initial.image (map_sector * 256) (map_words l.slices (span 1 l.used) 0 l.w)

@@ -27,12 +27,12 @@ overflow_mul-unit c =
 
 pub enter_sys-requires : goal.enter_sys-requires
 enter_sys-requires c =
-    place_inside c.requires.can c.sys_name.ensures.packed c.find_name.ensures c.in-At.is
+    place_inside c.requires.can c.sys_name.ensures.packed c.find_name.ensures c.in-Some.is
     c.add_layer.ensures
 
 pub count_free-requires : goal.count_free-requires
 count_free-requires c =
-    can_count c.requires.can c.sys_name.ensures.packed c.find_name.ensures c.in-At.is c.add_layer.ensures c.enter_sys.ensures refl
+    can_count c.requires.can c.sys_name.ensures.packed c.find_name.ensures c.in-Some.is c.add_layer.ensures c.enter_sys.ensures refl
     (ap (λ (n : ℕ). c.args.unit.slice * n) c.slices_for.ensures)
 
 -- SYS is entered
@@ -40,7 +40,7 @@ pub returns : goal.returns
 returns c =
     record {
       all = λ p can. (
-        grown_from can c.sys_name.ensures.packed c.find_name.ensures c.in-At.is c.add_layer.ensures c.enter_sys.ensures refl
+        grown_from can c.sys_name.ensures.packed c.find_name.ensures c.in-Some.is c.add_layer.ensures c.enter_sys.ensures refl
             (ap (λ (n : ℕ). c.args.unit.slice * n) c.slices_for.ensures) c.count_free.ensures,
         grown_numbers can _ c.with_layers.ensures,
       );

@@ -1,10 +1,7 @@
 use mathlib.Core.Path.{◌≡◌}
-use Prim.Native.Nat.{◌-◌, ◌<◌}
+use Prim.Native.Nat.{◌-◌}
 use Rattle.index.specs.Block.{sector_from, joint_sector}
 use Rattle.index.proofs.sector_at.Given as goal
 
 abbrev pub invariant-loop-j : goal.invariant-loop-j
-invariant-loop-j l = (l.rest < 0x100000000) × (sector_from l.image l.q.0 (l.n - l.j) l.j l.rest ≡ joint_sector l.image l.q.0 l.joined)
-
-abbrev pub decreases-loop-j : goal.decreases-loop-j
-decreases-loop-j l = l.n - l.j
+invariant-loop-j l = sector_from l.image l.q.0 (l.n - l.j) l.j l.rest ≡ joint_sector l.image l.q.0 l.joined

@@ -1,16 +1,7 @@
 -- `index::sector_total_at` meets its contract: the total and the sectors of the pairs to come are all sectors. Assumes nothing.
-use mathlib.Core.Path.{ap}
-use Prim.Native.Nat.{ℕ}
-use native.Mathlib.Nat.{zero-add, sub-zero}
 use native.Mathlib.Omega.{arith}
-use Rattle.index.specs.Block.{sectors_from}
 use Rattle.index.proofs.WalkLaws.{sectors_none, sectors_more}
 use Rattle.index.proofs.sector_total_at.Goals as goal
-
-pub loop-j-init : goal.loop-j-init
-loop-j-init c =
-    let a = c.args in
-    (omega arith, rw (zero-add, sub-zero) (ap (λ (n : ℕ). sectors_from a.image.now a.q.0 n 0) c.pair_count-n.ensures))
 
 pub loop-j-preserved : goal.loop-j-preserved
 loop-j-preserved c =

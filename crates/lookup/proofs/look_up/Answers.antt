@@ -14,13 +14,13 @@ returns-in_default c =
 
 pub returns-then-lent-lt16 : goal.returns-then-lent-lt16
 returns-then-lent-lt16 c =
-    looks_short _ _ c.requires c.stored.ensures.packed c.find_name.ensures c.in-At.is c.if-lent-lt16.true
+    looks_short _ _ c.requires c.stored.ensures.packed c.find_name.ensures c.in-Some.is c.if-lent-lt16.true
 
 pub read_entry-requires : goal.read_entry-requires
 read_entry-requires c =
-    (omega (arith, c.if-lent-lt16.false), name_room (searchable c.requires.standing) c.find_name.ensures c.in-At.is)
+    (omega (arith, c.if-lent-lt16.false), name_room (searchable c.requires.standing) c.find_name.ensures c.in-Some.is)
 
 pub returns : goal.returns
 returns c =
-    looks_done _ _ c.requires c.stored.ensures.packed c.find_name.ensures c.in-At.is c.if-lent-lt16.false
+    looks_done _ _ c.requires c.stored.ensures.packed c.find_name.ensures c.in-Some.is c.if-lent-lt16.false
     c.read_entry.ensures

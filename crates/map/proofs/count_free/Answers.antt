@@ -25,4 +25,4 @@ loop-w-preserved c =
     omega (arith, ones_more c.args.image.now w)
 
 pub returns : goal.returns
-returns c = c.loop-w.invariant.1 ∙ ones_all _ c.loop-w.w (omega arith)
+returns c = c.loop-w.invariant.0 ∙ ones_all _ c.loop-w.w (omega arith)

@@ -1,65 +1,50 @@
--- `names::legal_by` meets its contract. Assumes nothing.
-use mathlib.Core.Path.{◌≡◌, sym}
-use mathlib.Core.List.{List}
-use Prim.Native.Nat.{ℕ, ◌/◌, ◌%◌, ◌≤◌, ◌<◌}
-use native.Mathlib.Omega.{arith}
-use lib.ListN.{get_or}
-use Rattle.types.specs.declared.Name.{Name}
-use Rattle.names.specs.Classes.{class_of, ClassesOf}
-use Rattle.names.proofs.ClassLaws.{letter_low, letter_one, letter_two, Read, not_letter, falls_1, falls_2, falls_3, falls_4, falls_all}
+-- `names::legal_by` meets its contract: the tests are those of the characters' classes. Assumes nothing.
+use Rattle.std.proofs.Common.{◌≡◌, ℕ, ◌/◌, ◌%◌, false, get_or, arith}
+use Rattle.std.specs.Prelude.{leb}
+use Rattle.std.proofs.lemmas.Bool.{le-leb, lt-leb}
+use Rattle.names.proofs.ClassLaws.{by_classes}
 use Rattle.names.proofs.legal_by.Goals as goal
+use Rattle.names.proofs.legal_by.Goals.{then-initial-ge65, else-initial-ge65, then-first-le1, else-first-le1, then-second-le1, else-second-le1}
+use Rattle.names.proofs.legal_by.Goals.{then-third-second, else-third-second, then-fourth-third, else-fourth-third}
 
-module _ (name : Name) {table : List ℕ} (classes : ClassesOf table) (first_word : name.0 < 65536) where
-  -- the class of the first character
-  initial : get_or table (name.0 / 256) 0 ≡ class_of (name.0 / 256)
-  initial = classes.each (name.0 / 256) (omega arith)
+pub returns-then-fifth-fourth : goal.returns-then-fifth-fourth
+returns-then-fifth-fourth c =
+    let n = c.args.name in
+    let h = c.if-fifth-fourth.true in
+    rw (by_classes n.0 n.1 n.2 c.requires (omega arith) (omega arith) (omega arith), le-leb _ _ h.0, le-leb _ _ h.1, le-leb _ _ h.2, le-leb _ _ h.3, le-leb _ _ h.4, le-leb _ _ h.5)
 
-  -- the name's words and the classes that were read
-  read : name.1 < 65536 → name.2 < 65536 → 65 ≤ name.0 / 256 → get_or table (name.0 / 256) 0 ≤ 1 → let class : ℕ → ℕ = λ k. get_or table k 0 in
-      Read name.0 name.1 name.2 (class (name.0 % 256)) (class (name.1 / 256)) (class (name.1 % 256)) (class (name.2 / 256))
-  read second third low one = record {
-    second_word = second;
-    third_word = third;
-    first = letter_one (name.0 / 256) low (omega (arith, initial));
-    one = classes.each (name.0 % 256) (omega arith);
-    two = classes.each (name.1 / 256) (omega arith);
-    three = classes.each (name.1 % 256) (omega arith);
-    four = classes.each (name.2 / 256) (omega arith);
-  }
-
-pub returns-then-initial-lt65 : goal.returns-then-initial-lt65
-returns-then-initial-lt65 c =
-    let a = c.args.name in
-    sym (not_letter a.0 a.1 a.2 (omega arith) (omega arith) (letter_low (a.0 / 256) c.if-initial-lt65.true))
-
-pub returns-then-first-gt1 : goal.returns-then-first-gt1
-returns-then-first-gt1 c =
-    let a = c.args.name in
-    let class = initial a c.requires (omega arith) in
-    sym (not_letter a.0 a.1 a.2 (omega arith) (omega arith)
-    (letter_two (a.0 / 256) c.if-initial-lt65.false (omega (arith, class, c.if-first-gt1.true))))
-
-pub returns-then-second-gt1 : goal.returns-then-second-gt1
-returns-then-second-gt1 c =
-    let classes = read c.args.name c.requires (omega arith) (omega arith) (omega arith) c.if-initial-lt65.false c.if-first-gt1.false in
-    sym (falls_1 classes c.if-second-gt1.true)
-
-pub returns-then-second-third : goal.returns-then-second-third
-returns-then-second-third c =
-    let classes = read c.args.name c.requires (omega arith) (omega arith) (omega arith) c.if-initial-lt65.false c.if-first-gt1.false in
-    sym (falls_2 classes c.if-second-gt1.false c.if-second-third.true)
-
-pub returns-then-third-fourth : goal.returns-then-third-fourth
-returns-then-third-fourth c =
-    let classes = read c.args.name c.requires (omega arith) (omega arith) (omega arith) c.if-initial-lt65.false c.if-first-gt1.false in
-    sym (falls_3 classes c.if-second-gt1.false c.if-second-third.false c.if-third-fourth.true)
-
-pub returns-then-fourth-fifth : goal.returns-then-fourth-fifth
-returns-then-fourth-fifth c =
-    let classes = read c.args.name c.requires (omega arith) (omega arith) (omega arith) c.if-initial-lt65.false c.if-first-gt1.false in
-    sym (falls_4 classes c.if-second-gt1.false c.if-second-third.false c.if-third-fourth.false c.if-fourth-fifth.true)
-
-pub returns : goal.returns
-returns c =
-    let classes = read c.args.name c.requires (omega arith) (omega arith) (omega arith) c.if-initial-lt65.false c.if-first-gt1.false in
-    sym (falls_all classes c.if-second-gt1.false c.if-second-third.false c.if-third-fourth.false c.if-fourth-fifth.false)
+-- a test fails, and those before it do not
+pub returns-else-fifth-fourth : goal.returns-else-fifth-fourth
+returns-else-fifth-fourth c =
+    let n = c.args.name in
+    let class : ℕ → ℕ = λ k. get_or c.args.table.now k 0 in
+    rw (by_classes n.0 n.1 n.2 c.requires (omega arith) (omega arith) (omega arith)) (elim c.if-fourth-third.branch [
+      | then-fourth-third v ↦
+          let h = v.if-fourth-third.true in
+          let e : leb (class (n.2 / 256)) (class (n.1 % 256)) ≡ false = cc in
+          rw (le-leb _ _ h.0, le-leb _ _ h.1, le-leb _ _ h.2, le-leb _ _ h.3, le-leb _ _ h.4, e) cc
+      | else-fourth-third v ↦ elim c.if-third-second.branch [
+        | then-third-second w ↦
+            let h = w.if-third-second.true in
+            let e : leb (class (n.1 % 256)) (class (n.1 / 256)) ≡ false = cc in
+            rw (le-leb _ _ h.0, le-leb _ _ h.1, le-leb _ _ h.2, le-leb _ _ h.3, e) cc
+        | else-third-second w ↦ elim c.if-second-le1.branch [
+          | then-second-le1 x ↦
+              let h = x.if-second-le1.true in
+              let e : leb (class (n.1 / 256)) (class (n.0 % 256)) ≡ false = cc in
+              rw (le-leb _ _ h.0, le-leb _ _ h.1, le-leb _ _ h.2, e) cc
+          | else-second-le1 x ↦ elim c.if-first-le1.branch [
+            | then-first-le1 y ↦
+                let h = y.if-first-le1.true in
+                let e : leb (class (n.0 % 256)) 1 ≡ false = cc in
+                rw (le-leb _ _ h.0, le-leb _ _ h.1, e) cc
+            | else-first-le1 y ↦ elim c.if-initial-ge65.branch [
+              | then-initial-ge65 z ↦
+                  let e : leb (class (n.0 / 256)) 1 ≡ false = cc in
+                  rw (le-leb _ _ z.if-initial-ge65.true, e) cc
+              | else-initial-ge65 z ↦ rw (lt-leb _ _ z.if-initial-ge65.false) cc
+            ]
+          ]
+        ]
+      ]
+    ])

@@ -1,5 +1,6 @@
 -- `perform::obey` meets its contract: each message's own contract gives what the one call promises. Assumes nothing.
-use mathlib.Core.Path.{◌∙◌}
+use mathlib.Core.Path.{refl, ◌∙◌}
+use Rattle.std.proofs.Common.{rules}
 use Rattle.disc.specs.Words.{Words}
 use Rattle.perform.proofs.ObeyLaws.{can_mean, can_mean_on, answer_obeys, init_obeyed, set_obeyed, create_obeyed, look_up_obeyed, change_obeyed, remove_obeyed, create_area_obeyed, remove_area_obeyed, area_message_obeyed, describe_obeyed, list_obeyed}
 use Rattle.perform.proofs.obey.Goals as goal
@@ -52,7 +53,7 @@ returns-in-Init c =
 pub returns-in-Set : goal.returns-in-Set
 returns-in-Set c =
     -- the lent words are words
-    let words : let a = c.args in Words a.lent.now = record { each = λ k. (c.slice_known-2-1.given k).fits } in
+    let words : let a = c.args in Words a.lent.now = record { each = λ k. (search rules) } in
     answer_obeys c.in-Set.is c.requires.known c.word_alone-in-Set.ensures
     (λ k p g r n. set_obeyed g r words n k c.set.ensures)
 
@@ -68,7 +69,7 @@ returns-in-LookUp c =
 
 pub returns-in-Change : goal.returns-in-Change
 returns-in-Change c =
-    let words : let a = c.args in Words a.lent.now = record { each = λ k. (c.slice_known-2-1.given k).fits } in
+    let words : let a = c.args in Words a.lent.now = record { each = λ k. (search rules) } in
     answer_obeys c.in-Change.is c.requires.known c.word_alone-in-Change.ensures
     (λ k p g r n. change_obeyed g r words n k c.change.ensures)
 
@@ -89,15 +90,15 @@ returns-in-RemoveArea c =
 
 pub returns-in-AreaMessage : goal.returns-in-AreaMessage
 returns-in-AreaMessage c =
-    answer_obeys c.in-AreaMessage.is c.requires.known c.area_replied.ensures
+    answer_obeys c.in-AreaMessage.is c.requires.known (refl, refl)
     (λ k p g r n. area_message_obeyed g r n k c.area_message.ensures)
 
 pub returns-in-UnitDescription : goal.returns-in-UnitDescription
 returns-in-UnitDescription c =
-    answer_obeys c.in-UnitDescription.is c.requires.known c.answered.ensures
+    answer_obeys c.in-UnitDescription.is c.requires.known c.described.ensures
     (λ k p g r n. describe_obeyed g r n k c.describe.ensures)
 
 pub returns-in-Listing : goal.returns-in-Listing
 returns-in-Listing c =
-    answer_obeys c.in-Listing.is c.requires.known c.answered-in-Listing.ensures
+    answer_obeys c.in-Listing.is c.requires.known c.listed.ensures
     (λ k p g r n. list_obeyed g r n k c.list.ensures)

@@ -2,14 +2,14 @@
 use Rattle.lookup.proofs.MeantLaws.{known_low}
 use Rattle.reports.proofs.DescriptionLaws.{describes_bytes, describes_short, describes_done}
 use Rattle.reports.proofs.describe.Goals as goal
+use Rattle.reports.proofs.describe.Goals.{then-bytes-lt32-via-then-bytes-lt32, then-bytes-lt32-via-else-bytes-lt32+then-lent-lt16}
 
 pub returns-then-bytes-lt32 : goal.returns-then-bytes-lt32
 returns-then-bytes-lt32 c =
-    rw c.refused.ensures (describes_bytes _ _ _ _ c.requires c.if-bytes-lt32.true)
-
-pub returns-then-lent-lt16 : goal.returns-then-lent-lt16
-returns-then-lent-lt16 c =
-    rw c.refused-then-lent-lt16.ensures (describes_short _ _ _ _ c.requires c.if-bytes-lt32.false c.if-lent-lt16.true)
+    elim c.then-bytes-lt32.branch [
+      | then-bytes-lt32-via-then-bytes-lt32 w ↦ describes_bytes _ _ _ _ c.requires w.if-bytes-lt32.true
+      | then-bytes-lt32-via-else-bytes-lt32+then-lent-lt16 w ↦ describes_short _ _ _ _ c.requires w.if-bytes-lt32.false w.if-lent-lt16.true
+    ]
 
 pub store_description-requires : goal.store_description-requires
 store_description-requires c =

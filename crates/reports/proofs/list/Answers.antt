@@ -11,7 +11,7 @@ count_entries-count-requires c = can_read c.requires.meant.standing
 
 pub returns-then-lent-count : goal.returns-then-lent-count
 returns-then-lent-count c =
-    rw c.refused.ensures (lists_short _ c.count_entries-count.ensures c.if-lent-count.true)
+    lists_short _ c.count_entries-count.ensures c.if-lent-count.true
 
 pub note_entries-requires : goal.note_entries-requires
 note_entries-requires c =

@@ -2,15 +2,9 @@
 use mathlib.Core.Path.{ap, ◌∙◌}
 use mathlib.Core.List.{[], ◌∷◌}
 use Prim.Native.Nat.{ℕ, ◌*◌}
-use native.Mathlib.Omega.{arith}
 use Rattle.words.specs.Store.{store}
 use Rattle.refine.specs.Writes.{counted_free}
 use Rattle.slices.proofs.count_free.Goals as goal
-
-pub overflow_mul-slice : goal.overflow_mul-slice
-overflow_mul-slice c =
-    let s = c.args.slice in
-    record { fits = omega (arith, c.requires.1, ap (λ (n : ℕ). s * n) c.count_free-free.ensures) }
 
 pub returns : goal.returns
 unfolding counted_free

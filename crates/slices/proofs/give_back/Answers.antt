@@ -12,13 +12,13 @@ returns-then-total-keep c = let a = c.args in record { all = λ m slices can. ga
 pub free_slices-requires : goal.free_slices-requires
 free_slices-requires c = can_free c.requires
 
-pub returns-then-keep-eq0 : goal.returns-then-keep-eq0
-returns-then-keep-eq0 c =
+pub returns-else-keep-gt0 : goal.returns-else-keep-gt0
+returns-else-keep-gt0 c =
     let a = c.args in
     let fewer : a.keep < a.total = omega arith in
     record {
       all = λ m slices can. (
-        gave_all can a.keep fewer c.free_slices.ensures _ c.if-keep-eq0.true,
+        gave_all can a.keep fewer c.free_slices.ensures _ (omega arith),
         cut_words can a.keep c.cut_block-cut.ensures,
       );
     }
@@ -27,15 +27,15 @@ pub store_block-requires : goal.store_block-requires
 store_block-requires c =
     gave_room c.requires.can c.args.keep (omega arith) c.free_slices.ensures _ c.block_sector-q.ensures
 
-pub returns : goal.returns
-returns c =
+pub returns-then-keep-gt0 : goal.returns-then-keep-gt0
+returns-then-keep-gt0 c =
     let a = c.args in
     let fewer : a.keep < a.total = omega arith in
     let some : 1 ≤ a.keep = omega arith in
     record {
       all = λ m slices can. (
         gave_some can a.keep fewer c.free_slices.ensures _ some c.cut_block-cut.ensures c.store_block.ensures
-            ∙ ap (λ (k : ℕ). cut_image a.image.now k a.first.0 a.s slices a.keep) (c.block_sector-q.ensures ∙ gave_first can a.keep fewer some),
+            ∙ ap (λ (k : ℕ). cut_image a.image.now k a.unit.first.0 a.unit.slice slices a.keep) (c.block_sector-q.ensures ∙ gave_first can a.keep fewer some),
         cut_words can a.keep c.cut_block-cut.ensures,
       );
     }

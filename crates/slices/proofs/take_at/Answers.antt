@@ -1,13 +1,10 @@
 -- `slices::take_at` meets its contract.
 use native.Mathlib.Omega.{arith}
-use Rattle.slices.proofs.StoreLaws.{catalog_fresh, can-take, can-take_more, took_none, took_some, longer_words}
+use Rattle.slices.proofs.StoreLaws.{catalog_fresh, can-take, took_none, took_some, longer_words}
 use Rattle.slices.proofs.take_at.Goals as goal
 
 pub returns-then-n-eq0 : goal.returns-then-n-eq0
 returns-then-n-eq0 c = let a = c.args in record { all = λ held slices can. took_none can (catalog_fresh can) a.q.0 c.if-n-eq0.true }
-
-pub take_slices-requires : goal.take_slices-requires
-take_slices-requires c = can-take_more c.requires.1.can
 
 pub returns : goal.returns
 returns c =

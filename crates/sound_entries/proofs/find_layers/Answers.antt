@@ -27,7 +27,7 @@ returns-then-layers-keys c =
     let full : let a = c.args in c.sys-full.result ≡ full_sys a.image.now a.g = let a = c.args in
     let keys = a.g.keys in
     c.sys-full.ensures ∙ ap (λ (n : ℕ). sys_value keys (n / keys)) c.sys_sectors-reserved.ensures in
-    layers_part c.requires full c.sys_name.ensures.packed c.find.ensures c.in-At.is
+    layers_part c.requires full c.sys_name.ensures.packed c.find.ensures c.in-Some.is
     c.entry_word-size.ensures refl (λ e. omega arith)
 
 pub overflow_mul-ceil_div : goal.overflow_mul-ceil_div
@@ -41,7 +41,7 @@ returns-then-ceil_div-g c =
     let full : let a = c.args in c.sys-full.result ≡ full_sys a.image.now a.g = let a = c.args in
     let keys = a.g.keys in
     c.sys-full.ensures ∙ ap (λ (n : ℕ). sys_value keys (n / keys)) c.sys_sectors-reserved.ensures in
-    layers_other c.requires full c.sys_name.ensures.packed c.find.ensures c.in-At.is
+    layers_other c.requires full c.sys_name.ensures.packed c.find.ensures c.in-Some.is
     c.entry_word-size.ensures refl c.sys_sectors-reserved.ensures c.ceil_div.ensures c.if-ceil_div-g.true
 
 pub returns : goal.returns
@@ -49,5 +49,5 @@ returns c =
     let full : let a = c.args in c.sys-full.result ≡ full_sys a.image.now a.g = let a = c.args in
     let keys = a.g.keys in
     c.sys-full.ensures ∙ ap (λ (n : ℕ). sys_value keys (n / keys)) c.sys_sectors-reserved.ensures in
-    layers_found c.requires full c.sys_name.ensures.packed c.find.ensures c.in-At.is
+    layers_found c.requires full c.sys_name.ensures.packed c.find.ensures c.in-Some.is
     c.entry_word-size.ensures refl c.sys_sectors-reserved.ensures c.ceil_div.ensures c.if-layers-keys.false c.if-ceil_div-g.false

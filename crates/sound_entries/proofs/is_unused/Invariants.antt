@@ -1,9 +1,6 @@
-use Rattle.std.proofs.Common.{◌≡◌, ℕ, ◌+◌, ◌-◌, ◌<◌, ◌≤◌, get_or}
+use Rattle.std.proofs.Common.{◌≡◌, ℕ, ◌<◌, get_or}
 use Rattle.sound_entries.proofs.is_unused.Given as goal
 
-abbrev pub invariant-loop-w : goal.invariant-loop-w
-invariant-loop-w l =
-    (l.w ≤ 16) × (l.bits ≡ 0 → (k : ℕ) → k < l.w → get_or l.image (l.at + (l.from + k)) 0 ≡ 0) × (((k : ℕ) → k < l.w → get_or l.image (l.at + (l.from + k)) 0 ≡ 0) → l.bits ≡ 0)
-
-abbrev pub decreases-loop-w : goal.decreases-loop-w
-decreases-loop-w l = 16 - l.w
+abbrev pub invariant-loop-word : goal.invariant-loop-word
+invariant-loop-word l =
+    (l.bits ≡ 0 → (k : ℕ) → k < l.word-index → get_or l.place k 0 ≡ 0) × (((k : ℕ) → k < l.word-index → get_or l.place k 0 ≡ 0) → l.bits ≡ 0)

@@ -1,24 +1,10 @@
--- `words::copy_words` meets its contract: after i turns i words are stored. Assumes nothing.
-use mathlib.Core.Path.{◌≡◌, refl, sym}
-use native.Mathlib.Omega.{arith}
-use borrow.Author.Rules.{rules}
-use Rattle.words.proofs.StoreLaws.{store_none, store_more, length_part, part_snoc}
+-- `words::copy_words` meets its contract. Assumes nothing.
+use Rattle.std.proofs.Common.{◌≡◌, ◌+◌, ◌-◌, arith}
+use Rattle.words.proofs.StoreLaws.{store_part, length_part}
 use Rattle.words.proofs.copy_words.Goals as goal
-
-pub loop-i-init : goal.loop-i-init
-loop-i-init c = (search rules, sym (store_none _ _), refl)
-
-pub loop-i-preserved : goal.loop-i-preserved
-loop-i-preserved c =
-    let a = c.args in
-    let i = c.loop-i.i in (
-      search rules,
-      store_more _ _ i _ _ _ _ (length_part a.src.now a.from i (omega arith)) (part_snoc a.src.now a.from i (omega arith))
-          c.loop-i.invariant.1,
-      search rules,
-    )
 
 pub returns : goal.returns
 returns c =
-    let e : c.loop-i.i ≡ c.args.count = omega arith in
-    rw (← e) c.loop-i.invariant.1
+    let a = c.args in
+    let n : a.from + a.count - a.from ≡ a.count = omega arith in
+    rw (c.copy_from_slice.ensures.after, n) (store_part _ _ a.at (a.at + a.count) (omega (arith, length_part a.src.now a.from a.count (omega arith))) (omega arith))

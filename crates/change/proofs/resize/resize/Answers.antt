@@ -1,31 +1,21 @@
 -- `change::resize::resize` meets its contract. Assumes nothing.
-use native.Mathlib.Omega.{arith}
 use Rattle.change.proofs.ResizeLaws.{block_is, resized_shorter, resized_longer, can_zero, zeroed}
 use Rattle.change.proofs.resize.resize.Goals as goal
 
-pub reslice-after-requires : goal.reslice-after-requires
-reslice-after-requires c =
-    let h = c.requires in record { unit = h.unit; name = h.name; file = h.file; can = h.can.slices }
-
-pub returns-then-has-had : goal.returns-then-has-had
-returns-then-has-had c =
-    record {
-      all = λ p n f can f' is size. (
-        resized_shorter can c.reslice-after.ensures f' is size c.if-has-had.true,
-        block_is can c.reslice-after.ensures f' is size,
-      );
-    }
-
 pub zero_sectors-requires : goal.zero_sectors-requires
-zero_sectors-requires c =
-    can_zero c.requires.can c.reslice-after.ensures (omega (arith, c.if-has-had.false))
+zero_sectors-requires c = can_zero c.requires.can c.reslice-after.ensures c.if-had-has.true
 
-pub returns : goal.returns
-returns c =
+pub returns-then-had-has : goal.returns-then-had-has
+returns-then-had-has c =
     let r = c.reslice-after.ensures in
     record {
       all = λ p n f can f' is size. (
-        resized_longer can r f' is size (zeroed can r (omega (arith, c.if-has-had.false)) c.zero_sectors.ensures),
+        resized_longer can r f' is size (zeroed can r c.if-had-has.true c.zero_sectors.ensures),
         block_is can r f' is size,
       );
     }
+
+pub returns-else-had-has : goal.returns-else-had-has
+returns-else-had-has c =
+    let r = c.reslice-after.ensures in
+    record { all = λ p n f can f' is size. (resized_shorter can r f' is size c.if-had-has.false, block_is can r f' is size) }

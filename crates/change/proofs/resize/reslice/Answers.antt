@@ -4,7 +4,7 @@ use Rattle.change.proofs.ResizeLaws.{can_cut, cut_sliced, can_lengthen, longer_s
 use Rattle.change.proofs.resize.reslice.Goals as goal
 
 pub give_back-requires : goal.give_back-requires
-give_back-requires c = let pre = c.requires in can_cut pre.can c.if-has-had.true
+give_back-requires c = can_cut c.requires.can c.if-has-had.true
 
 pub returns-then-has-had : goal.returns-then-has-had
 returns-then-has-had c =
@@ -12,9 +12,8 @@ returns-then-has-had c =
 
 pub take_more-requires : goal.take_more-requires
 take_more-requires c =
-    let pre = c.requires in
-    can_lengthen pre.can (omega (arith, c.if-has-had.false))
+    can_lengthen c.requires.can (omega (arith, c.if-has-had.false))
 
-pub returns : goal.returns
-returns c =
+pub returns-else-has-had : goal.returns-else-has-had
+returns-else-has-had c =
     record { all = λ p n f can. longer_sliced can (omega (arith, c.if-has-had.false)) c.take_more.ensures }
