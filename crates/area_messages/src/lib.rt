@@ -70,7 +70,7 @@ fn user_step(
     match operation {
         Operation::Reserve(_) => at.release(),
         Operation::Position(block) => at.position(block),
-        Operation::Sense => area_users::reply(at.state, Ok(()), 0, Block(0)),
+        Operation::Sense => area_users::answered(at.state, Ok(()), 0, Block(0)),
         Operation::Transput {
             operation: number,
             bytes,

@@ -17,12 +17,12 @@ pub struct AreaReply {
     pub state: State,
 }
 
-// A reply with its result, a byte count and a block.
-pub fn reply(state: State, done: Result<(), Refusal>, bytes: u16, block: Block) -> AreaReply
-    ensures { result ≡ area_reply state (result_word done) bytes block.0 }
+// A reply with a result word, a byte count and a block.
+pub fn reply(state: State, word: u16, bytes: u16, block: Block) -> AreaReply
+    ensures { result ≡ area_reply state word bytes block.0 }
 {
     let answer = Answer {
-        result: types::result_word(done),
+        result: word,
         bytes,
         block,
         entries: 0,
@@ -30,11 +30,18 @@ pub fn reply(state: State, done: Result<(), Refusal>, bytes: u16, block: Block) 
     AreaReply { answer, state }
 }
 
+// The same with the result of a call.
+pub fn answered(state: State, done: Result<(), Refusal>, bytes: u16, block: Block) -> AreaReply
+    ensures { result ≡ area_reply state (result_word done) bytes block.0 }
+{
+    reply(state, types::result_word(done), bytes, block)
+}
+
 // The reply of a message that is refused and leaves the state.
 pub fn refused(state: State, refusal: Refusal) -> AreaReply
     ensures { result ≡ area_reply state (refusal_word refusal) 0 0 }
 {
-    reply(state, Err(refusal), 0, Block(0))
+    answered(state, Err(refusal), 0, Block(0))
 }
 
 // Reserve 2, 3 or 4 of area descriptor j by a sender that is not 0.
@@ -43,7 +50,7 @@ pub fn reserve(state: State, j: usize, sender: u16, count: u16) -> AreaReply
     ensures { result ≡ reserved_reply state j sender count }
 {
     match state::reserve(state::area_at(state, j), sender, count) {
-        Ok(next) => reply(state::with_area(state, j, next), Ok(()), 0, Block(0)),
+        Ok(next) => answered(state::with_area(state, j, next), Ok(()), 0, Block(0)),
         Err(refusal) => refused(state, refusal),
     }
 }
@@ -101,7 +108,7 @@ impl UserEntry {
         ensures { result ≡ released_reply self.state self.area self.user }
     {
         let next = state::release(self.area(), self.user);
-        reply(
+        answered(
             state::with_area(self.state, self.area, next),
             Ok(()),
             0,
@@ -115,7 +122,7 @@ impl UserEntry {
     {
         let length = self.area().length;
         let reached = position_reached(length, block);
-        reply(
+        answered(
             self.at_position(Block(reached)),
             position_word(length, block),
             0,
@@ -123,11 +130,18 @@ impl UserEntry {
         )
     }
 
-    // The reply of a transput that is refused with the user at position k.
-    pub fn refused_at(self, refusal: Refusal, k: Block) -> AreaReply
+    // The reply of a transput that is refused, with a result word, with the user at position k.
+    pub fn refused_at(self, word: u16, k: Block) -> AreaReply
+        ensures { result ≡ area_reply (at_position self.state self.area self.user k.0) word 0 k.0 }
+    {
+        reply(self.at_position(k), word, 0, k)
+    }
+
+    // The same with the refusal.
+    pub fn refused(self, refusal: Refusal, k: Block) -> AreaReply
         ensures { result ≡ area_reply (at_position self.state self.area self.user k.0) (refusal_word refusal) 0 k.0 }
     {
-        reply(self.at_position(k), Err(refusal), 0, k)
+        self.refused_at(refusal.word(), k)
     }
 
     // The reply of a transput of block k that is done: the user's position is the next block.
@@ -135,6 +149,6 @@ impl UserEntry {
         requires { k.0 < 65535 }
         ensures { result ≡ area_reply (at_position self.state self.area self.user (k.0 + 1)) 0 512 k.0 }
     {
-        reply(self.at_position(Block(k.0 + 1)), Ok(()), 512, k)
+        answered(self.at_position(Block(k.0 + 1)), Ok(()), 512, k)
     }
 }

@@ -29,16 +29,20 @@ fn same_rest(a: &State, b: &State) -> bool {
 pub fn show<W: Write>(image: &mut Disc, setup: &Setup, out: &mut W) -> io::Result<()> {
     let before = *image;
     let after = answer(image, setup, out)?;
-    let image_word = if *image == before { "kept" } else { "CHANGED" };
-    let areas_word = if same_rest(&setup.state, &after) {
-        "kept"
+    let image_told = if *image == before {
+        "image kept"
     } else {
-        "CHANGED"
+        "IMAGE CHANGED"
+    };
+    let areas_told = if same_rest(&setup.state, &after) {
+        "areas kept"
+    } else {
+        "AREAS CHANGED"
     };
     let word = if after.initialized {
         "initialized"
     } else {
         "not initialized"
     };
-    writeln!(out, ", image {image_word}, areas {areas_word}, {word}")
+    writeln!(out, ", {image_told}, {areas_told}, {word}")
 }

@@ -15,7 +15,7 @@ lowest_free bits = lowest_one bits 4096 1
 unfoldable pub chosen : (ℕ → ℕ) → ℕ → ℕ → ℕ
 chosen bits m last = first_if (in_unit m (suc last) * bits (suc last)) (suc last) (lowest_free bits)
 
--- The answer's enum for the number of a slice.
+-- The answer for the number of a slice.
 abbrev pub choice_of : ℕ → Option Slice
 choice_of zero = None
 choice_of (suc k) = Some (record { 0 = suc k })

@@ -110,7 +110,7 @@ pub fn choose_slice(image: &[u16], last: Slice, slices: u16) -> Option<Slice>
 }
 
 // The bits of a word at which n neighbouring ones of the word begin: where `have` ones begin at a bit and at the one `step`
-// bits after it, `have + step` ones begin.
+// bits after it, `have + step` ones begin. The number doubles, so that there is no range to go through.
 fn beginnings(word: u16, n: usize) -> u16
     requires { (1 ≤ n) × (n ≤ 16) }
     ensures { Beginnings word n result }

@@ -76,8 +76,8 @@ pub fn output(image: &mut [u16], unit: Unit, at: UserEntry, k: Block, lent: &[u1
         Ok(next) => {
             let area = state::area_at(next, at.area);
             blocks::replace(image, area.index, k, lent);
-            area_users::reply(next, Ok(()), 512, k)
+            area_users::answered(next, Ok(()), 512, k)
         }
-        Err(refusal) => at.refused_at(refusal, k),
+        Err(refusal) => at.refused(refusal, k),
     }
 }

@@ -1,32 +1,37 @@
 -- Laws of one file: its booked numbers, its index block, all its rules, and that they are those of a sound unit.
 use mathlib.Core.Path.{◌≡◌, refl, sym, ap, ◌∙◌, subst}
-use mathlib.Core.Bool.{Bool, true, false}
+use mathlib.Core.Bool.{Bool, true, false, true≢false}
 use mathlib.Core.List.{List, append-nil}
 use mathlib.Core.Option as maybe
 use mathlib.Core.Option.{none, some}
 use Rattle.std.specs.Prelude.{Option, Some, None, MatchOption}
 use Rattle.std.specs.Bool.{then_some}
 use Prim.Native.Nat.{ℕ, zero, suc, ◌*◌, ◌/◌, ◌≤◌}
-use native.Mathlib.Nat.{mul_comm, mul-div_cancel_left}
+use native.Mathlib.Nat.{add-zero, mul_comm, mul-div_cancel_left}
+use native.Mathlib.Omega.{arith}
 use lib.Dec.{eqb}
+use lib.ListN.{length, get_or, get_or-eq_default}
 use borrow.Author.Tests.{eqb-true, eqb-false}
 use Rattle.types.specs.declared.Area.{Area}
 use Rattle.types.specs.declared.State.{State}
 use Rattle.disc.specs.Decide.{Decides}
 use Rattle.disc.specs.Numbers.{need}
+use Rattle.disc.specs.Words.{word}
 use Rattle.disc.specs.Entries.{name_at}
+use Rattle.disc.proofs.Compare.{below_or}
 use Rattle.disc.proofs.DecideLaws.{decides_eq}
 use Rattle.kit.specs.declared.Geometry.{Geometry}
+use Rattle.kit.specs.Geometry.{UnitOf}
 use Rattle.marks.specs.declared.Indexed.{Indexed}
 use Rattle.marks.specs.Indexed.{PairsMarking, IndexMarking}
 use Rattle.marks.proofs.MarkLaws.{marks, refuses}
-use Rattle.sound.specs.Places.{index_if, Booked}
+use Rattle.sound.specs.Places.{OwnIndex, index_if, Booked}
 use Rattle.sound.specs.State.{open_area, live_index, live_length}
 use Rattle.sound.specs.Sound.{SoundFile}
 use Rattle.sound_files.specs.declared.files.Live.{Live}
 use Rattle.sound_files.specs.declared.Entry.{Entry}
 use Rattle.sound_files.specs.Live.{live_of, index_by, length_by}
-use Rattle.sound_files.specs.Rules.{FileNumbers, FileRules, OwnMarking, FileMarking}
+use Rattle.sound_files.specs.Rules.{DataSector, FileNumbers, FileRules, OwnMarking, FileMarking}
 use Rattle.sound_files.proofs.LiveLaws.{index_of_lem, length_of_lem}
 
 -- ---- the numbers of an entry beside an open area process
@@ -71,6 +76,24 @@ module _ {image : List ℕ} {g : Geometry} where
   }
 
   -- it is legal: its first sector decides
+  -- no slice starts below F, and past the image's end stands nothing
+  pub own_outside : {before : List ℕ} (q : ℕ) → UnitOf image g → (q ≡ 0 → ⊥) → (DataSector g q → ⊥) → OwnMarking image g q before before None
+  own_outside q unit named outside = record {
+    marking = λ held k. record {
+      yes = λ e. absurd (true≢false (sym e));
+      not = λ e own once. refuted (own named);
+    };
+    slices = tt;
+  }
+    where
+      past_image : length image ≤ q * 256 → word image q 0 ≡ 0
+      past_image h = ap (λ (i : ℕ). get_or image i 0) (add-zero (q * 256)) ∙ get_or-eq_default image 0 h
+
+      refuted : OwnIndex image g.first.0 g.slice q → ⊥
+      refuted own = below_or q g.sectors
+          (λ high. outside (record { low = omega (arith, own.first); high = high }))
+          (λ past. omega (arith, own.block.some, past_image (omega (arith, unit.size))))
+
   pub own_some : {before after : List ℕ} (q : ℕ) {found : Indexed} (r : Bool) → r ≡ eqb found.start.0 q → (q ≡ 0 → ⊥) → PairsMarking image g q before after (Some found)
       → OwnMarking image g q before after (then_some r found.slices)
   own_some zero r e d m = absurd (d refl)

@@ -9,7 +9,7 @@ ghost use Rattle.disc.specs.Entries.{place_count, name_by};
 ghost use Rattle.sound.specs.Places.{Booked};
 ghost use Rattle.sound.specs.Parts.{Marking, MarksOf};
 ghost use Rattle.sound_files.specs.Cells.{open_name, open_file, FlatOf, OpenUpto, name_cell, CellsOf};
-ghost use Rattle.sound_files.specs.Live.{index_by, length_by, lives, OpenOf, Unopened};
+ghost use Rattle.sound_files.specs.Live.{index_by, length_by, live_in, lives, OpenOf, Unopened};
 ghost use Rattle.kit.specs.Geometry.{UnitOf};
 ghost use Rattle.marks.specs.Marked.{SomeMarked};
 ghost use Rattle.sound_entries.specs.Sys.{sys_slices, places_in};
@@ -105,6 +105,18 @@ fn cells_of(list: &[OpenFile]) -> [u8; 256]
     cells
 }
 
+// What descriptors say of a name.
+pub fn live_of(list: &[OpenFile], name: u64) -> Option<Live>
+    ensures { result ≡ live_in list.now name }
+{
+    for file in list {
+        if names::same_number(file.name, name) {
+            return Some(file.live);
+        }
+    }
+    None
+}
+
 impl OpenFiles {
     // The open area processes of a state.
     pub fn of(state: State) -> OpenFiles
@@ -120,12 +132,7 @@ impl OpenFiles {
     pub fn live_of(&self, name: u64) -> Option<Live>
         ensures { result ≡ lives self.now name }
     {
-        for file in &self.list[..self.upto] {
-            if names::same_number(file.name, name) {
-                return Some(file.live);
-            }
-        }
-        None
+        live_of(&self.list[..self.upto], name)
     }
 
     // Whether the name may be that of an open area process.

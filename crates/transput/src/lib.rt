@@ -74,7 +74,7 @@ fn input(image: &[u16], unit: Unit, at: UserEntry, k: Block, lent: &mut [u16]) -
     let area = at.area();
     if area.length <= k.0 {
         let end = end_word(blocks::attributes_of(image, unit, area.name));
-        return at.refused_at(end, k);
+        return at.refused(end, k);
     }
     blocks::read(image, area.index, k, lent);
     at.transferred(k)
@@ -118,14 +118,14 @@ pub fn transput(
     let area = at.area();
     let own = state::user_at(area, at.user).position;
     if let Err(no) = refusal(image, unit, area, sender, operation, bytes, lent.len()) {
-        return at.refused_at(no, own);
+        return at.refused(no, own);
     }
     if !is_random(operation) {
         return transput_at(image, unit, at, operation, own, lent);
     }
     let reached = area_users::position_reached(area.length, block);
     if let Err(no) = area_users::position_word(area.length, block) {
-        return at.refused_at(no, Block(reached));
+        return at.refused(no, Block(reached));
     }
     transput_at(image, unit, at, operation, Block(block), lent)
 }

@@ -9,7 +9,7 @@ pub returns-in-Position : goal.returns-in-Position
 returns-in-Position c = rw c.in-Position.is (step_position_lem c.position.ensures)
 
 pub returns-in-Sense : goal.returns-in-Sense
-returns-in-Sense c = rw c.in-Sense.is (step_sense c.reply.ensures)
+returns-in-Sense c = rw c.in-Sense.is (step_sense c.answered.ensures)
 
 pub returns-in-Transput : goal.returns-in-Transput
 returns-in-Transput c =

@@ -13,9 +13,9 @@ pub returns-in-Ok : goal.returns-in-Ok
 returns-in-Ok c =
     -- the lent words are words
     let words : let a = c.args in Words a.lent.now = record { each = λ k. (c.type_inv.lent k).fits } in
-    rw c.reply.ensures (outputs_stored c.in-Ok.ensures refl c.area_at-area.ensures c.requires.1 words c.replace.ensures)
+    rw c.answered.ensures (outputs_stored c.in-Ok.ensures refl c.area_at-area.ensures c.requires.1 words c.replace.ensures)
 
 pub returns-in-Err : goal.returns-in-Err
 returns-in-Err c =
     let words : let a = c.args in Words a.lent.now = record { each = λ k. (c.type_inv.lent k).fits } in
-    rw c.refused_at.ensures (outputs_refused c.in-Err.ensures c.requires.1 words (refusal_nonzero c.in-Err.refusal))
+    rw c.refused.ensures (outputs_refused c.in-Err.ensures c.requires.1 words (refusal_nonzero c.in-Err.refusal))

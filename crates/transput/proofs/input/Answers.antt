@@ -6,7 +6,7 @@ use Rattle.transput.proofs.input.Goals as goal
 pub returns-then-area-k : goal.returns-then-area-k
 returns-then-area-k c =
     inputs_refused c.area-area.ensures c.if-area-k.true c.attributes_of.ensures c.end_word-end.ensures
-    c.refused_at.ensures
+    c.refused.ensures
 
 pub read-requires : goal.read-requires
 read-requires c =

@@ -10,7 +10,7 @@ pub returns-in-Err : goal.returns-in-Err
 returns-in-Err c =
     let a = c.args in
     transputs_refused a.block a.lent.now c.area-area.ensures c.in-Err.ensures (refusal_nonzero c.in-Err.no)
-    (own_is a.at.state a.at.area a.at.user c.area-area.ensures c.user_at.ensures) c.refused_at.ensures
+    (own_is a.at.state a.at.area a.at.user c.area-area.ensures c.user_at.ensures) c.refused.ensures
 
 pub transput_at-requires : goal.transput_at-requires
 transput_at-requires c =
@@ -30,7 +30,7 @@ returns-in-Err-position_word c =
     let a = c.args in
     transputs_past a.block a.lent.now c.area-area.ensures c.in_default.ensures refl random
     c.in-Err-position_word.ensures c.position_reached-reached.ensures (refusal_nonzero c.in-Err-position_word.no)
-    c.refused_at-in-Err-position_word.ensures
+    c.refused-in-Err-position_word.ensures
 
 pub transput_at-requires-2 : goal.transput_at-requires-2
 transput_at-requires-2 c =

@@ -1,8 +1,8 @@
--- `OpenFiles::live_of` meets its contract: the search among all files is that among those from the next file on. Assumes nothing.
+-- `sound_files::live_of` meets its contract: the search among all files is that among those from the next file on. Assumes nothing.
 use Rattle.std.proofs.Common.{refl, sym, ◌∙◌}
 use borrow.Author.Tests.{eqb-true, eqb-false}
 use Rattle.sound_files.proofs.LiveLaws.{live_hit, live_miss, live_end}
-use Rattle.sound_files.proofs.files.OpenFiles.live_of.Goals as goal
+use Rattle.sound_files.proofs.live_of.Goals as goal
 
 pub loop-file-init : goal.loop-file-init
 loop-file-init c = refl
