@@ -1,5 +1,7 @@
 // The cases, read line by line.
 
+ghost use Rattle.std.specs.Prelude.{◌<◌};
+
 use crate::report::show;
 use crate::setup::Setup;
 use crate::unit::{Disc, build};
@@ -12,7 +14,9 @@ fn split_at_byte(text: &[u8], byte: u8) -> Option<(&[u8], &[u8])> {
 }
 
 // A digit of base 16; 0 for another byte.
-fn digit(byte: u8) -> u16 {
+fn digit(byte: u8) -> u16
+    ensures { result < 16 }
+{
     match byte {
         b'0'..=b'9' => (byte - b'0') as u16,
         b'A'..=b'F' => (byte - b'A') as u16 + 10,

@@ -13,6 +13,8 @@
 
 #![tactic(auto)]
 
+ghost use Rattle.std.specs.Prelude.{◌≤◌, length, IfOk};
+
 mod cases;
 mod report;
 mod setup;
@@ -20,11 +22,27 @@ mod unit;
 
 use std::io::{self, Read, Write};
 
+// Reads until the buffer is full or the input ends, and answers how many bytes it has read. By hand: `io::copy` would try an interrupted
+// read again, where the program ends with that error.
+fn read_full<R: Read>(input: &mut R, buf: &mut [u8]) -> io::Result<usize>
+    ensures { IfOk result (λ n. n ≤ length buf.new) }
+{
+    let mut done = 0;
+    while done < buf.len() {
+        let n = input.read(&mut buf[done..])?;
+        if n == 0 {
+            break;
+        }
+        done += n;
+    }
+    Ok(done)
+}
+
 fn main(rt: HostRuntime) -> io::Result<()> {
     let mut image: unit::Disc = [0; 5376];
     let mut text = [0u8; 65536];
-    let n = io::copy(&mut rt.reader().take(65536), &mut text.as_mut_slice())?;
+    let n = read_full(&mut rt.reader(), &mut text)?;
     let mut out = io::writer(&rt);
-    cases::run(&mut image, &text[..text.len().min(n as usize)], &mut out)?;
+    cases::run(&mut image, &text[..n], &mut out)?;
     out.flush()
 }

@@ -3,7 +3,7 @@
 use crate::setup::Setup;
 use crate::unit::Disc;
 use std::io::{self, Write};
-use types::{Message, State};
+use types::{Area, Message, State};
 
 // What Init answers with the image's first words, and whether they are a sound unit; the state that it leaves.
 // Where the image has not so many words, Init is not called.
@@ -20,29 +20,37 @@ fn answer<W: Write>(image: &mut Disc, setup: &Setup, out: &mut W) -> io::Result<
     Ok(outcome.state)
 }
 
+// Whether two descriptors are the same; names are compared in `names` alone (docs/DECISIONS.md, 110).
+fn same_area(a: &Area, b: &Area) -> bool {
+    names::same_name(a.name, b.name)
+        && a.live == b.live
+        && a.index == b.index
+        && a.length == b.length
+        && a.users == b.users
+}
+
 // Whether the unit number and all descriptors are the same.
 fn same_rest(a: &State, b: &State) -> bool {
-    a.unit == b.unit && a.areas == b.areas
+    a.unit == b.unit && a.areas.iter().zip(&b.areas).all(|(a, b)| same_area(a, b))
 }
 
 // The case's line after its name.
 pub fn show<W: Write>(image: &mut Disc, setup: &Setup, out: &mut W) -> io::Result<()> {
     let before = *image;
     let after = answer(image, setup, out)?;
-    let image_told = if *image == before {
-        "image kept"
+    out.write_all(if *image == before {
+        b", image kept"
     } else {
-        "IMAGE CHANGED"
-    };
-    let areas_told = if same_rest(&setup.state, &after) {
-        "areas kept"
+        b", IMAGE CHANGED"
+    })?;
+    out.write_all(if same_rest(&setup.state, &after) {
+        b", areas kept"
     } else {
-        "AREAS CHANGED"
-    };
-    let word = if after.initialized {
-        "initialized"
+        b", AREAS CHANGED"
+    })?;
+    out.write_all(if after.initialized {
+        b", initialized\n"
     } else {
-        "not initialized"
-    };
-    writeln!(out, ", {image_told}, {areas_told}, {word}")
+        b", not initialized\n"
+    })
 }

@@ -137,7 +137,7 @@ module _ (image : List ℕ) (o : Unit) (n : ℕ) (w : Wanted) where
   -- ---- whether the new name is entered
 
   module _ (e : w.moves ≡ true) {r : Option Place} (finds : FindsName image o (packed w.name) r) where
-    taken_at : {place : Place} → r ≡ Some place → TakenBy image o w true
+    pub taken_at : {place : Place} → r ≡ Some place → TakenBy image o w true
     taken_at {place} at = record {
       all = λ p on num. sym (ap (λ (b : Bool). b && is_some (entry p m)) e ∙ ap is_some ((finds.all p (on_catalog on) num).at place at).entered);
     }

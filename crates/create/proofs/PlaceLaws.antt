@@ -173,7 +173,7 @@ module _ {image : List ℕ} {o : Unit} {n size attributes : ℕ} {words : List �
         part_sectors p gr p.sys (sys_ground gr).part,
       )
 
-  some_key : 1 ≤ o.catalog.keys
+  pub some_key : 1 ≤ o.catalog.keys
   some_key = omega (arith, num.catalog.keys, can.asked.on.good.limits.keys_low)
 
   module _ {none : List ℕ} {k r : ℕ} (e : none ≡ zero_words 256) (count : k ≡ need o.slice size) (answer : RoomFor image o (o.catalog.layers + 1) none k r) where

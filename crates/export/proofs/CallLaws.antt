@@ -1,6 +1,6 @@
 -- What a message asks for, by the number of its call; what comes of a call and of Format, by what comes of those below.
 use Rattle.std.specs.Prelude.{Some, None}
-use mathlib.Core.Path.{◌≡◌, sym}
+use mathlib.Core.Path.{◌≡◌, sym, ap}
 use mathlib.Core.List.{List}
 use Prim.Native.Nat.{ℕ, zero, suc, ◌<◌}
 use native.Mathlib.Omega.{arith}
@@ -18,7 +18,10 @@ use Rattle.export.specs.Mirror.{state_of, remirrored, Arrays}
 use Rattle.export.specs.Calls.{numbered, asked_of, answer_of, unit_performed, UnitCalled, unit_formatted, UnitFormats}
 use Rattle.export.proofs.MirrorLaws.{mirrored}
 
-other_number : (m : UnitMessage) (call : ℕ)
+pub by_number : (m : UnitMessage) (call : ℕ) → m.call ≡ call → numbered call m ≡ asked_of m
+by_number m call e = ap (λ (k : ℕ). numbered k m) (sym e)
+
+pub other_number : (m : UnitMessage) (call : ℕ)
     → (call ≡ 0 → ⊥) → (call ≡ 1 → ⊥) → (call ≡ 2 → ⊥) → (call ≡ 3 → ⊥) → (call ≡ 4 → ⊥) → (call ≡ 5 → ⊥)
     → (call ≡ 6 → ⊥) → (call ≡ 7 → ⊥) → (call ≡ 8 → ⊥) → (call ≡ 9 → ⊥) → (call ≡ 10 → ⊥)
     → None ≡ numbered call m

@@ -28,10 +28,10 @@ use Rattle.format.proofs.BlockLaws.{block_full}
 pub bit_used : (used m k : ℕ) → 1 ≤ k → k ≤ used → bool_byte (ltb used k) ≡ free_bit m (span 1 used) k
 bit_used used m k a b = rw (le-ltb used k b, span_in used 1 k a (omega arith)) (omega arith)
 
-bit_past : (used m k : ℕ) → m < k → 0 ≡ free_bit m (span 1 used) k
+pub bit_past : (used m k : ℕ) → m < k → 0 ≡ free_bit m (span 1 used) k
 bit_past used m k h = rw (in_unit_no m k h) (omega arith)
 
-bit_free : (used m k : ℕ) → 1 ≤ k → used < k → k ≤ m → 1 ≡ free_bit m (span 1 used) k
+pub bit_free : (used m k : ℕ) → 1 ≤ k → used < k → k ≤ m → 1 ≡ free_bit m (span 1 used) k
 bit_free used m k a b c = rw (in_unit_in m k a c, span_past used 1 k (omega arith)) (omega arith)
 
 -- a slice that SYS does not have: whether it is one of the unit's

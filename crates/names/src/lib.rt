@@ -40,7 +40,7 @@ pub fn packed(name: Name) -> u64
 pub fn same_name(a: Name, b: Name) -> bool
     ensures { result ≡ eqb (packed a) (packed b) }
 {
-    a == b
+    packed(a) == packed(b)
 }
 
 // Whether a name is 'SYS' or 'MAP'.

@@ -117,9 +117,9 @@ abbrev pub output_reply : Plain → File → State → ℕ → ℕ → ℕ → A
 output_reply p f state j u k =
     area_reply (output_state p f state j u (output_word p f k) k) (output_word p f k) (cond (eqb (output_word p f k) 0) 512 0) k
 
--- The same by what is known before the block is stored: the state after it, or the refusal.
-abbrev pub reply_of : State → ℕ → ℕ → ℕ → Result State Refusal → AreaReply
-reply_of state j u k (Ok next) = area_reply next 0 512 k
+-- The same by what is known before the block is stored: the reply, or the refusal.
+abbrev pub reply_of : State → ℕ → ℕ → ℕ → Result AreaReply Refusal → AreaReply
+reply_of state j u k (Ok reply) = reply
 reply_of state j u k (Err refusal) = area_reply (at_position state j u k) (refusal_word refusal) 0 k
 
 pub record Prepares (image : List ℕ) (state : State) (o : Unit) (j u k : ℕ) (r : AreaReply) (after : List ℕ) : Type 0 where

@@ -3,7 +3,7 @@
 
 #![tactic(auto)]
 
-ghost use Rattle.std.specs.Prelude.{◌≡◌, ◌+◌, ◌≤◌, ◌<◌, ltb, length};
+ghost use Rattle.std.specs.Prelude.{◌≡◌, ◌+◌, ◌≤◌, ◌<◌, ltb, length, IfOk};
 ghost use Rattle.types.specs.Words.{result_word};
 ghost use Rattle.disc.specs.Numbers.{need};
 ghost use Rattle.index.specs.Block.{slice_total};
@@ -14,7 +14,7 @@ ghost use Rattle.output.specs.Output.{RoomFor, CanExtend, ExtendedBy, SomePlaced
 use area_users::{AreaReply, UserEntry};
 use catalog::Unit;
 use index::IndexBlock;
-use types::{Block, Refusal, Sector, State};
+use types::{Block, Refusal, Sector};
 
 // The slices, one or none, that one block more needs beside those that the file's index block describes.
 fn more_slices(unit: Unit, block: IndexBlock, length: u16) -> u16
@@ -46,14 +46,16 @@ fn extend(image: &mut [u16], unit: Unit, block: IndexBlock, more: u16) -> Sector
 }
 
 // All of Output at position k but the words of its block: the questions, and at the live length the slice taken. Where none is
-// refused, the state after it, in which block k is the file's.
-fn prepare(image: &mut [u16], unit: Unit, at: UserEntry, k: Block) -> Result<State, Refusal>
+// refused, Output's reply, in whose state block k is the file's.
+fn prepare(image: &mut [u16], unit: Unit, at: UserEntry, k: Block) -> Result<AreaReply, Refusal>
     requires { SomePlaced image.old at.state unit at.area at.user k.0 }
-    ensures { Prepares image.old at.state unit at.area at.user k.0 (reply_of at.state at.area at.user k.0 result) image.new }
+    ensures prepared { Prepares image.old at.state unit at.area at.user k.0
+        (reply_of at.state at.area at.user k.0 result) image.new }
+    ensures done { IfOk result (λ reply. reply.answer.result ≡ 0) }
 {
     let area = at.area();
     if k.0 < area.length {
-        return Ok(at.at_position(Block(k.0 + 1)));
+        return Ok(at.transferred(k));
     }
     if !numbers::bit(15, blocks::attributes_of(image, unit, area.name)) {
         return Err(Refusal::AreaIllegal);
@@ -64,7 +66,7 @@ fn prepare(image: &mut [u16], unit: Unit, at: UserEntry, k: Block) -> Result<Sta
     let index = extend(image, unit, block, more);
     let moved = state::with_position(area, at.user, Block(k.0 + 1));
     let next = state::with_live(moved, index, area.length + 1);
-    Ok(state::with_area(at.state, at.area, next))
+    Ok(area_users::reply(state::with_area(at.state, at.area, next), 0, 512, k))
 }
 
 // Output at position k by a user of an area.
@@ -73,10 +75,10 @@ pub fn output(image: &mut [u16], unit: Unit, at: UserEntry, k: Block, lent: &[u1
     ensures { Outputs image.old at.state unit at.area at.user k.0 lent.now result image.new }
 {
     match prepare(image, unit, at, k) {
-        Ok(next) => {
-            let area = state::area_at(next, at.area);
+        Ok(reply) => {
+            let area = state::area_at(reply.state, at.area);
             blocks::replace(image, area.index, k, lent);
-            area_users::answered(next, Ok(()), 512, k)
+            reply
         }
         Err(refusal) => at.refused(refusal, k),
     }

@@ -1,6 +1,6 @@
 // The lines, read one by one.
 
-ghost use Rattle.std.specs.Prelude.{◌≤◌};
+ghost use Rattle.std.specs.Prelude.{◌≤◌, ◌<◌};
 
 use crate::step::Session;
 use std::io::{self, Write};
@@ -16,7 +16,9 @@ pub struct Line<'a> {
 }
 
 // A digit of base 16; 0 for another byte.
-fn digit(byte: u8) -> u16 {
+fn digit(byte: u8) -> u16
+    ensures { result < 16 }
+{
     match byte {
         b'0'..=b'9' => (byte - b'0') as u16,
         b'a'..=b'f' => (byte - b'a') as u16 + 10,

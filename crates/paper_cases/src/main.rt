@@ -26,10 +26,28 @@
 
 #![tactic(auto)]
 
+ghost use Rattle.std.specs.Prelude.{◌≤◌, length, IfOk};
+
 mod lines;
 mod step;
 
 use std::io::{self, Read, Write};
+
+// Reads until the buffer is full or the input ends, and answers how many bytes it has read. By hand: `io::copy` would try an interrupted
+// read again, where the program ends with that error.
+fn read_full<R: Read>(input: &mut R, buf: &mut [u8]) -> io::Result<usize>
+    ensures { IfOk result (λ n. n ≤ length buf.new) }
+{
+    let mut done = 0;
+    while done < buf.len() {
+        let n = input.read(&mut buf[done..])?;
+        if n == 0 {
+            break;
+        }
+        done += n;
+    }
+    Ok(done)
+}
 
 fn main(rt: HostRuntime) -> io::Result<()> {
     let mut session = step::Session {
@@ -38,8 +56,8 @@ fn main(rt: HostRuntime) -> io::Result<()> {
         state: types::fresh_state(0),
     };
     let mut text = [0u8; 65536];
-    let n = io::copy(&mut rt.reader().take(65536), &mut text.as_mut_slice())?;
+    let n = read_full(&mut rt.reader(), &mut text)?;
     let mut out = io::writer(&rt);
-    lines::run(&mut session, &text[..text.len().min(n as usize)], &mut out)?;
+    lines::run(&mut session, &text[..n], &mut out)?;
     out.flush()
 }

@@ -1,12 +1,14 @@
 // What a line does.
 
+ghost use Rattle.std.specs.Prelude.{◌≤◌, length};
+
 use crate::lines::Line;
 use catalog::Place;
 use std::io::{self, Write};
 use types::{Answer, Message, Name, Operation, Sector, State};
 
 // What the lines work on. The image has room for 30 sectors; a unit has its first 256 times N words.
-#[derive(Drop)]
+#[derive(Clone, Copy)]
 pub struct Session {
     pub image: [u16; 7680],
     pub lent: [u16; 256],
@@ -66,7 +68,9 @@ fn message_of(line: &Line<'_>) -> Message {
 }
 
 // Prepares the words that a call is lent.
-fn lend<'a>(lent: &'a mut [u16; 256], line: &Line<'_>) -> &'a mut [u16] {
+fn lend<'a>(lent: &'a mut [u16; 256], line: &Line<'_>) -> &'a mut [u16]
+    ensures { length result.now ≤ 256 }
+{
     match line.letter {
         b's' | b'm' => &mut lent[..16],
         b'n' => {
@@ -82,7 +86,9 @@ fn lend<'a>(lent: &'a mut [u16; 256], line: &Line<'_>) -> &'a mut [u16] {
 }
 
 // The words of the unit: 256 times the N that its kit has, and no word where that is above 30.
-fn unit_words(image: &mut [u16; 7680]) -> &mut [u16] {
+fn unit_words(image: &mut [u16; 7680]) -> &mut [u16]
+    ensures { length result.now ≤ 7680 }
+{
     match image[8 * 256 + 2] {
         sectors @ 0..=30 => &mut image[..256 * sectors as usize],
         _ => &mut [],

@@ -102,7 +102,7 @@ module _ {image block : List ℕ} {F s m n : ℕ} {held slices : List ℕ} (can 
   first_few : stretch_count (slices ++ (k.0 ∷ [])) ≤ 127
   first_few = rw none (omega arith)
 
-  first_inside : (1 ≤ k.0) × (k.0 ≤ 4096)
+  pub first_inside : (1 ≤ k.0) × (k.0 ≤ 4096)
   first_inside = let i = inside one first_fresh in (i.0, omega (arith, i.1, can.own.most))
 
   pub first_ready : Appendable F s k.0 block

@@ -49,6 +49,9 @@ module _ {image block : List ℕ} {F s m n : ℕ} {held slices more : List ℕ} 
     part = can.part;
   }
 
+  pub can-take_more : CanTake image block F s m n
+  can-take_more = record { held = held; slices = slices; can = can-take }
+
   module _ (fresh : Fresh m n held more) where
     -- the block of the longer file
     pub longer_file : {after longer : List ℕ} → length after ≡ length image → longer ≡ whole_index F s (slices ++ more) → FileBlock after longer F s m (slices ++ more)

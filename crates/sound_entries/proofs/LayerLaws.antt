@@ -108,7 +108,7 @@ module _ {image : List ℕ} {g : Geometry} (sys : SysOf image g) {full : Catalog
             let e : c ≡ length slices = eq_of_mul-eq-mul_right s pos c (length slices) (f ∙ sectors ∙ mul_comm s (length slices)) in
             let whole : size / H * H ≡ size = ap (λ (x : ℕ). x * H) (sym quotient) ∙ w in
             record {
-              read = read_by (rw (eq-eqb (size / H * H) size whole, eq-eqb (ceil_div size s) (length slices) (sym ceil ∙ e)) (ap (λ (x : ℕ). Some x) quotient));
+              read = read_by (rw (eq-eqb (size / H * H) size whole, eq-eqb (ceil_div size s) (length slices) (sym ceil ∙ e), ne_eqb (size / H) 0 (λ z. omega (arith, positive, quotient ∙ z))) (ap (λ (x : ℕ). Some x) quotient));
               fits = (positive, sym e ∙ ceil ∙ ap (λ (x : ℕ). ceil_div x s) (sym w ∙ mul_comm layers H));
               only = λ L p f names. ap (λ (x : ℕ). Some x) (layers_is L (size_is L names));
             }

@@ -27,9 +27,11 @@ pub record NamesLegal (P : ℕ → ℕ → ℕ) (H : ℕ) (sys : List ℕ) (coun
 pub record NamesAlone (P : ℕ → ℕ → ℕ) (count : ℕ) : Type 0 where
   pub alone : (t u : ℕ) → t < count → u < count → Used P t → Used P u → name_at P t ≡ name_at P u → t ≡ u
 
--- "SYS has length H times L and H times L / s slices, rounded up": L by the length, where SYS has `count` slices; none if there is no such L.
+-- "SYS has length H times L and H times L / s slices, rounded up": L by the length, where SYS has `count` slices; none if there is no such L, or
+-- if it is 0.
 abbrev pub layers_by : ℕ → ℕ → ℕ → ℕ → Option ℕ
-layers_by H s count size = cond (size / H * H == size && ceil_div size s == count) (Some (size / H)) None
+layers_by H s count size =
+    cond (size / H * H == size && ceil_div size s == count) (cond (size / H == 0) None (Some (size / H))) None
 
 -- SYS with all complete layers that fit its slices: "SYS has H times L sectors".
 abbrev pub full_sys : List ℕ → Geometry → Catalog

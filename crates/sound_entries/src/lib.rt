@@ -2,7 +2,7 @@
 
 #![tactic(auto)]
 
-ghost use Rattle.std.specs.Prelude.{◌≡◌, ◌+◌, ◌*◌, ◌/◌, ◌%◌, ◌<◌, ◌≤◌, min, length};
+ghost use Rattle.std.specs.Prelude.{◌≡◌, ◌+◌, ◌*◌, ◌/◌, ◌%◌, ◌<◌, ◌≤◌, min, length, take, drop};
 ghost use Rattle.disc.specs.Decide.{Decides};
 ghost use Rattle.disc.specs.Names.{key_of, packed};
 ghost use Rattle.disc.specs.Kit.{sys_index_sector};
@@ -37,6 +37,16 @@ pub fn sys_sectors(image: &[u16], g: Geometry, q: Sector) -> u16
     ensures { result ≡ g.slice * length (sys_slices image.now g) }
 {
     index::sector_total_at(image, q) as u16
+}
+
+// The sixteen words of place i of sector q.
+pub fn place_at(image: &[u16], q: Sector, i: usize) -> &[u16; 16]
+    requires { (q.0 * 256 + 256 ≤ length image.now) × (i < 16) }
+    ensures { result.now ≡ take 16 (drop (q.0 * 256 + i * 16) image.now) }
+{
+    // Sixteen words are an array of sixteen: `unwrap` is proved, and asks nothing at run time.
+    let at = q.0 as usize * 256 + i * 16;
+    image[at..at + 16].as_array().unwrap()
 }
 
 // Whether the sixteen words of a place are 0; the bits of all are gathered, with no exit on the way.

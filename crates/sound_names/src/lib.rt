@@ -78,9 +78,7 @@ impl Scan<'_> {
         ensures { let s = self.now in
             Scanned result (places_in s.image.now s.g) s.g.keys (own_entry s.expected) filter.new (16 * b.0 + i + 1) }
     {
-        // Sixteen words are an array of sixteen: `unwrap` is proved, and asks nothing at run time.
-        let at = q.0 as usize * 256 + i * 16;
-        let place = self.image[at..at + 16].as_array().unwrap();
+        let place = sound_entries::place_at(self.image, q, i);
         if !sound_entries::place_legal(place, key, self.expected, self.classes) {
             return false;
         }

@@ -1,5 +1,5 @@
--- The rules of the three user entries and of each two of them give the rules of an area's users.
-use mathlib.Core.Path.{◌≡◌, sym}
+-- The rules of the three user entries and of each two of them are the rules of an area's users.
+use mathlib.Core.Path.{◌≡◌, refl, sym}
 use mathlib.Core.Bool.{true}
 use mathlib.Core.Logic.{◌≢◌}
 use Prim.Native.Nat.{ℕ, zero, suc, ◌<◌}
@@ -26,15 +26,24 @@ second_not_exclusive ExclusiveUser y e q = true≢false (sym e)
 not_two_writers : (x y : Role) → roles_agree x y ≡ true → x ≡ ExclusiveWriter → y ≢ ExclusiveWriter
 not_two_writers x y e p q = true≢false (sym (rw (p, q) at e))
 
+roles_agree_lem : (x y : Role) → x ≢ ExclusiveUser → y ≢ ExclusiveUser → (x ≡ ExclusiveWriter → y ≢ ExclusiveWriter) → roles_agree x y ≡ true
+roles_agree_lem Sharing Sharing p q w = refl
+roles_agree_lem Sharing ExclusiveWriter p q w = refl
+roles_agree_lem Sharing ExclusiveUser p q w = absurd (q refl)
+roles_agree_lem ExclusiveWriter Sharing p q w = refl
+roles_agree_lem ExclusiveWriter ExclusiveWriter p q w = absurd (w refl refl)
+roles_agree_lem ExclusiveWriter ExclusiveUser p q w = absurd (q refl)
+roles_agree_lem ExclusiveUser y p q w = absurd (p refl)
+
 -- ---- the three entries, and the three pairs of them
 
-three_each : (P : ℕ → Type 0) → P 0 → P 1 → P 2 → (u : ℕ) → u < 3 → P u
+pub three_each : (P : ℕ → Type 0) → P 0 → P 1 → P 2 → (u : ℕ) → u < 3 → P u
 three_each P a b c zero h = a
 three_each P a b c (suc zero) h = b
 three_each P a b c (suc (suc zero)) h = c
 three_each P a b c (suc (suc (suc u))) h = absurd (omega arith)
 
-three_pairs : (P : ℕ → ℕ → Type 0) → P 0 1 → P 0 2 → P 1 2 → (u v : ℕ) → u < v → v < 3 → P u v
+pub three_pairs : (P : ℕ → ℕ → Type 0) → P 0 1 → P 0 2 → P 1 2 → (u v : ℕ) → u < v → v < 3 → P u v
 three_pairs P a b c u v h k = three_each (λ w. (x : ℕ) → x < w → P x w)
     (λ x l. absurd (omega arith))
     (λ x l. let e : x ≡ 0 = omega arith in rw e a)
@@ -60,7 +69,7 @@ module _ (a : Area) where
     one_writer : (u v : ℕ) → u < 3 → v < 3 → IsTaken a u → IsTaken a v → (user_at a u).role ≡ ExclusiveWriter → (user_at a v).role ≡ ExclusiveWriter → u ≡ v
     one_writer u v hu hv t s e f = apart u v (λ h. not_two_writers (role u) (role v) ((pairs u v h hv).roles t s) e f) (λ h. not_two_writers (role v) (role u) ((pairs v u h hu).roles s t) f e)
 
-    all_legal : LegalUsers a
+    pub all_legal : LegalUsers a
     all_legal = record {
       distinct = distinct;
       opens_low = λ u h. (each u h).opens_low;
@@ -75,3 +84,18 @@ module _ (a : Area) where
       → LegalPair (user_at a 0) (user_at a 1) → LegalPair (user_at a 0) (user_at a 2) → LegalPair (user_at a 1) (user_at a 2) → LegalUsers a
   three_legal k l m p q r =
       all_legal (three_each (λ u. LegalUser a.length (user_at a u)) k l m) (three_pairs (λ u v. LegalPair (user_at a u) (user_at a v)) p q r)
+
+  module _ (l : LegalUsers a) where
+    pub one_legal : (u : ℕ) → u < 3 → LegalUser a.length (user_at a u)
+    one_legal u h = record { opens_low = l.opens_low u h; opens_high = l.opens_high u h; inside = l.inside u h }
+
+    pub two_legal : (u v : ℕ) → u < v → v < 3 → LegalPair (user_at a u) (user_at a v)
+    two_legal u v h hv = record {
+      distinct = λ t s e. omega (arith, l.distinct u v (omega arith) hv t e);
+      roles = λ t s. roles_agree_lem
+          (role u)
+          (role v)
+          (λ e. omega (arith, l.alone u v (omega arith) hv t s e))
+          (λ e. omega (arith, l.alone v u hv (omega arith) s t e))
+          (λ e f. omega (arith, l.one_writer u v (omega arith) hv t s e f));
+    }

@@ -5,11 +5,12 @@ use mathlib.Core.List.{List, [], ◌∷◌, ◌++◌}
 use Prim.Native.Nat.{ℕ, zero, suc, ◌+◌, ◌-◌, ◌*◌, ◌≤◌, ◌<◌}
 use native.Mathlib.Nat.{add-zero}
 use native.Mathlib.Omega.{arith}
+use native.Mathlib.Numerals.{add-one}
 use lib.ListN.{length, get_or, set, take, drop, length-set, length-replicate, length-drop, get_or-eq_default}
 use mathlib.Core.List.{append_assoc}
 use borrow.Rule.Slice.PartMut.{put_mid}
 use Rattle.std.proofs.lemmas.List.{drop-drop}
-use lib.Seq.{sets, length-sets, sets-eq, set_comm, get_or-set_same, get_or-set_other, get_or-take, get_or-drop, ext_get_or, length-take-le, set-get_or}
+use lib.Seq.{sets, length-sets, sets-eq, set_comm, get_or-set_same, get_or-set_other, get_or-take, get_or-drop, ext_get_or, length-take-le, set-get_or, take-suc}
 use Rattle.disc.specs.Words.{word, Words, Holds}
 use Rattle.disc.proofs.Compare.{below_or}
 use Rattle.disc.proofs.WordLaws.{words-set, words_head, words_tail, words_take, words-drop, words_replicate}
@@ -36,6 +37,14 @@ store_append l i [] vs = rw add-zero
 store_append l i (u ∷ us) vs =
     let e : suc i + length us ≡ i + length (u ∷ us) = omega arith in
     store_append (set l i u) (suc i) us vs ∙ ap (λ (k : ℕ). sets (sets (set l i u) (suc i) us) k vs) e
+
+-- one more word at the end of a run
+pub store_snoc : (l : List ℕ) (i : ℕ) (vs : List ℕ) (v : ℕ) → store l i (vs ++ (v ∷ [])) ≡ set (store l i vs) (i + length vs) v
+store_snoc l i vs v = store_append l i vs (v ∷ []) ∙ store_one (store l i vs) (i + length vs) v
+
+-- one turn of a loop that stores word after word: j words are stored, and the next is
+pub store_more : (l : List ℕ) (i j v : ℕ) (us vs m : List ℕ) → length us ≡ j → us ++ (v ∷ []) ≡ vs → m ≡ store l i us → set m (i + j) v ≡ store l i vs
+store_more l i j v us vs m n e f = rw (← e, ← n, f) (sym (store_snoc l i us v))
 
 -- what is left after a write to the part from i up to e
 pub store_part : (l vs : List ℕ) (i e : ℕ) → i + length vs ≡ e → e ≤ length l → put_mid i (e - i) l vs ≡ store l i vs
@@ -201,3 +210,9 @@ sector_words_holds image q v inside e k =
     let n : length (sector_words image q) ≡ 256 = length-sector_words image q inside in
     ext_get_or 0 (sector_words image q) v (n ∙ sym e)
     (λ b h. get_d_sector_words image q b (omega arith) ∙ k.at b (omega arith) (omega arith))
+
+-- one more word of a part
+pub part_snoc : (l : List ℕ) (i j : ℕ) → i + j < length l → take j (drop i l) ++ (get_or l (i + j) 0 ∷ []) ≡ take (j + 1) (drop i l)
+part_snoc l i j h =
+    let n : j < length (drop i l) = rw length-drop (omega arith) in
+    rw (add-one, take-suc (drop i l) j 0 n, get_or-drop)

@@ -48,7 +48,10 @@ pub fn copy_words(src: &[u16], from: usize, dst: &mut [u16], at: usize, count: u
     requires { (from + count ≤ length src.now) × (at + count ≤ length dst.old) }
     ensures { dst.new ≡ store dst.old at (take count (drop from src.now)) }
 {
-    dst[at..at + count].copy_from_slice(&src[from..from + count]);
+    // Word by word: `copy_from_slice` calls `memmove`, and the library needs `memcpy` and `memset` only.
+    for i in 0..count {
+        dst[at + i] = src[from + i];
+    }
 }
 
 // Hands out `count` words of sector q, from word `from` on, as the first lent words.

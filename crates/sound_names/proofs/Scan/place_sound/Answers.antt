@@ -1,6 +1,5 @@
 -- `sound_names::Scan::place_sound` meets its contract. Assumes nothing.
-use Rattle.std.proofs.Common.{◌≡◌, ℕ, ◌+◌, ◌*◌, ◌/◌, ◌%◌, ◌<◌, ◌≤◌, ◌-◌, ◌≢◌, Bool, List, Option, Some, Bor, MatchOption, length, take, drop, sym, ap, ◌∙◌, arith}
-use Rattle.std.specs.Array.{IsWholeChunk}
+use Rattle.std.proofs.Common.{◌≡◌, ℕ, ◌+◌, ◌*◌, ◌/◌, ◌%◌, ◌<◌, ◌≤◌, Bool, List, length, take, drop, sym, ap, ◌∙◌, arith}
 use borrow.Author.Tests.{eqb-false, not-true}
 use Rattle.types.specs.declared.Name.{Name}
 use Rattle.disc.specs.Decide.{Decides}
@@ -36,16 +35,8 @@ module _ {image : List ℕ} {g : Geometry} {e : Expected} {q : ℕ} (b i : ℕ) 
     name_of : {name : Name} → NameIn (place_of words) 0 name → NameIn (places_in image g) t name
     name_of n = name_at_same (in_part image g.first.0 g.slice (sys_slices image g) b i q place at part) n
 
--- the sixteen words that the code takes as an array
-words_of : (at : ℕ) (image : List ℕ) (n : ℕ) {r : Option (Bor (List ℕ))} {p : Bor (List ℕ)}
-    → MatchOption r (length (take (at + 16 - at) (drop at image)) ≢ n) (λ y. IsWholeChunk (take (at + 16 - at) (drop at image)) y.now n) → r ≡ Some p
-    → p.now ≡ take 16 (drop at image)
-words_of at image n cases e =
-    let whole : at + 16 - at ≡ 16 = omega arith in
-    (rw e at cases).same ∙ ap (λ (k : ℕ). take k (drop at image)) whole
-
-pub slice_bounds-as_array-end : goal.slice_bounds-as_array-end
-slice_bounds-as_array-end c =
+pub place_at-place-requires : goal.place_at-place-requires
+place_at-place-requires c =
     let pre = c.requires in
     let room = inside c.args.b.0 c.args.i c.args.self.now.judging pre.0 pre.1 pre.3 in
     omega (arith, room)
@@ -54,16 +45,14 @@ pub returns-then-not-place_legal : goal.returns-then-not-place_legal
 returns-then-not-place_legal c =
     let pre = c.requires in
     let a = c.args in
-    let part = words_of (a.q.0 * 256 + a.i * 16) a.self.now.image.now 16 c.as_array.ensures.cases c.unwrap-place.ensures in
-    not_legal (judged a.b.0 a.i a.self.now.judging pre.0 pre.1 pre.3 _ part pre.2 c.place_legal.ensures) c.if-not-place_legal.true
+    not_legal (judged a.b.0 a.i a.self.now.judging pre.0 pre.1 pre.3 _ c.place_at-place.ensures pre.2 c.place_legal.ensures) c.if-not-place_legal.true
 
 pub is_first-requires : goal.is_first-requires
 is_first-requires c =
     let pre = c.requires in
     let a = c.args in
-    let part = words_of (a.q.0 * 256 + a.i * 16) a.self.now.image.now 16 c.as_array.ensures.cases c.unwrap-place.ensures in
-    let legal = (judged a.b.0 a.i a.self.now.judging pre.0 pre.1 pre.3 _ part pre.2 c.place_legal.ensures).yes c.if-not-place_legal.false in
-    let name = name_of a.b.0 a.i a.self.now.judging pre.0 pre.1 pre.3 _ part c.place_name-name.ensures in
+    let legal = (judged a.b.0 a.i a.self.now.judging pre.0 pre.1 pre.3 _ c.place_at-place.ensures pre.2 c.place_legal.ensures).yes c.if-not-place_legal.false in
+    let name = name_of a.b.0 a.i a.self.now.judging pre.0 pre.1 pre.3 _ c.place_at-place.ensures c.place_name-name.ensures in
     let block : (16 * a.b.0 + a.i) / 16 ≡ a.b.0 = omega (arith, pre.3) in
     record {
       sector = pre.1;
@@ -80,9 +69,8 @@ pub returns-then-not-note : goal.returns-then-not-note
 returns-then-not-note c =
     let pre = c.requires in
     let a = c.args in
-    let part = words_of (a.q.0 * 256 + a.i * 16) a.self.now.image.now 16 c.as_array.ensures.cases c.unwrap-place.ensures in
-    let legal = (judged a.b.0 a.i a.self.now.judging pre.0 pre.1 pre.3 _ part pre.2 c.place_legal.ensures).yes c.if-not-place_legal.false in
-    let name = name_of a.b.0 a.i a.self.now.judging pre.0 pre.1 pre.3 _ part c.place_name-name.ensures in
+    let legal = (judged a.b.0 a.i a.self.now.judging pre.0 pre.1 pre.3 _ c.place_at-place.ensures pre.2 c.place_legal.ensures).yes c.if-not-place_legal.false in
+    let name = name_of a.b.0 a.i a.self.now.judging pre.0 pre.1 pre.3 _ c.place_at-place.ensures c.place_name-name.ensures in
     rw c.if-not-note.true (elim c.if-name-eq0.branch [
       | then-name-eq0 w ↦ rw w.filter-is (scanned (passed_unused pre.4 legal (zero_unused name legal w.if-name-eq0.true)))
       | else-name-eq0 w ↦ rw w.filter-is (scanned (passed_new pre.4 legal (sym (name_packed name)) (not_noted (not-true _ (sym w.value-is ∙ c.if-not-note.true)) w.note.ensures)))
@@ -92,9 +80,8 @@ pub returns-else-not-note : goal.returns-else-not-note
 returns-else-not-note c =
     let pre = c.requires in
     let a = c.args in
-    let part = words_of (a.q.0 * 256 + a.i * 16) a.self.now.image.now 16 c.as_array.ensures.cases c.unwrap-place.ensures in
-    let legal = (judged a.b.0 a.i a.self.now.judging pre.0 pre.1 pre.3 _ part pre.2 c.place_legal.ensures).yes c.if-not-place_legal.false in
-    let name = name_of a.b.0 a.i a.self.now.judging pre.0 pre.1 pre.3 _ part c.place_name-name.ensures in
+    let legal = (judged a.b.0 a.i a.self.now.judging pre.0 pre.1 pre.3 _ c.place_at-place.ensures pre.2 c.place_legal.ensures).yes c.if-not-place_legal.false in
+    let name = name_of a.b.0 a.i a.self.now.judging pre.0 pre.1 pre.3 _ c.place_at-place.ensures c.place_name-name.ensures in
     let e = sym (name_packed name) in
     elim c.if-name-eq0.branch [
       | then-name-eq0 w ↦ absurd (eqb-false _ _ (sym w.value-is ∙ c.if-not-note.false) w.if-name-eq0.true)
