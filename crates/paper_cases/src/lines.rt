@@ -26,24 +26,24 @@ fn digit(byte: u8) -> u16
     }
 }
 
-// The number that digits say, carry out of 16 bits dropped; a blank is no digit.
-// By hand: std's `from_str_radix` refuses what these lines may have, an empty text, other bytes, and a number above FFFFh.
-fn number(text: &[u8]) -> u16 {
-    text.iter()
-        .filter(|byte| **byte != b' ')
-        .fold(0u16, |word, byte| {
-            word.wrapping_mul(16).wrapping_add(digit(*byte))
-        })
-}
-
-// The numbers of a text, each behind a blank, and 0 behind them; what follows the 16th blank is one number.
-fn numbers_of(text: &[u8]) -> [u16; 16] {
+// The numbers of a text, each behind a blank, and 0 behind them, carry out of 16 bits dropped; what follows the 16th blank is one number, in
+// which a blank is no digit. How many they are.
+// By hand: std's `from_str_radix` refuses what these lines may have, an empty text, other bytes, and a number above FFFFh; and a pass for each of
+// `split`, `filter` and `count` takes up to 1.5 times the time.
+fn numbers_of(text: &[u8]) -> ([u16; 16], usize)
+    ensures { result.1 ≤ 16 }
+{
     let mut numbers = [0u16; 16];
-    let digits = text.splitn(17, |byte| *byte == b' ').skip(1);
-    for (word, digits) in numbers.iter_mut().zip(digits) {
-        *word = number(digits);
+    let mut count: usize = 0;
+    for byte in text {
+        if *byte == b' ' {
+            count = (count + 1).min(16);
+        } else if count > 0 {
+            let word = &mut numbers[count - 1];
+            *word = word.wrapping_mul(16).wrapping_add(digit(*byte));
+        }
     }
-    numbers
+    (numbers, count)
 }
 
 impl<'a> Line<'a> {
@@ -56,12 +56,12 @@ impl<'a> Line<'a> {
         let (label, [_, letter, digits @ ..]) = text.split_at(colon + 1) else {
             return None;
         };
-        let blanks = digits.iter().filter(|byte| **byte == b' ').count();
+        let (numbers, count) = numbers_of(digits);
         Some(Line {
             label,
             letter: *letter,
-            numbers: numbers_of(digits),
-            count: blanks.min(16),
+            numbers,
+            count,
         })
     }
 
